@@ -1,0 +1,4 @@
+//! The parser: from tokens to typed trees, or the first fault.
+#![tactic(auto)]
+
+pub mod syntax;
