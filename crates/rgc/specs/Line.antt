@@ -1,0 +1,35 @@
+-- What a command line says, by the matches of its subcommand.
+use Rattle.std.specs.Prelude.{◌≡◌, Option, Some, List, [], codes, option_map}
+use Rattle.std.specs.Borrow.{Bor}
+use Rattle.clap.specs.Words.{Row, Text, first_of, HasKind, fault_of}
+use Rattle.rgc.specs.App.{rgc_app}
+use Rattle.rgc.specs.declared.line.LineFault.{LineFault}
+use Rattle.rgc.specs.declared.line.LineFault.TheVariants.{Usage, Fields}
+use Rattle.rgc.specs.declared.command.Command.{Command}
+use Rattle.rgc.specs.declared.command.Command.TheVariants.{Valid, Clauses}
+
+-- the file of this id is the one that the words name
+abbrev pub HasFile : List Row → Text → Bor Text → Type 0
+HasFile rows id file = first_of id rows ≡ Some file.now
+
+abbrev pub HasOption : List Row → Text → Option (Bor Text) → Type 0
+HasOption rows id file = first_of id rows ≡ option_map (λ (s : Bor Text). s.now) file
+
+abbrev pub name_of : Command → Text
+name_of (Valid text proofs) = codes "valid"
+name_of (Clauses text) = codes "clauses"
+
+-- the files of a command are those that the words name
+abbrev pub HasFields : List Row → Command → Type 0
+HasFields rows (Valid text proofs) = HasFile rows (codes "TEXT") text × HasFile rows (codes "PROOFS") proofs
+HasFields rows (Clauses text) = HasFile rows (codes "TEXT") text
+
+-- the subcommand and its matches are those of this command
+abbrev pub Names : Option (Text × List Row) → Command → Type 0
+Names subcommand command =
+    (rows : List Row) × (subcommand ≡ Some (name_of command, rows)) × HasFields rows command
+
+-- why the words name no command: memory, or a fault that `clap` finds in them
+abbrev pub IsLineFault : List Text → LineFault → Type 0
+IsLineFault words (Usage error) = HasKind (fault_of rgc_app words) error
+IsLineFault words (Fields fault) = fault_of rgc_app words ≡ []
