@@ -4,7 +4,6 @@ use Rattle.rg_words.specs.declared.refusal.Refusal.{Refusal}
 use Rattle.rg_words.specs.declared.refusal.RefusalNumber.{RefusalNumber}
 use Rattle.rg_words.specs.declared.refusal.RefusalNumber.TheVariants.{Memory}
 use Rattle.rg_words.specs.declared.refusal.SourceFile.{SourceFile}
-use Rattle.rg_words.specs.declared.refusal.Place.{Place}
 use Rattle.rg_words.specs.declared.refusal.Place.TheVariants.{Line}
 
 -- want of memory, which has no file and no place
