@@ -1,0 +1,5 @@
+pub mod Guards
+pub mod Joins
+pub mod Joined
+pub mod Follows
+pub mod Beginnings
