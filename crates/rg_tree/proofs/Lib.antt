@@ -3,3 +3,5 @@ pub mod Joins
 pub mod Joined
 pub mod Follows
 pub mod Beginnings
+pub mod Numbers
+pub mod Typing
