@@ -5,3 +5,4 @@ pub mod Follows
 pub mod Beginnings
 pub mod Numbers
 pub mod Typing
+pub mod Widths

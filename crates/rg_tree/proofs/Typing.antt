@@ -7,7 +7,8 @@ use Rattle.rg_tree.specs.Trees.{Assignment}
 use Rattle.rg_tree.specs.Meaning.{value_of}
 use Rattle.rg_tree.specs.Claims.{assigned, AssignmentsTyped}
 use Rattle.rg_tree.specs.TypedPrograms.{TargetsFree}
-use Rattle.rg_tree.specs.Typing.{HasWidth}
+use Rattle.rg_tree.specs.Laws.{StepsArePairs}
+use Rattle.rg_tree.proofs.Widths.{values_within}
 
 -- the new value of a word of these widths
 set_values : (ws : List ℕ) (s : List ℕ) (k x : ℕ) → AreValues ws s → k < length ws → x < 2 ^ slice_index ws k → AreValues ws (slice_set s k x)
@@ -50,12 +51,14 @@ agree_trans (w ∷ ws) (x ∷ xs) t [] st a b = tt
 agree_trans (w ∷ ws) (x ∷ xs) [] (z ∷ zs) st a b = absurd st
 agree_trans (w ∷ ws) (x ∷ xs) (y ∷ ys) (z ∷ zs) st a b = (same_trans w.fixed x y z a.0 b.0, agree_trans ws xs ys zs st.1 a.1 b.1)
 
--- below : the law that a value of a width lies below 2 to its power
-module _ (below : (ws : List ℕ) (e : _) (w : ℕ) (s : List ℕ) → HasWidth ws e w → AreValues ws s → value_of e s s < 2 ^ w) where
-  pub assigned_pair : (words : List Word) (act : List Assignment) (s : List ℕ) → AssignmentsTyped (widths_of words) act → TargetsFree words act → IsState words s → IsPair words s (assigned act s)
-  assigned_pair words [] s typed free st = record { first = st; second = st; fixed = agree_self words s }
-  assigned_pair words (a ∷ act) s typed free st =
-      let x = value_of a.value s s in
-      let st' = set_values (widths_of words) s a.target x st typed.0 (below (widths_of words) a.value (slice_index (widths_of words) a.target) s typed.1 st) in
-      let rest = assigned_pair words act (slice_set s a.target x) typed.2 free.1 st' in
-      record { first = st; second = rest.second; fixed = agree_trans words s (slice_set s a.target x) (assigned act (slice_set s a.target x)) st' (agree_set words s a.target x free.0) rest.fixed }
+assigned_pair : (words : List Word) (act : List Assignment) (s : List ℕ) → AssignmentsTyped (widths_of words) act → TargetsFree words act → IsState words s → IsPair words s (assigned act s)
+assigned_pair words [] s typed free st = record { first = st; second = st; fixed = agree_self words s }
+assigned_pair words (a ∷ act) s typed free st =
+    let x = value_of a.value s s in
+    let within = values_within (widths_of words) s s a.value (slice_index (widths_of words) a.target) typed.1 st st in
+    let st' = set_values (widths_of words) s a.target x st typed.0 within in
+    let rest = assigned_pair words act (slice_set s a.target x) typed.2 free.1 st' in
+    record { first = st; second = rest.second; fixed = agree_trans words s (slice_set s a.target x) (assigned act (slice_set s a.target x)) st' (agree_set words s a.target x free.0) rest.fixed }
+
+pub steps_are_pairs : StepsArePairs
+steps_are_pairs words act s typed st = assigned_pair words act s typed.0 typed.1 st

@@ -1,4 +1,5 @@
 pub mod Layout
+pub mod Names
 pub mod Refusals
 pub mod States
 pub mod Written

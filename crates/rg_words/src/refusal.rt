@@ -107,6 +107,32 @@ pub struct Refusal {
     pub place: Option<Place>,
 }
 
+impl Refusal {
+    ghost use Rattle.rg_words.specs.Refusals.{refused, refused_in};
+
+    /// A refusal that has neither a file nor a place.
+    pub fn new(number: RefusalNumber) -> Refusal
+        ensures { result ≡ refused number }
+    {
+        Refusal {
+            number,
+            file: None,
+            place: None,
+        }
+    }
+
+    /// A refusal at a place of a file.
+    pub fn at(number: RefusalNumber, file: SourceFile, place: Place) -> Refusal
+        ensures { result ≡ refused_in number file place }
+    {
+        Refusal {
+            number,
+            file: Some(file),
+            place: Some(place),
+        }
+    }
+}
+
 impl From<AllocError> for Refusal {
     ghost use Rattle.std.specs.Prelude.{◌≡◌};
     ghost use Rattle.rg_words.specs.Refusals.{no_memory};
