@@ -4,5 +4,5 @@ pub mod Joined
 pub mod Follows
 pub mod Beginnings
 pub mod Numbers
-pub mod Typing
+pub mod Steps
 pub mod Widths

@@ -89,11 +89,7 @@ AllTyped-prop : (widths : List ℕ) (fs : List Proposition) → IsProp (AllTyped
 AllTyped-prop widths [] = Unit-prop
 AllTyped-prop widths (f ∷ fs) = ×_prop (IsTyped-prop widths f) (AllTyped-prop widths fs)
 
-<<<<<<< HEAD
 pub AssignmentsTyped-prop : (widths : List ℕ) (as_ : List Assignment) → IsProp (AssignmentsTyped widths as_)
-=======
-AssignmentsTyped-prop : (widths : List ℕ) (as_ : List Assignment) → IsProp (AssignmentsTyped widths as_)
->>>>>>> 950ffbb61aaf94032444bb72b475b2ea7256b11a
 AssignmentsTyped-prop widths [] = Unit-prop
 AssignmentsTyped-prop widths (a ∷ as_) = hlevel (le_prop, HasWidth-prop widths a.value (slice_index widths a.target), AssignmentsTyped-prop widths as_)
 

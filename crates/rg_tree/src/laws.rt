@@ -25,7 +25,7 @@ pub fn following_decides()
 {}
 
 /// The step of typed assignments leads from a state to a state and keeps the fixed words.
-#[tactic(auto, using(crate::proofs::Typing::steps_are_pairs))]
+#[tactic(auto, using(crate::proofs::Steps::steps_are_pairs))]
 pub fn steps_are_pairs()
     ensures { StepsArePairs }
 {}
