@@ -1,8 +1,1 @@
-pub mod Guards
-pub mod Joins
-pub mod Joined
-pub mod Follows
-pub mod Beginnings
-pub mod Numbers
-pub mod Steps
 pub mod Widths

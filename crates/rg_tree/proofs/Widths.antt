@@ -7,7 +7,7 @@ use Rattle.rg_words.specs.declared.operators.Operator.{Operator}
 use Rattle.rg_words.specs.declared.operators.Operator.TheVariants.{Add, Subtract, BitAnd, BitOr, BitXor}
 use Rattle.rg_words.specs.declared.operators.Shift.{Shift}
 use Rattle.rg_words.specs.declared.operators.Shift.TheVariants.{Left, Right}
-use Rattle.rg_words.specs.Layout.{Word, widths_of, WithinLimits}
+use Rattle.rg_words.specs.Layout.{Word, widths_of, IsLayout}
 use Rattle.rg_words.specs.States.{AreValues}
 use Rattle.rg_tree.specs.Trees.{Expression, Proposition, Assignment, number, word, next_word, inverse, binary, shifted, choice, truth, negation, connected, compared}
 use Rattle.rg_tree.specs.Meaning.{operated, moved, value_of, holds}
@@ -63,7 +63,7 @@ values_within widths s t (choice f a b) w h first second =
 abbrev AreWithin : List ℕ → Type 0
 AreWithin widths = (k : ℕ) → k < length widths → get_or widths k 0 ≤ 64
 
-are_within : (words : List Word) → WithinLimits words → AreWithin (widths_of words)
+are_within : (words : List Word) → IsLayout words → AreWithin (widths_of words)
 are_within words h k lt =
     let none : Word = record { name = []; width = 0; fixed = false } in
     let below : k < length words = omega (arith, length-map words (λ w. w.width)) in
@@ -111,16 +111,16 @@ typed_formulas_fit words limits f h =
     let P : ℕ → Type 0 = λ n. FormulaFits f n in
     subst P (words_counted words) (formula_fits (widths_of words) (are_within words limits) f h)
 
-all_fit : (words : List Word) → WithinLimits words → (fs : List Proposition) → AllTyped (widths_of words) fs → AllFit fs (length words)
+all_fit : (words : List Word) → IsLayout words → (fs : List Proposition) → AllTyped (widths_of words) fs → AllFit fs (length words)
 all_fit words limits [] h = tt
 all_fit words limits (f ∷ fs) h = (typed_formulas_fit words limits f h.0, all_fit words limits fs h.1)
 
-assignments_fit : (words : List Word) → WithinLimits words → (as_ : List Assignment) → AssignmentsTyped (widths_of words) as_ → AssignmentsFit as_ (length words)
+assignments_fit : (words : List Word) → IsLayout words → (as_ : List Assignment) → AssignmentsTyped (widths_of words) as_ → AssignmentsFit as_ (length words)
 assignments_fit words limits [] h = tt
 assignments_fit words limits (a ∷ as_) h =
     (omega (arith, words_counted words, h.0), typed_expressions_fit words limits a.value _ h.1, assignments_fit words limits as_ h.2)
 
-second_fits : (words : List Word) → WithinLimits words → (second : SecondState) → SecondTyped (widths_of words) second → SecondFits second (length words)
+second_fits : (words : List Word) → IsLayout words → (second : SecondState) → SecondTyped (widths_of words) second → SecondFits second (length words)
 second_fits words limits same h = tt
 second_fits words limits free h = tt
 second_fits words limits (after as_) h = assignments_fit words limits as_ h

@@ -1,6 +1,6 @@
 -- What typing gives: values below 2 to the power of the width, and trees that fit.
 use Rattle.std.specs.Prelude.{ℕ, ◌<◌, ◌^◌, List, length}
-use Rattle.rg_words.specs.Layout.{Word, widths_of, WithinLimits}
+use Rattle.rg_words.specs.Layout.{Word, widths_of, IsLayout}
 use Rattle.rg_words.specs.States.{AreValues}
 use Rattle.rg_tree.specs.Trees.{Expression, Proposition}
 use Rattle.rg_tree.specs.Meaning.{value_of}
@@ -14,10 +14,10 @@ ValuesStayWithinWidth = (widths s t : List ℕ) (e : Expression) (w : ℕ) → H
 
 -- over words within the limits, typed trees fit
 abbrev pub TypedExpressionsFit : Type 0
-TypedExpressionsFit = (words : List Word) → WithinLimits words → (e : Expression) (w : ℕ) → HasWidth (widths_of words) e w → ExpressionFits e (length words)
+TypedExpressionsFit = (words : List Word) → IsLayout words → (e : Expression) (w : ℕ) → HasWidth (widths_of words) e w → ExpressionFits e (length words)
 
 abbrev pub TypedFormulasFit : Type 0
-TypedFormulasFit = (words : List Word) → WithinLimits words → (f : Proposition) → IsTyped (widths_of words) f → FormulaFits f (length words)
+TypedFormulasFit = (words : List Word) → IsLayout words → (f : Proposition) → IsTyped (widths_of words) f → FormulaFits f (length words)
 
 abbrev pub TypedClaimsFit : Type 0
-TypedClaimsFit = (c : Claim) → WithinLimits c.words → ClaimTyped c → ClaimFits c
+TypedClaimsFit = (c : Claim) → IsLayout c.words → ClaimTyped c → ClaimFits c
