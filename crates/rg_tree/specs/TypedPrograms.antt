@@ -1,7 +1,7 @@
 -- Programs that fit their words: every formula and every assignment is of one width, no fixed word is assigned, a prime stands
 -- only where two states are spoken of, and the limits are kept.
-use Rattle.std.specs.Prelude.{◌≡◌, ℕ, ◌≤◌, Bool, false, List, [], ◌∷◌, length, map, get_or}
-use Rattle.rg_words.specs.Layout.{Word, widths_of}
+use Rattle.std.specs.Prelude.{◌≡◌, ℕ, ◌≤◌, Bool, false, List, [], ◌∷◌, length, get_or}
+use Rattle.rg_words.specs.Layout.{Word, widths_of, fixed_of}
 use Rattle.rg_words.specs.declared.limits.TheConstants.{MOST_PARTS, MOST_STATEMENTS, MOST_ASSIGNMENTS}
 use Rattle.rg_tree.specs.Trees.{Proposition, Assignment}
 use Rattle.rg_tree.specs.Typing.{IsTyped}
@@ -21,7 +21,7 @@ IsTypedPredicate words f = IsTyped (widths_of words) f × (speaks_of_two f ≡ f
 -- no target is a fixed word
 abbrev pub TargetsFree : List Word → List Assignment → Type 0
 TargetsFree words [] = Unit {0}
-TargetsFree words (a ∷ act) = (get_or (map (λ w. w.fixed) words) a.target false ≡ false) × TargetsFree words act
+TargetsFree words (a ∷ act) = (get_or (fixed_of words) a.target false ≡ false) × TargetsFree words act
 
 -- no primed word stands in a value
 abbrev pub ValuesPlain : List Assignment → Type 0

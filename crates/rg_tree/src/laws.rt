@@ -12,7 +12,6 @@ pub fn runs_are_joins()
 {}
 
 /// Each beginning of a run is a run, and a trace has at most one flag that says whether it has ended.
-#[tactic(auto, using(crate::proofs::Beginnings::beginning, crate::proofs::Beginnings::one_flag))]
 pub fn runs_begin()
     ensures runs { BeginningsRun }
     ensures flags { OneFlag }
@@ -25,7 +24,6 @@ pub fn following_decides()
 {}
 
 /// The step of typed assignments leads from a state to a state and keeps the fixed words.
-#[tactic(auto, using(crate::proofs::Steps::steps_are_pairs))]
 pub fn steps_are_pairs()
     ensures { StepsArePairs }
 {}
