@@ -6,3 +6,4 @@ pub mod Follows
 pub mod Beginnings
 pub mod Numbers
 pub mod Steps
+pub mod Obligations
