@@ -1,7 +1,6 @@
 -- A true condition says of states what its rule asks.
-use Rattle.std.proofs.Common.{◌≡◌, ℕ, ◌<◌, Bool, true, false, not, ◌&&◌, ◌||◌, List, [], ◌∷◌, length, map, ◌⊎◌, inl, inr, refl, sym, subst, ap, ap₂, ◌∙◌, nat_eq, cond, arith}
+use Rattle.std.proofs.Common.{◌≡◌, ℕ, ◌<◌, Bool, true, false, not, ◌&&◌, ◌||◌, List, [], ◌∷◌, ◌++◌, ⊎_elim, ◌⊎◌, inl, inr, refl, sym, subst, ap, ap₂, ◌∙◌, nat_eq, cond, arith}
 use Rattle.std.proofs.lemmas.Bool.Decides.{nat_tests}
-use Rattle.std.specs.Prelude.{slice_index}
 use Rattle.rg_words.specs.Layout.{Word, widths_of}
 use Rattle.rg_words.specs.States.{AreValues, IsState, IsPair}
 use Rattle.rg_tree.specs.Trees.{Expression, Proposition, Assignment, number, word, next_word, inverse, binary, shifted, choice, truth, negation, connected, compared}
@@ -9,7 +8,7 @@ use Rattle.rg_tree.specs.Meaning.{value_of, holds, operated, moved, is_so, joine
 use Rattle.rg_tree.specs.Primes.{has_next_word, speaks_of_two}
 use Rattle.rg_tree.specs.Claims.{all_hold, are_same, ConditionHolds, assigned}
 use Rattle.rg_tree.specs.Traces.{State, holds_at, Inside}
-use Rattle.rg_tree.specs.Obligations.{Obligation, reaches, makes, keeps, allows, obligation_claim, AllHold, IsMet, IsPlainObligation}
+use Rattle.rg_tree.specs.Obligations.{Obligation, reaches, makes, keeps, allows, obligation_claim, AllHold, IsMet, AllMet, IsInside, IsPlainObligation}
 use Rattle.rg_tree.proofs.Steps.{agree_self}
 
 or_left : (a b : Bool) → (a || b) ≡ false → a ≡ false
@@ -98,3 +97,15 @@ met words (keeps p R) plain h = λ s t pair at r.
 met words (allows R S) plain h = λ s t pair r.
     inside_of (holds S) (widths_of words) s t pair.first pair.second
     (goal_of (true && holds R s t) (holds S s t || are_same t s true) (h s t pair) (rw r refl))
+
+-- what is inside a smaller relation is inside a larger one
+pub inside_more : (words : List Word) (R S : State → State → Bool) → IsInside words R S → (s t : State) → IsPair words s t → Inside R s t → Inside S s t
+inside_more words R S le s t pair h = ⊎_elim (λ r. le s t pair r) (λ e. inr e) h
+
+pub met_front : (words : List Word) (xs ys : List Obligation) → AllMet words (xs ++ ys) → AllMet words xs
+met_front words [] ys h = tt
+met_front words (x ∷ xs) ys h = (h.0, met_front words xs ys h.1)
+
+pub met_back : (words : List Word) (xs ys : List Obligation) → AllMet words (xs ++ ys) → AllMet words ys
+met_back words [] ys h = h
+met_back words (x ∷ xs) ys h = met_back words xs ys h.1
