@@ -7,3 +7,4 @@ pub mod Beginnings
 pub mod Numbers
 pub mod Steps
 pub mod Obligations
+pub mod Texts
