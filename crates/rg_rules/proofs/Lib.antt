@@ -1,0 +1,4 @@
+pub mod Stands
+pub mod Places
+pub mod Rules
+pub mod Lines
