@@ -1,3 +1,4 @@
+pub mod Buffers
 pub mod Layout
 pub mod Names
 pub mod Refusals
