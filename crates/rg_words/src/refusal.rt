@@ -2,6 +2,7 @@
 
 ghost use Rattle.std.specs.Prelude.{◌≡◌, None};
 
+use crate::sink::WriteFault;
 use std::alloc::{AllocError, AllocFailed};
 use std::error::Error;
 use std::fmt;
@@ -197,6 +198,18 @@ impl Refusal {
             file: Some(file),
             place: Some(place),
         }
+    }
+}
+
+impl From<WriteFault> for Refusal {
+    ghost use Rattle.std.specs.Prelude.{◌≡◌};
+    ghost use Rattle.rg_words.specs.Refusals.{refused};
+    ghost use Rattle.rg_words.specs.declared.refusal.RefusalNumber.TheVariants.{Write};
+
+    ghost from_gives = { λ _ e. e ≡ refused Write };
+
+    fn from(_: WriteFault) -> Refusal {
+        Refusal::new(RefusalNumber::Write)
     }
 }
 
