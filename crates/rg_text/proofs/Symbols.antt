@@ -1,5 +1,5 @@
 -- A symbol has one byte or two, and the longer one is taken.
-use Rattle.std.proofs.Common.{◌≡◌, ℕ, zero, suc, ◌<◌, ◌≤◌, Bool, true, false, ◌&&◌, List, [], ◌∷◌, length, take, get_or, Option, Some, None, refl, ap, ◌∙◌, arith}
+use Rattle.std.proofs.Common.{◌≡◌, ℕ, zero, suc, ◌<◌, ◌≤◌, Bool, true, false, ◌&&◌, List, [], ◌∷◌, length, take, Option, Some, None, refl, ap, ◌∙◌, arith}
 use Rattle.rg_text.specs.declared.kind.Kind.TheVariants.{Fixed}
 use Rattle.rg_text.specs.declared.kind.Terminal.{Terminal}
 use Rattle.rg_text.specs.Spelling.{is_word_start, is_digit, symbol_of, fixed_kind, symbol_kind, kind_of_text}

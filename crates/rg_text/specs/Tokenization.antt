@@ -1,5 +1,10 @@
 -- How a source is cut into tokens: between two of them a gap of white space and comments, and at each place the longest token.
-use Rattle.std.specs.Prelude.{◌≡◌, ℕ, ◌+◌, ◌-◌, ◌<◌, ◌≤◌, ◌==◌, Bool, ◌||◌, cond, List, [], ◌∷◌, length, take, drop, count_by, Some, None}
+use Rattle.std.specs.Prelude.{◌≡◌, ℕ, ◌+◌, ◌-◌, ◌<◌, ◌≤◌, ◌==◌, ◌⊎◌, Bool, ◌||◌, cond, List, [], ◌∷◌, length, take, drop, count_by, Some, None}
+use Rattle.rg_words.specs.declared.limits.TheConstants.{MOST_TEXT_BYTES}
+use Rattle.rg_words.specs.declared.refusal.Refusal.{Refusal}
+use Rattle.rg_words.specs.declared.refusal.RefusalNumber.TheVariants.{BadByte, Limit}
+use Rattle.rg_words.specs.declared.refusal.SourceFile.{SourceFile}
+use Rattle.rg_words.specs.Refusals.{no_memory, refused_at}
 use Rattle.rg_text.specs.declared.kind.Kind.{Kind}
 use Rattle.rg_text.specs.declared.token.Token.{Token}
 use Rattle.rg_text.specs.Spelling.{kind_of_text}
@@ -68,3 +73,10 @@ pub record IsTokenOf (source : List ℕ) (t : Token) : Type 0 where
   pub within : t.end ≤ length source
   pub kind : kind_of_text (text_of source t) ≡ Some t.kind
   pub line : t.line ≡ line_at source t.start
+
+-- why a source is refused: its size, its bad byte, or want of memory
+abbrev pub IsReadRefusal : SourceFile → List ℕ → Refusal → Type 0
+IsReadRefusal file source e =
+    ((MOST_TEXT_BYTES < length source) × (e ≡ refused_at Limit file 1))
+    ⊎ (((length source ≤ MOST_TEXT_BYTES) × (place : ℕ) × IsBadByte source place × (e ≡ refused_at BadByte file (line_at source place)))
+    ⊎ (e ≡ no_memory))

@@ -1,11 +1,12 @@
 //! White space, comments and lines.
 
-ghost use Rattle.std.specs.Prelude.{◌≡◌, ◌==◌, count_by};
+ghost use Rattle.std.specs.Prelude.{◌≡◌, ◌==◌, ◌≤◌, count_by, length};
 ghost use Rattle.rg_text.specs.Tokenization.{is_white_space, gap_len};
 
 /// How many bytes at the front are white space and comments.
 pub(crate) fn gap_len(bytes: &[u8]) -> usize
-    ensures { result ≡ gap_len bytes.now }
+    ensures is { result ≡ gap_len bytes.now }
+    ensures within { result ≤ length bytes.now }
 {
     let mut in_comment = false;
     for (place, byte) in bytes.iter().enumerate() {

@@ -1,4 +1,4 @@
-use Rattle.std.proofs.Common.{◌≡◌, ℕ, ◌<◌, false, List, [], ◌∷◌, length, take, get_or, Option, Some, None, sym, arith}
+use Rattle.std.proofs.Common.{◌≡◌, ℕ, ◌<◌, false, List, [], ◌∷◌, length, take, get_or, Some, None, sym, arith}
 use Rattle.rg_text.specs.declared.kind.Kind.TheVariants.{Fixed}
 use Rattle.rg_text.specs.declared.kind.Terminal.{Terminal}
 use Rattle.rg_text.specs.Spelling.{is_word_start, is_digit, symbol_of}
