@@ -1,0 +1,5 @@
+pub mod CutSteps
+pub mod LineFeeds
+pub mod Longest
+pub mod Symbols
+pub mod TokenLists
