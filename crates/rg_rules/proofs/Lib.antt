@@ -1,4 +1,3 @@
-pub mod Stands
 pub mod Places
 pub mod Rules
 pub mod Lines

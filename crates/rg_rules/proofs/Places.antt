@@ -2,7 +2,7 @@
 use Rattle.std.proofs.Common.{◌≡◌, ℕ, zero, suc, ◌+◌, List, [], ◌∷◌, ◌++◌, length, Some, refl, sym, subst, ap, ◌∙◌, ⊎_elim}
 use Rattle.std.proofs.lemmas.List.{append-nil}
 use Rattle.std.specs.Prelude.{slice_get}
-use Rattle.rg_rules.proofs.Stands.{Stands, stands_more, stands_after, get_append}
+use Rattle.rg_tree.proofs.Stands.{Stands, stands_more, stands_after, get_append}
 use Rattle.rg_tree.specs.Statements.{Statement, skip, assign, await, sequence, branch, loop, Items, one, more, PartTree}
 use Rattle.rg_tree.specs.Numbering.{statements, statements_of_items, statements_of_parts}
 

@@ -8,3 +8,4 @@ pub mod Numbers
 pub mod Steps
 pub mod Obligations
 pub mod Texts
+pub mod Stands
