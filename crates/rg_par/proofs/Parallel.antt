@@ -13,7 +13,7 @@ use Rattle.rg_tree.specs.Runs.{runs}
 use Rattle.rg_tree.specs.Programs.{nth, ViewsRun, all_true, OthersInside, PartsInside, IsSatisfied}
 use Rattle.rg_tree.specs.Obligations.{Obligation, reaches, allows, IsMet, AllMet, AllHold, IsInside}
 use Rattle.rg_tree.proofs.Guards.{Guards, StatementSound}
-use Rattle.rg_tree.proofs.Obligations.{inside_more, met_front, met_back}
+use Rattle.rg_tree.proofs.Asked.{inside_more, met_front, met_back}
 use Rattle.rg_tree.proofs.Beginnings.{Satisfies-Sound}
 use Rattle.rg_par.specs.Parallel.{pre_obligations, rely_obligations, guar_obligations, other_obligations, cross_obligations, parallel_obligations, ParallelRule}
 

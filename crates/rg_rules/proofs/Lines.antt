@@ -12,7 +12,7 @@ use Rattle.rg_tree.specs.Traces.{holds_at}
 use Rattle.rg_tree.specs.Claims.{assigned}
 use Rattle.rg_tree.specs.Runs.{runs, runs_of_items, always, Atomic as AtomicRun}
 use Rattle.rg_tree.specs.Obligations.{Obligation, AllMet}
-use Rattle.rg_tree.proofs.Obligations.{met_front, met_back}
+use Rattle.rg_tree.proofs.Asked.{met_front, met_back}
 use Rattle.rg_tree.proofs.Guards.{Sound, StatementSound, Sound-Satisfies}
 use Rattle.rg_rules.specs.declared.derivation.Rule.{Rule}
 use Rattle.rg_rules.specs.declared.derivation.Rule.TheVariants.{Basic, Atomic, Seq, If, Loop, Conseq}

@@ -6,6 +6,6 @@ pub mod Follows
 pub mod Beginnings
 pub mod Numbers
 pub mod Steps
-pub mod Obligations
+pub mod Asked
 pub mod Texts
 pub mod Stands
