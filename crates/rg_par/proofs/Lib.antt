@@ -1,1 +1,3 @@
 pub mod Parallel
+pub mod Typed
+pub mod Joined

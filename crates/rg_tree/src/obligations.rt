@@ -112,3 +112,28 @@ pub fn copy_assigns(alloc: Global, all: &[Assign]) -> Result<Vec<Assign>, AllocE
     }
     Ok(copy)
 }
+
+/// Where the one formula holds in a state, the other holds. Refused only where memory was refused.
+pub fn implies(
+    alloc: Global,
+    layout: Layout,
+    given: &Formula,
+    goal: &Formula,
+) -> Result<Condition, AllocError>
+    requires { ClaimTyped (obligation_claim layout (reaches (formula given.now ∷ []) [] (formula goal.now))) }
+    ensures { IfOk result (λ c. claim c ≡ obligation_claim layout (reaches (formula given.now ∷ []) [] (formula goal.now))) }
+{
+    typed_trees_fit();
+    let _ = layout.len();
+    let mut hypotheses = Vec::new(alloc);
+    hypotheses.push(copy_formula(alloc, given)?)?;
+    let goal = copy_formula(alloc, goal)?;
+    Ok(Condition {
+        layout,
+        hypotheses,
+        second: Second::After(Vec::new(alloc)),
+        goal,
+        alone: true,
+        or_no_change: false,
+    })
+}
