@@ -5,12 +5,13 @@ ghost use Rattle.rg_words.specs.Layout.{widths_of};
 ghost use Rattle.rg_words.specs.declared.limits.TheConstants.{MOST_PARTS};
 ghost use Rattle.rg_tree.specs.View.{formula};
 ghost use Rattle.rg_tree.specs.ProgramView.{specification, part};
-ghost use Rattle.rg_tree.specs.ProgramTrees.{program};
+ghost use Rattle.rg_tree.specs.ProgramTrees.{program as program_tree};
+ghost use Rattle.rg_tree.specs.Programs.{IsSatisfied};
 ghost use Rattle.rg_tree.specs.Conditions.{claim};
 ghost use Rattle.rg_tree.specs.Typing.{IsTyped};
 ghost use Rattle.rg_tree.specs.TypedPrograms.{IsTypedSpecification, AreTypedParts};
-ghost use Rattle.rg_tree.specs.Obligations.{obligation_claim, allows as allows_of, reaches as reaches_of};
-ghost use Rattle.rg_par.specs.Parallel.{pre_obligations, rely_obligations, guar_obligations, other_obligations, cross_obligations, parallel_obligations};
+ghost use Rattle.rg_tree.specs.Obligations.{obligation_claim, AllConditionsHold, allows as allows_of, reaches as reaches_of};
+ghost use Rattle.rg_par.specs.Parallel.{pre_obligations, rely_obligations, guar_obligations, other_obligations, cross_obligations, parallel_obligations, PartsSatisfy};
 
 use rg_tree::condition::Condition;
 use rg_tree::copy::copy_formula;
@@ -171,6 +172,8 @@ fn add_post(
 pub fn conditions(alloc: Global, program: &Program) -> Result<Vec<Condition>, AllocError>
     // Exactly the rule's list.
     ensures list { IfOk result (λ all. map claim all.items ≡ map (obligation_claim program.now.layout) (parallel_obligations (specification program.now.spec) (map part program.now.parts.items))) }
+    // Where they are true and each part satisfies its own specification, the program satisfies its specification.
+    ensures sound { IfOk result (λ all. AllConditionsHold (map claim all.items) → PartsSatisfy (program_tree program.now) → IsSatisfied (program_tree program.now)) }
 {
     let layout = &program.layout;
     let parts = program.parts.as_slice();

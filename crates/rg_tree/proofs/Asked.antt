@@ -1,5 +1,5 @@
 -- A true condition says of states what its rule asks.
-use Rattle.std.proofs.Common.{◌≡◌, ℕ, ◌<◌, Bool, true, false, not, ◌&&◌, ◌||◌, List, [], ◌∷◌, ◌++◌, ⊎_elim, ◌⊎◌, inl, inr, refl, sym, subst, ap, ap₂, ◌∙◌, nat_eq, cond, arith}
+use Rattle.std.proofs.Common.{◌≡◌, ℕ, ◌<◌, Bool, true, false, not, ◌&&◌, ◌||◌, List, [], ◌∷◌, ◌++◌, map, ⊎_elim, ◌⊎◌, inl, inr, refl, sym, subst, ap, ap₂, ◌∙◌, nat_eq, cond, arith}
 use Rattle.std.proofs.lemmas.Bool.Decides.{nat_tests}
 use Rattle.rg_words.specs.Layout.{Word, widths_of}
 use Rattle.rg_words.specs.States.{AreValues, IsState, IsPair}
@@ -8,7 +8,7 @@ use Rattle.rg_tree.specs.Meaning.{value_of, holds, operated, moved, is_so, joine
 use Rattle.rg_tree.specs.Primes.{has_next_word, speaks_of_two}
 use Rattle.rg_tree.specs.Claims.{all_hold, are_same, ConditionHolds, assigned}
 use Rattle.rg_tree.specs.Traces.{State, holds_at, Inside}
-use Rattle.rg_tree.specs.Obligations.{Obligation, reaches, makes, keeps, allows, obligation_claim, AllHold, IsMet, AllMet, IsInside, IsPlainObligation}
+use Rattle.rg_tree.specs.Obligations.{Obligation, reaches, makes, keeps, allows, obligation_claim, AllHold, IsMet, AllMet, IsInside, IsPlainObligation, ArePlain, AllConditionsHold}
 use Rattle.rg_tree.proofs.Steps.{agree_self}
 
 or_left : (a b : Bool) → (a || b) ≡ false → a ≡ false
@@ -109,3 +109,12 @@ met_front words (x ∷ xs) ys h = (h.0, met_front words xs ys h.1)
 pub met_back : (words : List Word) (xs ys : List Obligation) → AllMet words (xs ++ ys) → AllMet words ys
 met_back words [] ys h = h
 met_back words (x ∷ xs) ys h = met_back words xs ys h.1
+
+-- true conditions say what their rules ask
+pub all_met : (words : List Word) (os : List Obligation) → ArePlain os → AllConditionsHold (map (obligation_claim words) os) → AllMet words os
+all_met words [] plain h = tt
+all_met words (o ∷ os) plain h = (met words o plain.0 h.0, all_met words os plain.1 h.1)
+
+pub plain_append : (xs ys : List Obligation) → ArePlain xs → ArePlain ys → ArePlain (xs ++ ys)
+plain_append [] ys p q = q
+plain_append (x ∷ xs) ys p q = (p.0, plain_append xs ys p.1 q)

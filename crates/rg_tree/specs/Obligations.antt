@@ -5,7 +5,7 @@ use Rattle.rg_words.specs.States.{IsState, IsPair}
 use Rattle.rg_tree.specs.Trees.{Proposition, Assignment}
 use Rattle.rg_tree.specs.Meaning.{holds}
 use Rattle.rg_tree.specs.Primes.{speaks_of_two}
-use Rattle.rg_tree.specs.Claims.{Claim, claim_of, free, after, assigned}
+use Rattle.rg_tree.specs.Claims.{Claim, claim_of, free, after, assigned, ConditionHolds}
 use Rattle.rg_tree.specs.Traces.{State, holds_at, Inside}
 
 pub data Obligation : Type 0 where
@@ -52,3 +52,12 @@ AllMet words (o ∷ os) = IsMet words o × AllMet words os
 abbrev pub IsPlainObligation : Obligation → Type 0
 IsPlainObligation (keeps p R) = speaks_of_two p ≡ false
 IsPlainObligation _ = Unit {0}
+
+abbrev pub ArePlain : List Obligation → Type 0
+ArePlain [] = Unit {0}
+ArePlain (o ∷ os) = IsPlainObligation o × ArePlain os
+
+-- each of these conditions is true
+abbrev pub AllConditionsHold : List Claim → Type 0
+AllConditionsHold [] = Unit {0}
+AllConditionsHold (c ∷ cs) = ConditionHolds c × AllConditionsHold cs
