@@ -1,5 +1,5 @@
 -- The parts of writers that tests use.
-use Rattle.std.specs.Prelude.{ℕ, List}
+use Rattle.std.specs.Prelude.{ℕ}
 use Rattle.rg_words.specs.declared.writers.Fuse.{Fuse}
 
 -- the writer below a fuse

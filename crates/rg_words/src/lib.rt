@@ -9,6 +9,8 @@ pub mod operators;
 mod refusal;
 mod sink;
 mod state;
+#[cfg(test)]
+mod tests;
 mod writers;
 
 pub use buffered::Buffered;

@@ -220,11 +220,7 @@ impl From<AllocError> for Refusal {
     ghost from_gives = { λ _ e. e ≡ no_memory };
 
     fn from(_: AllocError) -> Refusal {
-        Refusal {
-            number: RefusalNumber::Memory,
-            file: None,
-            place: None,
-        }
+        Refusal::new(RefusalNumber::Memory)
     }
 }
 
@@ -235,10 +231,6 @@ impl<T: Drop> From<AllocFailed<T>> for Refusal {
     ghost from_gives = { λ _ e. e ≡ no_memory };
 
     fn from(_: AllocFailed<T>) -> Refusal {
-        Refusal {
-            number: RefusalNumber::Memory,
-            file: None,
-            place: None,
-        }
+        Refusal::new(RefusalNumber::Memory)
     }
 }
