@@ -1,4 +1,6 @@
+pub mod ByFirst
 pub mod CutSteps
+pub mod KeywordTables
 pub mod LineFeeds
 pub mod Longest
 pub mod Symbols

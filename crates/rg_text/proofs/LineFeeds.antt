@@ -10,7 +10,10 @@ use Rattle.std.proofs.lemmas.Slice.Eq.{bytes_eq-Decides}
 use Rattle.rg_text.specs.declared.kind.Kind.{Kind}
 use Rattle.rg_text.specs.declared.kind.Kind.TheVariants.{Number, Primed}
 use Rattle.rg_text.specs.declared.kind.Terminal.{Terminal}
-use Rattle.rg_text.specs.Spelling.{is_word_start, is_digit, is_word_byte, symbol_of, keyword_of, named, fixed_kind, word_kind, number_kind, symbol_kind, kind_of_text}
+use Rattle.std.specs.Char.{is_ascii_digit}
+use Rattle.rg_words.specs.Names.{is_word_start, is_word_byte}
+use Rattle.rg_text.specs.Spelling.{symbol_of, keyword_of, fixed_kind, kind_of_text}
+use Rattle.rg_text.proofs.ByFirst.{named, word_kind, number_kind, symbol_kind, by_first, kind_by_first}
 use Rattle.rg_text.specs.Tokenization.{line_at}
 
 abbrev feeds : List ℕ → ℕ
@@ -46,10 +49,10 @@ none_last p fails text h prime =
 
 none_in_number : (text : List ℕ) (k : Kind) → number_kind text ≡ Some k → feeds text ≡ 0
 unfolding number_kind
-none_in_number text k h = go (eqb (prefix_len is_digit text) (length text)) refl h
+none_in_number text k h = go (eqb (prefix_len is_ascii_digit text) (length text)) refl h
   where
-    go : (v : Bool) → eqb (prefix_len is_digit text) (length text) ≡ v → cond v (Some Number) None ≡ Some k → feeds text ≡ 0
-    go true e h = none_all is_digit refl text (eqb-true _ _ e)
+    go : (v : Bool) → eqb (prefix_len is_ascii_digit text) (length text) ≡ v → cond v (Some Number) None ≡ Some k → feeds text ≡ 0
+    go true e h = none_all is_ascii_digit refl text (eqb-true _ _ e)
     go false e h = cc
 
 none_in_word : (text : List ℕ) (k : Kind) → word_kind text ≡ Some k → feeds text ≡ 0
@@ -74,6 +77,7 @@ spelled s text t u o none others = go (bytes_eq text s) refl
     go false e h = others h
 
 none_in_symbol : (text : List ℕ) (t : Terminal) → symbol_of text ≡ Some t → feeds text ≡ 0
+unfolding symbol_of
 none_in_symbol text t =
     spelled (codes "(") text _ t _ refl
     (spelled (codes ")") text _ t _ refl
@@ -93,18 +97,21 @@ none_in_symbol_kind : (text : List ℕ) (k : Kind) → symbol_kind text ≡ Some
 unfolding symbol_kind
 none_in_symbol_kind text k h = go (symbol_of text) refl h
   where
-    go : (o : Option Terminal) → symbol_of text ≡ o → fixed_kind o ≡ Some k → feeds text ≡ 0
+    go : (o : Option Terminal) → symbol_of text ≡ o → fixed_kind None o ≡ Some k → feeds text ≡ 0
     go (Some t) e f = none_in_symbol text t e
     go None e f = cc
 
 none_in_token : (text : List ℕ) (k : Kind) → kind_of_text text ≡ Some k → feeds text ≡ 0
-none_in_token [] k h = refl
-none_in_token (b ∷ bs) k h = go (is_word_start b) (is_digit b) h
+none_in_token text k h = by_cases text (sym (kind_by_first text) ∙ h)
   where
-    go : (v w : Bool) → cond v (word_kind (b ∷ bs)) (cond w (number_kind (b ∷ bs)) (symbol_kind (b ∷ bs))) ≡ Some k → feeds (b ∷ bs) ≡ 0
-    go true w h = none_in_word (b ∷ bs) k h
-    go false true h = none_in_number (b ∷ bs) k h
-    go false false h = none_in_symbol_kind (b ∷ bs) k h
+    first : (b : ℕ) (bs : List ℕ) (v w : Bool) → cond v (word_kind (b ∷ bs)) (cond w (number_kind (b ∷ bs)) (symbol_kind (b ∷ bs))) ≡ Some k → feeds (b ∷ bs) ≡ 0
+    first b bs true w h = none_in_word (b ∷ bs) k h
+    first b bs false true h = none_in_number (b ∷ bs) k h
+    first b bs false false h = none_in_symbol_kind (b ∷ bs) k h
+
+    by_cases : (text : List ℕ) → by_first text ≡ Some k → feeds text ≡ 0
+    by_cases [] h = refl
+    by_cases (b ∷ bs) h = first b bs (is_word_start b) (is_ascii_digit b) h
 
 -- the line some bytes on
 pub line_on : (source : List ℕ) (place n : ℕ) → line_at source (place + n) ≡ line_at source place + count_by (λ b. eqb b 10) (take n (drop place source))

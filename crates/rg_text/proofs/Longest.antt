@@ -7,41 +7,35 @@ use Rattle.std.proofs.lemmas.List.{get_or-take, take-take}
 use Rattle.std.proofs.lemmas.List.Sums.{prefix_len-le-length}
 use Rattle.rg_text.specs.declared.kind.Kind.{Kind}
 use Rattle.rg_text.specs.declared.kind.Kind.TheVariants.{Primed, Number}
-use Rattle.rg_text.specs.Spelling.{is_word_start, is_digit, is_word_byte, keyword_of, named, word_kind, number_kind, kind_of_text}
+use Rattle.std.specs.Char.{is_ascii_digit}
+use Rattle.rg_words.specs.Names.{is_word_start, is_word_byte}
+use Rattle.rg_text.specs.Spelling.{keyword_of, kind_of_text}
+use Rattle.rg_text.proofs.ByFirst.{named, word_kind, number_kind, prefix_len-take, kind_by_first}
 use Rattle.rg_text.specs.Tokenization.{IsLongest}
 
-prefix_len-take : (p : ℕ → Bool) (m : ℕ) (xs : List ℕ) → prefix_len p (take m xs) ≡ min m (prefix_len p xs)
-prefix_len-take p zero xs = omega arith
-prefix_len-take p (suc m) [] = omega arith
-prefix_len-take p (suc m) (x ∷ xs) = go (p x) (prefix_len-take p m xs)
-  where
-    go : (b : Bool) → prefix_len p (take m xs) ≡ min m (prefix_len p xs) → cond b (1 + prefix_len p (take m xs)) 0 ≡ min (suc m) (cond b (1 + prefix_len p xs) 0)
-    go true e = omega arith
-    go false e = omega arith
-
 -- a text that begins with a digit is a number just where it has only digits
-begins_number : (m : ℕ) (b : ℕ) (bs : List ℕ) → is_word_start b ≡ false → is_digit b ≡ true → 0 < m → kind_of_text (take m (b ∷ bs)) ≡ number_kind (take m (b ∷ bs))
+begins_number : (m : ℕ) (b : ℕ) (bs : List ℕ) → is_word_start b ≡ false → is_ascii_digit b ≡ true → 0 < m → kind_of_text (take m (b ∷ bs)) ≡ number_kind (take m (b ∷ bs))
 begins_number zero b bs l d lt = absurd (omega arith)
-begins_number (suc m) b bs l d lt = rw (l, d) refl
+begins_number (suc m) b bs l d lt = kind_by_first (b ∷ take m bs) ∙ rw (l, d) refl
 
-number_of_take : (m : ℕ) (bytes : List ℕ) → m ≤ length bytes → number_kind (take m bytes) ≡ cond (eqb (min m (prefix_len is_digit bytes)) m) (Some Number) None
+number_of_take : (m : ℕ) (bytes : List ℕ) → m ≤ length bytes → number_kind (take m bytes) ≡ cond (eqb (min m (prefix_len is_ascii_digit bytes)) m) (Some Number) None
 unfolding number_kind
 number_of_take m bytes le =
     let long : length (take m bytes) ≡ m = omega (arith, length-take m bytes) in
-    ap (λ n. cond (eqb n (length (take m bytes))) (Some Number) None) (prefix_len-take is_digit m bytes) ∙ ap (λ n. cond (eqb (min m (prefix_len is_digit bytes)) n) (Some Number) None) long
+    ap (λ n. cond (eqb n (length (take m bytes))) (Some Number) None) (prefix_len-take is_ascii_digit m bytes) ∙ ap (λ n. cond (eqb (min m (prefix_len is_ascii_digit bytes)) n) (Some Number) None) long
 
-no_letter : (b : ℕ) → is_digit b ≡ true → is_word_start b ≡ false
+no_letter : (b : ℕ) → is_ascii_digit b ≡ true → is_word_start b ≡ false
 no_letter b d = grind (arith, nat_tests)
 
 passes_first : (p : ℕ → Bool) (b : ℕ) (bs : List ℕ) → p b ≡ true → 0 < prefix_len p (b ∷ bs)
 passes_first p b bs h = rw h (omega arith)
 
-pub longest_number : (b : ℕ) (bs : List ℕ) → is_digit b ≡ true → IsLongest (b ∷ bs) (prefix_len is_digit (b ∷ bs)) Number
+pub longest_number : (b : ℕ) (bs : List ℕ) → is_ascii_digit b ≡ true → IsLongest (b ∷ bs) (prefix_len is_ascii_digit (b ∷ bs)) Number
 longest_number b bs d =
     let l = no_letter b d in
-    let n = prefix_len is_digit (b ∷ bs) in
-    let some : 0 < n = passes_first is_digit b bs d in
-    let within : n ≤ length (b ∷ bs) = prefix_len-le-length is_digit (b ∷ bs) in
+    let n = prefix_len is_ascii_digit (b ∷ bs) in
+    let some : 0 < n = passes_first is_ascii_digit b bs d in
+    let within : n ≤ length (b ∷ bs) = prefix_len-le-length is_ascii_digit (b ∷ bs) in
     record {
       some = some;
       within = within;
@@ -57,7 +51,7 @@ longest_number b bs d =
 
 begins_word : (m : ℕ) (b : ℕ) (bs : List ℕ) → is_word_start b ≡ true → 0 < m → kind_of_text (take m (b ∷ bs)) ≡ word_kind (take m (b ∷ bs))
 begins_word zero b bs l lt = absurd (omega arith)
-begins_word (suc m) b bs l lt = rw l refl
+begins_word (suc m) b bs l lt = kind_by_first (b ∷ take m bs) ∙ rw l refl
 
 -- the kind of a word text, by how far its word goes, its length, the byte behind the word and the word's keyword
 abbrev told : ℕ → ℕ → List ℕ → ℕ → List ℕ → Option Kind

@@ -2,11 +2,11 @@
 use Rattle.std.proofs.Common.{◌≡◌, ℕ, zero, suc, ◌+◌, ◌-◌, ◌≤◌, inl, inr, List, [], ◌∷◌, ◌++◌, length, drop, refl, sym, ap, ◌∙◌, get_or, arith, length-drop}
 use Rattle.std.specs.List.{All, AllByRecursion}
 use Rattle.std.proofs.lemmas.Bool.{cases_order}
-use Rattle.std.proofs.lemmas.List.{drop_all}
 use Rattle.std.proofs.lemmas.List.Elements.{All-from_recursion}
 use Rattle.rg_text.specs.declared.kind.Kind.{Kind}
 use Rattle.rg_text.specs.declared.token.Token.{Token}
 use Rattle.rg_text.specs.Tokenization.{gap_end, line_at, IsLongest, BeginsNoToken, IsNextToken, AreTokens, IsTokenized, IsBadByte, IsTokenOf}
+use Rattle.rg_text.proofs.ByFirst.{no_bytes}
 use Rattle.rg_text.proofs.LineFeeds.{lines_bound}
 
 -- one more token
@@ -73,11 +73,7 @@ lists_one source from a b (t ∷ ts) (u ∷ us) h g p q =
 
 -- at the end of the source nothing stands
 pub end_stops : (source : List ℕ) (place : ℕ) → gap_end source place ≡ length source → Stops source place
-end_stops source place e = rw (e, drop_all (length source) source (omega arith)) none
-  where
-    none : BeginsNoToken []
-    none zero le = refl
-    none (suc m) le = refl
+end_stops source place e = rw e (no_bytes (drop (length source) source) (omega (arith, length-drop (length source) source)))
 
 pub tokens_one : (source : List ℕ) (ts us : List Token) → IsTokenized source ts → IsTokenized source us → ts ≡ us
 tokens_one source ts us h g =

@@ -1,12 +1,13 @@
 //! The keywords, by their text.
 
 ghost use Rattle.std.specs.Prelude.{◌≡◌};
-ghost use Rattle.rg_text.specs.Spelling.{formula_keyword_of, section_keyword_of, keyword_of};
+ghost use Rattle.rg_text.specs.Spelling.{formula_keywords, section_keywords, spelled, keyword_of};
 
 use crate::kind::{Conditional, Junction, Keyword, Terminal};
 use rg_words::operators::{Operator, Shift};
 
 /// The keyword that the text is.
+#[tactic(auto, unfolding(crate::specs::Spelling::keyword_of))]
 pub(crate) fn keyword(text: &[u8]) -> Option<Terminal>
     ensures { result ≡ keyword_of text.now }
 {
@@ -20,7 +21,7 @@ pub(crate) fn keyword(text: &[u8]) -> Option<Terminal>
 }
 
 fn formula_keyword(text: &[u8]) -> Option<Terminal>
-    ensures { result ≡ formula_keyword_of text.now }
+    ensures { result ≡ spelled formula_keywords text.now }
 {
     if text == b"words".as_slice() {
         Some(Terminal::Words)
@@ -64,7 +65,7 @@ fn formula_keyword(text: &[u8]) -> Option<Terminal>
 }
 
 fn section_keyword(text: &[u8]) -> Option<Keyword>
-    ensures { result ≡ section_keyword_of text.now }
+    ensures { result ≡ spelled section_keywords text.now }
 {
     if text == b"fixed".as_slice() {
         Some(Keyword::Fixed)

@@ -2,30 +2,15 @@
 
 ghost use Rattle.std.specs.Prelude.{◌≡◌, ◌<◌, false, [], ◌∷◌, length, take, slice_index, IsTrue, MatchOption, Some, None};
 ghost use Rattle.std.specs.List.{prefix_len};
-ghost use Rattle.rg_text.specs.Spelling.{is_word_start, is_digit, is_word_byte, symbol_of};
+ghost use Rattle.std.specs.Char.{is_ascii_digit};
+ghost use Rattle.rg_words.specs.Names.{is_word_start, is_word_byte};
+ghost use Rattle.rg_text.specs.Spelling.{symbol_of};
 ghost use Rattle.rg_text.specs.Tokenization.{IsLongest, BeginsNoToken};
 
 use crate::keywords::keyword;
 use crate::kind::{Kind, Terminal};
+use rg_words::names::{is_word_byte, is_word_start};
 use rg_words::operators::{Comparison, Operator};
-
-fn is_digit(byte: u8) -> bool
-    ensures { result ≡ is_digit byte }
-{
-    byte.is_ascii_digit()
-}
-
-fn is_word_start(byte: u8) -> bool
-    ensures { result ≡ is_word_start byte }
-{
-    byte.is_ascii_alphabetic() || byte == b'_'
-}
-
-fn is_word_byte(byte: u8) -> bool
-    ensures { result ≡ is_word_byte byte }
-{
-    is_word_start(byte) || is_digit(byte)
-}
 
 fn word_len(bytes: &[u8]) -> usize
     ensures { result ≡ prefix_len is_word_byte bytes.now }
@@ -34,12 +19,13 @@ fn word_len(bytes: &[u8]) -> usize
 }
 
 fn digits_len(bytes: &[u8]) -> usize
-    ensures { result ≡ prefix_len is_digit bytes.now }
+    ensures { result ≡ prefix_len is_ascii_digit bytes.now }
 {
-    bytes.iter().take_while(|b| is_digit(**b)).count()
+    bytes.iter().take_while(|b| b.is_ascii_digit()).count()
 }
 
 /// The symbol of one byte.
+#[tactic(auto, unfolding(crate::specs::Spelling::symbol_of))]
 fn short_symbol(byte: u8) -> Option<Terminal>
     ensures { result ≡ symbol_of (byte ∷ []) }
 {
@@ -58,6 +44,7 @@ fn short_symbol(byte: u8) -> Option<Terminal>
 }
 
 /// The symbol of two bytes, of which `=` is the second.
+#[tactic(auto, unfolding(crate::specs::Spelling::symbol_of))]
 fn long_symbol(first: u8) -> Option<Terminal>
     ensures { result ≡ symbol_of (first ∷ 61 ∷ []) }
 {
@@ -71,6 +58,7 @@ fn long_symbol(first: u8) -> Option<Terminal>
 }
 
 /// The symbol that the first two bytes are.
+#[tactic(auto, unfolding(crate::specs::Spelling::symbol_of))]
 fn long_symbol_at(bytes: &[u8]) -> Option<Terminal>
     ensures { MatchOption result
         (1 < length bytes.now → symbol_of (take 2 bytes.now) ≡ None)
@@ -104,7 +92,7 @@ fn word_at(bytes: &[u8]) -> (usize, Kind)
 /// The length and kind of the number at the front.
 fn number_at(bytes: &[u8]) -> (usize, Kind)
     requires some { 0 < length bytes.now }
-    requires digit { IsTrue (is_digit (slice_index bytes.now 0)) }
+    requires digit { IsTrue (is_ascii_digit (slice_index bytes.now 0)) }
     ensures { IsLongest bytes.now result.0 result.1 }
 {
     (digits_len(bytes), Kind::Number)
@@ -114,7 +102,7 @@ fn number_at(bytes: &[u8]) -> (usize, Kind)
 fn symbol_at(bytes: &[u8]) -> Option<(usize, Kind)>
     requires some { 0 < length bytes.now }
     requires no_word { is_word_start (slice_index bytes.now 0) ≡ false }
-    requires no_number { is_digit (slice_index bytes.now 0) ≡ false }
+    requires no_number { is_ascii_digit (slice_index bytes.now 0) ≡ false }
     ensures { MatchOption result (BeginsNoToken bytes.now) (λ t. IsLongest bytes.now t.0 t.1) }
 {
     if let Some(symbol) = long_symbol_at(bytes) {
@@ -133,7 +121,7 @@ pub(crate) fn token_at(bytes: &[u8]) -> Option<(usize, Kind)>
     let first = *bytes.first()?;
     if is_word_start(first) {
         Some(word_at(bytes))
-    } else if is_digit(first) {
+    } else if first.is_ascii_digit() {
         Some(number_at(bytes))
     } else {
         symbol_at(bytes)

@@ -5,7 +5,9 @@ use Rattle.std.proofs.lemmas.Bool.Decides.{nat_tests}
 use Rattle.std.proofs.lemmas.List.{get_or_past}
 use Rattle.rg_text.specs.declared.kind.Kind.TheVariants.{Name, Primed, Fixed}
 use Rattle.rg_text.specs.declared.kind.Terminal.{Terminal}
-use Rattle.rg_text.specs.Spelling.{is_word_start, is_word_byte, keyword_of, named}
+use Rattle.rg_words.specs.Names.{is_word_start, is_word_byte}
+use Rattle.rg_text.specs.Spelling.{keyword_of}
+use Rattle.rg_text.proofs.ByFirst.{named}
 use Rattle.rg_text.specs.Tokenization.{IsLongest}
 use Rattle.rg_text.proofs.Longest.{longest_word, longest_primed}
 use Rattle.rg_text.proofs.scan.word_at.Goals as goal
