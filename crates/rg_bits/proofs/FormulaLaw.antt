@@ -18,7 +18,7 @@ use Rattle.rg_bits.proofs.InputRows.{first_in, free_in, length-first_rows, lengt
 pub row_counts : (first : List (Vec Lit Global)) (words : List Word) → rows_of first ≡ first_rows 0 words → length first ≡ length words
 row_counts first words e = sym (length-rows_of first) ∙ ap length e ∙ length-first_rows 0 words
 
-length-variables : (n w : ℕ) → length (variables n w) ≡ w
+pub length-variables : (n w : ℕ) → length (variables n w) ≡ w
 length-variables n zero = refl
 length-variables n (suc w) = ap suc (length-variables (suc n) w)
 

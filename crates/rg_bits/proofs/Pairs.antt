@@ -1,7 +1,6 @@
 -- the states whose bits the inputs are
 use Rattle.std.proofs.Common.{◌≡◌, ℕ, zero, suc, ◌+◌, ◌/◌, ◌%◌, ◌^◌, ◌<◌, Bool, true, false, not, ◌&&◌, ◌-◌, cond, nat_eq, List, [], ◌∷◌, ◌++◌, get_or, drop, map, refl, sym, ap, ◌∙◌, arith, append_assoc}
 use Rattle.std.proofs.Math.Nat.{pow-succ'}
-use Rattle.std.proofs.lemmas.Bool.Decides.{nat_tests}
 use Rattle.rg_gates.specs.declared.Lit.{Lit}
 use Rattle.rg_gates.specs.Circuit.{Circuit, lit_value}
 use Rattle.rg_gates.specs.Extends.{GatesHold}
@@ -11,6 +10,7 @@ use Rattle.rg_bits.specs.Rows.{row_value}
 use Rattle.rg_bits.specs.Conditions.{variables, first_rows, free_rows, total_width, before_rows, condition_of, second_of, number_bits, state_bits, free_bits, second_bits, input_bits}
 use Rattle.rg_words.specs.States.{IsState, AgreeOnFixed, SameIf}
 use Rattle.rg_bits.proofs.RowsMean.{number_of}
+use Rattle.rg_bits.proofs.Numbers.{low_bit}
 use Rattle.rg_bits.proofs.InputRows.{total_cons}
 use Rattle.rg_bits.proofs.FormulaLaw.{condition_law}
 
@@ -26,9 +26,6 @@ tail_at [] zero b rest e = (cc)
 tail_at [] (suc n) b rest e = (cc)
 tail_at (v ∷ values) zero b rest e = (cc)
 tail_at (v ∷ values) (suc n) b rest e = tail_at values n b rest e
-
-low_bit : (n : ℕ) → number_of (nat_eq (n % 2) 1) ≡ n % 2
-low_bit n = grind (arith, nat_tests)
 
 number_at : (values : List Bool) (n w x : ℕ) (post : List Bool) → x < 2 ^ w → drop n values ≡ number_bits w x ++ post → (row_value values (variables n w) ≡ x) × (drop (n + w) values ≡ post)
 number_at values n zero x post small e = let z : n + 0 ≡ n = omega arith in (omega arith, ap (λ i. drop i values) z ∙ e)

@@ -1,11 +1,12 @@
 -- What a condition builds.
-use Rattle.std.specs.Prelude.{ℕ, zero, suc, ◌+◌, ◌/◌, ◌%◌, nat_eq, ◌++◌, Bool, true, false, cond, List, [], ◌∷◌, slice_set, sum_by, map}
+use Rattle.std.specs.Prelude.{ℕ, zero, suc, ◌+◌, ◌/◌, ◌%◌, nat_eq, ◌++◌, Bool, true, false, cond, List, [], ◌∷◌, slice_set, sum_by, map, Option, Some, None}
 use Rattle.std.specs.List.{zip}
 use Rattle.rg_gates.specs.declared.Lit.{Lit}
 use Rattle.rg_gates.specs.declared.Lit.TheVariants.{True, Variable}
 use Rattle.rg_gates.specs.Circuit.{negation}
 use Rattle.rg_gates.specs.And.{and_of}
-use Rattle.rg_words.specs.Layout.{Word}
+use Rattle.rg_words.specs.Layout.{Word, widths_of}
+use Rattle.rg_words.specs.States.{Valuation}
 use Rattle.rg_words.specs.declared.operators.Comparison.TheVariants.{Equal}
 use Rattle.rg_tree.specs.Trees.{Proposition, Assignment}
 use Rattle.rg_tree.specs.Claims.{Claim, SecondState, same, free, after}
@@ -96,6 +97,14 @@ first_of c values = map (row_value values) (first_rows 0 c.words)
 
 abbrev pub second_of : Claim → List Bool → List ℕ
 second_of c values = map (row_value values) (before_rows c.second c.words)
+
+-- values of the words as a state, and the second state of a condition that has one of its own
+abbrev pub state_of : List Word → List ℕ → Valuation
+state_of words s = record { widths = widths_of words; values = s }
+
+abbrev pub own_second : SecondState → List Word → List ℕ → Option Valuation
+own_second free words t = Some (state_of words t)
+own_second _ words t = None
 
 -- the bits of a number, the low bit first
 abbrev pub number_bits : ℕ → ℕ → List Bool

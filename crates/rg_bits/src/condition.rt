@@ -16,7 +16,7 @@ ghost use Rattle.rg_bits.specs.Conditions.{hypothesis_of, assign_of, same_word_o
 ghost use Rattle.rg_words.specs.States.{IsState, AgreeOnFixed};
 
 use crate::expression::{build_literal, build_row};
-use crate::inputs::{all_bits, first_state, free_state};
+use crate::inputs::{first_state, free_state};
 use crate::literals::or;
 use crate::operations::compare;
 use rg_gates::{GateError, Gates, Lit, Table};
@@ -97,7 +97,11 @@ fn add_same_word<T: Table>(
 
 /// Whether each word is after as before.
 #[tactic(auto, using(crate::proofs::ConditionSteps::condition_steps))]
-fn unchanged<T: Table>(gates: &mut Gates<T>, after: &[Vec<Lit>], before: &[Vec<Lit>]) -> Result<Lit, GateError>
+fn unchanged<T: Table>(
+    gates: &mut Gates<T>,
+    after: &[Vec<Lit>],
+    before: &[Vec<Lit>],
+) -> Result<Lit, GateError>
     requires first { AreRowsIn gates.old (rows_of after.now) }
     requires second { AreRowsIn gates.old (rows_of before.now) }
     ensures built { IfOk result (λ l. fold_of same_word_of (zip (rows_of after.now) (rows_of before.now)) True gates.old ≡ (l, gates.new)) }
@@ -251,16 +255,17 @@ fn second_rows(
     ensures rows { IfOk result (λ r. rows_of r.items ≡ before_rows (second_state condition.now.second) condition.now.layout) }
 {
     match condition.second {
-        Second::Free => {
-            let start = all_bits(&condition.layout);
-            free_state(alloc, &condition.layout, start, first)
-        }
-        _ => first_state(alloc, &condition.layout),
+        Second::Free => free_state(alloc, &condition.layout, first),
+        Second::Same | Second::After(_) => first_state(alloc, &condition.layout),
     }
 }
 
 /// The literal of a condition: true under the bits of two states exactly where the condition holds of them.
-pub fn formula<T: Table>(alloc: Global, gates: &mut Gates<T>, condition: &Condition) -> Result<Lit, GateError>
+pub fn formula<T: Table>(
+    alloc: Global,
+    gates: &mut Gates<T>,
+    condition: &Condition,
+) -> Result<Lit, GateError>
     requires inputs { gates.old.inputs ≡ inputs_of (claim condition.now) }
 
     // The circuit is the one that the numbering fixes.

@@ -64,15 +64,13 @@ fn free_row(
 pub fn free_state(
     alloc: Global,
     words: &Layout,
-    start: u32,
     first: &[Vec<Lit>],
 ) -> Result<Vec<Vec<Lit>>, AllocError>
-    requires same { length first.now ≡ length words.now }
-    requires start { start ≤ 4096 }
-    ensures rows { IfOk result (λ r. rows_of r.items ≡ free_rows start words.now (rows_of first.now)) }
+    requires { length first.now ≡ length words.now }
+    ensures rows { IfOk result (λ r. rows_of r.items ≡ free_rows (total_width words.now) words.now (rows_of first.now)) }
 {
     let mut rows = Vec::new(alloc);
-    let mut after = start;
+    let mut after = all_bits(words);
     for k in 0..words.len() {
         let row = free_row(alloc, words.is_fixed(k), words.width(k), after, &first[k])?;
         rows.push(row)?;

@@ -7,3 +7,4 @@ pub mod inputs;
 pub mod literals;
 pub mod operations;
 pub mod rows;
+pub mod states;

@@ -136,7 +136,12 @@ pub fn compare<T: Table>(
 
 /// Two literals joined by a connective.
 #[tactic(auto, using(crate::proofs::FormulaSteps::formula_steps), unfolding(crate::specs::Formulas::connected_of))]
-pub fn connect<T: Table>(gates: &mut Gates<T>, connective: Connective, a: Lit, b: Lit) -> Result<Lit, GateError>
+pub fn connect<T: Table>(
+    gates: &mut Gates<T>,
+    connective: Connective,
+    a: Lit,
+    b: Lit,
+) -> Result<Lit, GateError>
     requires first { IsIn gates.old a }
     requires second { IsIn gates.old b }
     ensures built { IfOk result (λ l. connected_of connective a b gates.old ≡ (l, gates.new)) }

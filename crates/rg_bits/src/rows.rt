@@ -30,7 +30,13 @@ pub enum Test {
 
 /// The carry out of a bit, where `x` is the exclusive or of `a` and `b`.
 #[tactic(auto, using(crate::proofs::Steps::steps), unfolding(crate::specs::Rows::carry_of))]
-fn carry_out<T: Table>(gates: &mut Gates<T>, a: Lit, b: Lit, x: Lit, carry: Lit) -> Result<Lit, GateError>
+fn carry_out<T: Table>(
+    gates: &mut Gates<T>,
+    a: Lit,
+    b: Lit,
+    x: Lit,
+    carry: Lit,
+) -> Result<Lit, GateError>
     requires first { IsIn gates.old a }
     requires second { IsIn gates.old b }
     requires either { IsIn gates.old x }
@@ -97,7 +103,12 @@ fn sum_bit<T: Table>(
 
 /// One bit of an operation bit by bit.
 #[tactic(auto, using(crate::proofs::Steps::steps), unfolding(crate::specs::Rows::bit_of))]
-fn operate_bit<T: Table>(gates: &mut Gates<T>, operation: BitOperation, a: Lit, b: Lit) -> Result<Lit, GateError>
+fn operate_bit<T: Table>(
+    gates: &mut Gates<T>,
+    operation: BitOperation,
+    a: Lit,
+    b: Lit,
+) -> Result<Lit, GateError>
     requires first { IsIn gates.old a }
     requires second { IsIn gates.old b }
     requires operation { IsOperationIn gates.old operation }
@@ -116,7 +127,13 @@ fn operate_bit<T: Table>(gates: &mut Gates<T>, operation: BitOperation, a: Lit, 
 
 /// One bit of a test.
 #[tactic(auto, using(crate::proofs::Steps::steps), unfolding(crate::specs::Rows::test_bit_of))]
-fn test_bit<T: Table>(gates: &mut Gates<T>, test: Test, a: Lit, b: Lit, so_far: Lit) -> Result<Lit, GateError>
+fn test_bit<T: Table>(
+    gates: &mut Gates<T>,
+    test: Test,
+    a: Lit,
+    b: Lit,
+    so_far: Lit,
+) -> Result<Lit, GateError>
     requires first { IsIn gates.old a }
     requires second { IsIn gates.old b }
     requires so_far { IsIn gates.old so_far }
