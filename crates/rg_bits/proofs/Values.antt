@@ -1,5 +1,5 @@
 -- the states that values stand for
-use Rattle.std.proofs.Common.{◌≡◌, ℕ, zero, suc, ◌+◌, ◌-◌, ◌*◌, ◌/◌, ◌%◌, ◌^◌, ◌<◌, ◌≤◌, Bool, true, false, cond, nat_eq, List, [], ◌∷◌, ◌++◌, length, get_or, map, set, All, take, drop, ⊎_elim, refl, sym, ap, ◌∙◌, arith, subst, drop-cons, length-drop, drop-drop}
+use Rattle.std.proofs.Common.{◌≡◌, ℕ, zero, suc, ◌+◌, ◌-◌, ◌*◌, ◌/◌, ◌%◌, ◌^◌, ◌<◌, ◌≤◌, Bool, true, false, cond, nat_eq, List, [], ◌∷◌, ◌++◌, length, get_or, map, set, All, take, drop, ⊎_elim, refl, sym, ap, ◌∙◌, arith, subst, drop-cons, length-append, length-drop, drop-drop}
 use Rattle.std.proofs.Math.Nat.{pow-le-pow_right}
 use Rattle.std.proofs.Math.Seq.{take-add}
 use Rattle.std.proofs.lemmas.Bool.{cases_lt}
@@ -204,3 +204,32 @@ bits_law c v h =
     let b = second_width c.second c.words in
     ap (λ bits. bits ++ second_bits c.second c.words (second_of c v)) (state_bits_are v 0 c.words (omega arith))
     ∙ ap (λ bits. take a v ++ bits) (second_bits_are c.second v c.words h) ∙ sym (take-add a b v)
+
+-- how many bits states have
+length-number_bits : (w n : ℕ) → length (number_bits w n) ≡ w
+length-number_bits zero n = refl
+length-number_bits (suc w) n = ap suc (length-number_bits w (n / 2))
+
+length-state_bits : (words : List Word) (s : List ℕ) → IsState words s → length (state_bits words s) ≡ total_width words
+length-state_bits [] [] is = refl
+length-state_bits [] (x ∷ s) is = absurd is
+length-state_bits (w ∷ words) [] is = absurd is
+length-state_bits (w ∷ words) (x ∷ s) is = omega (arith, length-append (number_bits w.width x) (state_bits words s), length-number_bits w.width x, length-state_bits words s is.1, total_cons w words)
+
+length-own_bits : (f : Bool) (w x : ℕ) → length (cond f [] (number_bits w x)) ≡ cond f 0 w
+length-own_bits true w x = refl
+length-own_bits false w x = length-number_bits w x
+
+length-free_bits : (words : List Word) (t : List ℕ) → IsState words t → length (free_bits words t) ≡ free_width words
+length-free_bits [] [] is = refl
+length-free_bits [] (x ∷ t) is = absurd is
+length-free_bits (w ∷ words) [] is = absurd is
+length-free_bits (w ∷ words) (x ∷ t) is = omega (arith, length-append (cond w.fixed [] (number_bits w.width x)) (free_bits words t), length-own_bits w.fixed w.width x, length-free_bits words t is.1, free_cons w words)
+
+length-second_bits : (second : SecondState) (words : List Word) (t : List ℕ) → IsState words t → length (second_bits second words t) ≡ second_width second words
+length-second_bits same words t is = refl
+length-second_bits (after as_) words t is = refl
+length-second_bits free words t is = length-free_bits words t is
+
+pub length-input_bits : (c : Claim) (s t : List ℕ) → IsState c.words s → IsState c.words t → length (input_bits c s t) ≡ inputs_of c
+length-input_bits c s t one two = omega (arith, length-append (state_bits c.words s) (second_bits c.second c.words t), length-state_bits c.words s one, length-second_bits c.second c.words t two)
