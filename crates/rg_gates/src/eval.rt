@@ -13,7 +13,8 @@ impl<T: Table> Gates<T> {
         ensures values { IfOk result (λ values. AreValues self.now values.items) }
         ensures inputs { IfOk result (λ values. take self.now.inputs values.items ≡ inputs.now) }
     {
-        let mut values = Vec::from_slice(alloc, inputs)?;
+        let mut values = Vec::with_capacity(alloc, self.variables() as usize)?;
+        values.extend_from_slice(inputs)?;
         for gate in self.table.as_slice() {
             let value = gate_value(&values, *gate);
             values.push(value)?;
