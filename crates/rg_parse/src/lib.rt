@@ -1,4 +1,10 @@
 //! The parser: from tokens to typed trees, or the first fault.
 #![tactic(auto)]
 
+pub mod build;
+pub mod parse;
+pub mod point;
+pub mod shape;
 pub mod syntax;
+#[cfg(test)]
+mod tests;
