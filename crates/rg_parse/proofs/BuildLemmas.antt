@@ -2,10 +2,7 @@
 use Rattle.std.proofs.Common.{◌≡◌, ℕ, ◌+◌, ◌<◌, ◌≤◌, List, [], ◌∷◌, ◌++◌, map, length, take, get_or, Option, Some, None, IsSomeAnd, option_map, refl, sym, ap, ◌∙◌}
 use Rattle.std.proofs.lemmas.List.{take_more, take_all, map-append}
 use Rattle.rg_text.specs.declared.token.Token.{Token}
-use Rattle.rg_parse.specs.Grammar.{Lexeme, FormulaText, formula, lexeme_of, lexeme_as, kind_of}
-use Rattle.rg_text.specs.Text.{Leaf, leaf_of}
-use Rattle.rg_text.specs.declared.kind.Kind.{Kind}
-use Rattle.rg_text.specs.declared.kind.Kind.TheVariants.{Name, Primed, Number, Fixed}
+use Rattle.rg_parse.specs.Grammar.{Lexeme, FormulaText, formula, lexeme_of}
 use Rattle.rg_parse.specs.Syntax.{Claim, claim}
 use Rattle.rg_parse.specs.Frames.{Open, whole}
 use Rattle.rg_parse.specs.declared.syntax.Formula.{Formula}
@@ -31,17 +28,3 @@ some_claim src (Some r) x h = cc
 pub built_whole : (src : List ℕ) (f : FormulaText) (ts : List Token) (i : ℕ) (os : List Open) (built : Option Formula) → map (lexeme_of src) ts ≡ formula f [] → length ts ≤ i → steps (whole ∷ []) (map (lexeme_of src) (take i ts)) ≡ os → option_map (claim src) built ≡ whole_of os → IsSomeAnd built (λ r. claim src r ≡ claim_of f)
 built_whole src f ts i os built e long ran told =
     some_claim src built (claim_of f) (told ∙ ap whole_of (sym ran) ∙ ap (λ xs. whole_of (steps (whole ∷ []) (map (lexeme_of src) xs))) (take_all i ts long) ∙ ap (λ ls. whole_of (steps (whole ∷ []) ls)) e ∙ ap whole_of (builds_claim f (whole ∷ []) []))
-
--- the kinds of the tokens are those that the grammar sees
-pub kinds_same : (src : List ℕ) (ts : List Token) → map kind_of (map (lexeme_of src) ts) ≡ map (λ t. t.kind) ts
-kinds_same src [] = refl
-kinds_same src (t ∷ ts) = both (kind_is t.kind (leaf_of src t)) (kinds_same src ts)
-  where
-    kind_is : (k : Kind) (leaf : Leaf) → kind_of (lexeme_as k leaf) ≡ k
-    kind_is Name leaf = refl
-    kind_is Primed leaf = refl
-    kind_is Number leaf = refl
-    kind_is (Fixed t) leaf = refl
-
-    both : {x y : Kind} {xs ys : List Kind} → x ≡ y → xs ≡ ys → x ∷ xs ≡ y ∷ ys
-    both p q = cc

@@ -1,16 +1,20 @@
--- The grammar of formulas and expressions: each way to write one, and its tokens.
-use Rattle.std.specs.Prelude.{◌≡◌, ℕ, Bool, List, [], ◌∷◌, ◌++◌}
+-- The grammar: each way to write a text, and its tokens.
+use Rattle.std.specs.Prelude.{◌≡◌, ℕ, Bool, true, false, List, [], ◌∷◌, ◌++◌}
 use Rattle.rg_text.specs.Text.{Leaf, leaf_of}
 use Rattle.rg_text.specs.declared.token.Token.{Token}
 use Rattle.rg_text.specs.declared.kind.Kind.{Kind}
 use Rattle.rg_text.specs.declared.kind.Kind.TheVariants.{Name, Primed, Number, Fixed}
 use Rattle.rg_text.specs.declared.kind.Terminal.{Terminal}
-use Rattle.rg_text.specs.declared.kind.Terminal.TheVariants.{Open, Close, Compare, Operate, ShiftBy, Join, Imply, Truth, Not, Inv, If, Then, Else}
+use Rattle.rg_text.specs.declared.kind.Terminal.TheVariants.{Open, Close, Colon, Words, Show, Section, Compare, Operate, ShiftBy, Join, Imply, Truth, Not, Inv, If, Then, Else}
 use Rattle.rg_words.specs.declared.operators.Comparison.{Comparison}
 use Rattle.rg_words.specs.declared.operators.Operator.{Operator}
 use Rattle.rg_words.specs.declared.operators.Shift.{Shift}
 use Rattle.rg_text.specs.declared.kind.Junction.{Junction}
 use Rattle.rg_text.specs.declared.kind.Conditional.{Conditional}
+use Rattle.rg_text.specs.declared.kind.Keyword.TheVariants as keywords
+use Rattle.rg_parse.specs.Syntax.{DeclaredWord}
+use Rattle.rg_parse.specs.declared.point.TextKind.{TextKind}
+use Rattle.rg_parse.specs.declared.point.TextKind.TheVariants as texts
 
 -- a token as the grammar sees it: a keyword or symbol, or a name or number with its text and line
 pub data Lexeme : Type 0 where
@@ -79,10 +83,45 @@ abbrev mutual
   expression (shift s a leaf) rest = fixed Open ∷ expression a (fixed (ShiftBy s) ∷ number leaf ∷ fixed Close ∷ rest)
   expression (choice f a b) rest = fixed Open ∷ fixed If ∷ formula f (fixed Then ∷ expression a (fixed Else ∷ expression b (fixed Close ∷ rest)))
 
--- the tokens spell a formula
-abbrev pub IsFormula : List Lexeme → Type 0
-IsFormula tokens = (f : FormulaText) × (tokens ≡ formula f [])
+-- the ways to write a declaration of words
+pub data WordsText : Type 0 where
+  one : DeclaredWord → WordsText
+  more : WordsText → DeclaredWord → WordsText
 
--- a formula may begin with these tokens
-abbrev pub BeginsFormula : List Lexeme → Type 0
-BeginsFormula tokens = (f : FormulaText) × (rest : List Lexeme) × (formula f [] ≡ tokens ++ rest)
+-- the ways to write a formula that is shown over declared words
+pub record ShowSpelling : Type 0 where
+  pub words : WordsText
+  pub formula : FormulaText
+
+-- the keyword of a fixed word, and then the rest
+abbrev pub marked : Bool → List Lexeme → List Lexeme
+marked true rest = fixed (Section keywords.Fixed) ∷ rest
+marked false rest = rest
+
+abbrev pub declaration : DeclaredWord → List Lexeme → List Lexeme
+declaration w rest = marked w.fixed (name w.name ∷ fixed Colon ∷ number w.width ∷ rest)
+
+abbrev pub words : WordsText → List Lexeme → List Lexeme
+words (one w) rest = fixed Words ∷ declaration w rest
+words (more ws w) rest = words ws (declaration w rest)
+
+abbrev pub show : ShowSpelling → List Lexeme → List Lexeme
+show s rest = words s.words (fixed Show ∷ formula s.formula rest)
+
+-- the ways to write a text of this kind
+abbrev pub Spelling : TextKind → Type 0
+Spelling texts.Formula = FormulaText
+Spelling texts.Show = ShowSpelling
+
+-- its tokens, and then the rest
+abbrev pub spelled : (k : TextKind) → Spelling k → List Lexeme → List Lexeme
+spelled texts.Formula f rest = formula f rest
+spelled texts.Show s rest = show s rest
+
+-- the tokens spell a text of this kind
+abbrev pub IsText : TextKind → List Lexeme → Type 0
+IsText k tokens = (s : Spelling k) × (tokens ≡ spelled k s [])
+
+-- a text of this kind may begin with these tokens
+abbrev pub BeginsText : TextKind → List Lexeme → Type 0
+BeginsText k tokens = (s : Spelling k) × (rest : List Lexeme) × (spelled k s [] ≡ tokens ++ rest)

@@ -2,9 +2,6 @@
 #![tactic(auto)]
 
 pub mod build;
-pub mod parse;
 pub mod point;
 pub mod shape;
 pub mod syntax;
-#[cfg(test)]
-mod tests;

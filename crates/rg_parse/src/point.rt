@@ -1,15 +1,19 @@
 //! Where a parse stands: what has been read of each open pair of parentheses.
 
-ghost use Rattle.std.specs.Prelude.{◌≡◌};
-ghost use Rattle.rg_parse.specs.Machine.{has, takes, is_prefix, resume, turn, at_compare, at_operate, at_shift, at_join, at_imply, at_close, at_if, at_then, at_else, at_number, operand_of, start_of, is_opener, is_join, has_room};
+ghost use Rattle.std.specs.Prelude.{◌≡◌, ◌∷◌, []};
+ghost use Rattle.rg_parse.specs.Machine.{has, start, takes, is_prefix, resume, turn, at_compare, at_operate, at_shift, at_join, at_imply, at_close, at_if, at_then, at_else, at_number, at_name, at_colon, at_words, at_show, at_section, operand_of, start_of, is_opener, is_join, begins_word, has_operand_left, has_room_at};
 
-use rg_text::kind::{Junction, Kind, Terminal};
+use rg_text::kind::{Junction, Keyword, Kind, Terminal};
+use rg_words::limits::{MOST_OPERANDS, MOST_WORDS};
 
-/// At most so many openers are open around an opener.
-pub const MAX_OPEN: usize = 200;
-
-/// At most so many operands stand in a chain.
-pub const MAX_OPERANDS: u8 = 64;
+/// A kind of text.
+#[derive(Clone, Copy, Debug, PartialEq, Eq)]
+pub enum TextKind {
+    /// A formula alone.
+    Formula,
+    /// Declared words, and a formula to show.
+    Show,
+}
 
 /// A formula or an expression.
 #[derive(Clone, Copy, Debug, PartialEq, Eq)]
@@ -49,6 +53,13 @@ pub enum Point {
     Closing(Sort),
     AfterCondition,
     AfterConsequent,
+    // Declared words; each counts them with the one that is being read.
+    ShowStart,
+    FirstWord,
+    FixedWord(u8),
+    NamedWord(u8),
+    WordWidth(u8),
+    AfterWord(u8),
 }
 
 /// How a token may begin an item.
@@ -66,6 +77,18 @@ pub enum Turn {
     On(Point),
     Inside(Point, Point),
     Closed(Sort),
+}
+
+impl TextKind {
+    /// The place before a text of this kind.
+    pub fn start(self) -> Point
+        ensures { result ∷ [] ≡ start self }
+    {
+        match self {
+            TextKind::Formula => Point::Whole,
+            TextKind::Show => Point::ShowStart,
+        }
+    }
 }
 
 impl Sorts {
@@ -146,11 +169,21 @@ impl Point {
     }
 
     /// Whether a chain may go on here.
-    pub fn has_room(self) -> bool
-        ensures { result ≡ has_room self }
+    pub fn has_operand_left(self) -> bool
+        ensures { result ≡ has_operand_left self }
     {
         match self {
-            Point::AfterNext(_, operands) => operands < MAX_OPERANDS,
+            Point::AfterNext(_, operands) => usize::from(operands) < MOST_OPERANDS,
+            _ => true,
+        }
+    }
+
+    /// Whether the list that is read here has room for what the token begins.
+    pub fn has_room(self, kind: Kind) -> bool
+        ensures { result ≡ has_room_at self kind }
+    {
+        match self {
+            Point::AfterWord(words) if begins_word(kind) => usize::from(words) < MOST_WORDS,
             _ => true,
         }
     }
@@ -160,7 +193,8 @@ impl Point {
         ensures { result ≡ turn self kind }
     {
         match kind {
-            Kind::Name | Kind::Primed => None,
+            Kind::Name => self.at_name(),
+            Kind::Primed => None,
             Kind::Number => self.at_number(),
             Kind::Fixed(terminal) => self.at_terminal(terminal),
         }
@@ -179,6 +213,10 @@ impl Point {
             Terminal::If => self.at_if(),
             Terminal::Then => self.at_then(),
             Terminal::Else => self.at_else(),
+            Terminal::Colon => self.at_colon(),
+            Terminal::Words => self.at_words(),
+            Terminal::Show => self.at_show(),
+            Terminal::Section(keyword) => self.at_section(keyword),
             _ => None,
         }
     }
@@ -279,6 +317,57 @@ impl Point {
     {
         match self {
             Point::Count => Some(Turn::On(Point::Closing(Sort::Expression))),
+            Point::WordWidth(words) => Some(Turn::On(Point::AfterWord(words))),
+            _ => None,
+        }
+    }
+
+    fn at_name(self) -> Option<Turn>
+        ensures { result ≡ at_name self }
+    {
+        match self {
+            Point::FirstWord => Some(Turn::On(Point::NamedWord(1))),
+            Point::FixedWord(words) => Some(Turn::On(Point::NamedWord(words))),
+            Point::AfterWord(words) => Some(Turn::On(Point::NamedWord(words.saturating_add(1)))),
+            _ => None,
+        }
+    }
+
+    fn at_colon(self) -> Option<Turn>
+        ensures { result ≡ at_colon self }
+    {
+        match self {
+            Point::NamedWord(words) => Some(Turn::On(Point::WordWidth(words))),
+            _ => None,
+        }
+    }
+
+    fn at_words(self) -> Option<Turn>
+        ensures { result ≡ at_words self }
+    {
+        match self {
+            Point::ShowStart => Some(Turn::On(Point::FirstWord)),
+            _ => None,
+        }
+    }
+
+    fn at_show(self) -> Option<Turn>
+        ensures { result ≡ at_show self }
+    {
+        match self {
+            Point::AfterWord(_) => Some(Turn::On(Point::Whole)),
+            _ => None,
+        }
+    }
+
+    fn at_section(self, keyword: Keyword) -> Option<Turn>
+        ensures { result ≡ at_section self keyword }
+    {
+        match (self, keyword) {
+            (Point::FirstWord, Keyword::Fixed) => Some(Turn::On(Point::FixedWord(1))),
+            (Point::AfterWord(words), Keyword::Fixed) => {
+                Some(Turn::On(Point::FixedWord(words.saturating_add(1))))
+            }
             _ => None,
         }
     }
@@ -315,6 +404,16 @@ pub fn is_opener(kind: Kind) -> bool
     matches!(
         kind,
         Kind::Fixed(Terminal::Open | Terminal::Not | Terminal::Inv | Terminal::If)
+    )
+}
+
+/// Whether the token begins the declaration of a word.
+pub fn begins_word(kind: Kind) -> bool
+    ensures { result ≡ begins_word kind }
+{
+    matches!(
+        kind,
+        Kind::Name | Kind::Fixed(Terminal::Section(Keyword::Fixed))
     )
 }
 

@@ -1,20 +1,32 @@
-//! The shape of a text: whether its tokens are those of a formula, and else the first that isn't.
+//! The shape of a text: whether its tokens are those of its grammar, and else the first that can't be.
 
-ghost use Rattle.std.specs.Prelude.{◌≡◌, ℕ, List, [], ◌∷◌, map, reverse, cond, Some, None, IfOk, OnOk};
-ghost use Rattle.rg_parse.specs.Grammar.{Lexeme, kind_of};
-ghost use Rattle.rg_parse.specs.Machine.{complete, after_turn, next, allowed, is_at_end};
+ghost use Rattle.std.specs.Prelude.{◌≡◌, ℕ, List, [], ◌∷◌, map, reverse, cond, Some, None, IfOk, IfErr, OnOk};
+ghost use Rattle.rg_parse.specs.Grammar.{lexeme_of};
+ghost use Rattle.rg_parse.specs.Machine.{complete, after_turn, next, is_shallow, has_room, is_at_end};
+ghost use Rattle.rg_parse.specs.Limits.{IsTextWithin};
 ghost use Rattle.rg_parse.specs.Shape.{ShapeIs};
+ghost use Rattle.rg_parse.specs.declared.shape.ShapeFault.TheVariants.{Memory};
 
-use crate::point::{MAX_OPEN, Point, Sort, Start, Turn, is_join, is_opener, operand_of, start_of};
+use crate::point::{Point, Sort, Start, TextKind, Turn, is_join, is_opener, operand_of, start_of};
 use rg_text::kind::Kind;
+use rg_text::token::Token;
+use rg_words::limits::MOST_OPENERS;
 use std::alloc::{AllocError, AllocFailed, Global};
 
-/// Why the tokens aren't those of a formula, with the place of the token in the list.
+/// Why the tokens aren't those of a text. A place in the list of tokens counts from 0.
 #[derive(Debug, Drop)]
 pub enum ShapeFault {
+    /// Memory was refused.
     Memory,
+    /// The first token such that the tokens up to it begin no text, limits aside.
     Unexpected(usize),
+    /// The first token such that the tokens up to it begin no text within the limits of depth:
+    /// an opener inside too many others, or the connective before one operand too many.
     TooDeep(usize),
+    /// The first token such that the tokens up to it begin no text within the limits of lists:
+    /// the first token of one word too many.
+    TooMany(usize),
+    /// The tokens begin a text and aren't a whole one.
     Unfinished,
 }
 
@@ -105,19 +117,29 @@ fn next(points: &mut Vec<Point>, kind: Kind) -> Result<bool, AllocError>
     }
 }
 
-/// Whether the limits let the token stand here.
-fn is_allowed(points: &[Point], kind: Kind) -> bool
-    ensures { result ≡ allowed (reverse points.now) kind }
+/// Whether the limits of depth let the token stand here.
+fn is_shallow(points: &[Point], kind: Kind) -> bool
+    ensures { result ≡ is_shallow (reverse points.now) kind }
 {
     let Some((last, others)) = points.split_last() else {
         return true;
     };
     if is_opener(kind) {
-        others.len() < MAX_OPEN
+        others.len() < MOST_OPENERS
     } else if is_join(kind) {
-        last.has_room()
+        last.has_operand_left()
     } else {
         true
+    }
+}
+
+/// Whether the limits of lists let the token stand here.
+fn has_room(points: &[Point], kind: Kind) -> bool
+    ensures { result ≡ has_room (reverse points.now) kind }
+{
+    match points.split_last() {
+        Some((last, _)) => last.has_room(kind),
+        None => true,
     }
 }
 
@@ -131,19 +153,24 @@ fn is_at_end(points: &[Point]) -> bool
     }
 }
 
-/// Whether the tokens are those of a formula within the limits, and else the first fault.
-pub fn shape(alloc: Global, kinds: &[Kind]) -> Result<(), ShapeFault>
-    ensures { (tokens : List Lexeme) → map kind_of tokens ≡ kinds.now → ShapeIs tokens result }
+/// Whether the tokens are those of a text of this kind within the limits, and else the first fault.
+pub fn shape(alloc: Global, text: TextKind, tokens: &[Token]) -> Result<(), ShapeFault>
+    ensures answers { (src : List ℕ) → ShapeIs text (map (lexeme_of src) tokens.now) result }
+    ensures accepts { (src : List ℕ) → IsTextWithin text (map (lexeme_of src) tokens.now) → IfErr result (λ e. e ≡ Memory) }
 {
     let mut points = Vec::new(alloc);
-    points.push(Point::Whole)?;
-    for (i, kind) in kinds.iter().enumerate() {
-        let allowed = is_allowed(&points, *kind);
-        if !next(&mut points, *kind)? {
+    points.push(text.start())?;
+    for (i, token) in tokens.iter().enumerate() {
+        let shallow = is_shallow(&points, token.kind);
+        let room = has_room(&points, token.kind);
+        if !next(&mut points, token.kind)? {
             return Err(ShapeFault::Unexpected(i));
         }
-        if !allowed {
+        if !shallow {
             return Err(ShapeFault::TooDeep(i));
+        }
+        if !room {
+            return Err(ShapeFault::TooMany(i));
         }
     }
     if !is_at_end(&points) {
