@@ -1,13 +1,14 @@
 -- What an item does to the open parts of the leaf around it.
-use Rattle.std.specs.Prelude.{Bool, true, false, cond, List, [], ◌∷◌, Option, Some, None}
+use Rattle.std.specs.Prelude.{Bool, true, false, cond, List, [], ◌∷◌, ◌++◌, Option, Some, None}
 use Rattle.rg_text.specs.declared.kind.Terminal.{Terminal}
 use Rattle.rg_text.specs.declared.kind.Terminal.TheVariants as terminals
+use Rattle.rg_text.specs.declared.kind.Keyword.TheVariants as keywords
 use Rattle.rg_text.specs.declared.kind.Junction.{Junction}
-use Rattle.rg_parse.specs.Grammar.{Lexeme, FormulaText, ChainText, ExpressionText}
+use Rattle.rg_parse.specs.Grammar.{Lexeme, FormulaText, ChainText, ExpressionText, WordsText, ShowSpelling}
 use Rattle.rg_parse.specs.Grammar as grammar
 use Rattle.rg_text.specs.Text.{Leaf}
-use Rattle.rg_parse.specs.Syntax.{Term, Claim, number, word, next_word, inverse, binary, shifted, choice, truth, negation, joined, implied, compared}
-use Rattle.rg_parse.specs.Frames.{Piece, a_claim, a_term, Open, whole, negated, inverted, first, another, second, comparing, operating, chosen, condition, consequent, alternative, finished, after_claim, after_term, after_next, counted, closing, after_condition, after_consequent}
+use Rattle.rg_parse.specs.Syntax.{Term, Claim, number, word, next_word, inverse, binary, shifted, choice, truth, negation, joined, implied, compared, DeclaredWord, ShownClaim}
+use Rattle.rg_parse.specs.Frames.{Piece, a_claim, a_term, Open, whole, negated, inverted, first, another, second, comparing, operating, chosen, condition, consequent, alternative, finished, after_claim, after_term, after_next, counted, closing, after_condition, after_consequent, declaring, declared, showing, finished_show}
 
 -- the open parts, the innermost first, after a whole item; where it may not stand nothing changes
 abbrev pub with_claim : List Open → Claim → List Open
@@ -18,6 +19,7 @@ with_claim (first ∷ os) f = after_claim f ∷ os
 with_claim (another j g ∷ os) f = after_next j (joined j g f) ∷ os
 with_claim (second d g ∷ os) f = closing (a_claim (implied d g f)) ∷ os
 with_claim (condition ∷ os) f = after_condition f ∷ os
+with_claim (showing ws ∷ os) f = finished_show ws f ∷ os
 with_claim (o ∷ os) f = o ∷ os
 
 abbrev pub with_term : List Open → Term → List Open
@@ -69,6 +71,11 @@ abbrev pub after_a_consequent : Terminal → Claim → Term → Open
 after_a_consequent terminals.Else f a = alternative f a
 after_a_consequent _ f a = after_consequent f a
 
+abbrev pub after_declarations : Terminal → List DeclaredWord → Bool → Open
+after_declarations (terminals.Section keywords.Fixed) ws b = declaring ws true
+after_declarations terminals.Show ws b = showing ws
+after_declarations _ ws b = declaring ws b
+
 abbrev pub between : Terminal → List Open → List Open
 between t [] = []
 between t (after_claim f ∷ os) = after_a_claim t f ∷ os
@@ -76,6 +83,7 @@ between t (after_term a ∷ os) = after_a_term t a ∷ os
 between t (after_next j f ∷ os) = after_an_operand t j f ∷ os
 between t (after_condition f ∷ os) = after_a_condition t f ∷ os
 between t (after_consequent f a ∷ os) = after_a_consequent t f a ∷ os
+between t (declaring ws b ∷ os) = after_declarations t ws b ∷ os
 between t (o ∷ os) = o ∷ os
 
 abbrev pub on_fixed : Terminal → List Open → List Open
@@ -87,21 +95,32 @@ on_fixed terminals.If os = on_if os
 on_fixed (terminals.Truth b) os = with_claim os (truth b)
 on_fixed t os = between t os
 
-abbrev pub is_counting : List Open → Bool
-is_counting (counted s a ∷ os) = true
-is_counting [] = true
-is_counting _ = false
+-- where a name or a number is no expression
+abbrev pub is_apart : List Open → Bool
+is_apart (counted s a ∷ os) = true
+is_apart (declaring ws b ∷ os) = true
+is_apart (declared ws b n ∷ os) = true
+is_apart [] = true
+is_apart _ = false
 
-abbrev pub count : List Open → Leaf → List Open
-count (counted s a ∷ os) leaf = closing (a_term (shifted s a leaf)) ∷ os
-count os leaf = os
+abbrev pub with_name : List Open → Leaf → List Open
+with_name (declaring ws b ∷ os) leaf = declared ws b leaf ∷ os
+with_name os leaf = os
+
+abbrev pub on_name : List Open → Leaf → List Open
+on_name os leaf = cond (is_apart os) (with_name os leaf) (with_term os (word leaf))
+
+abbrev pub with_number : List Open → Leaf → List Open
+with_number (counted s a ∷ os) leaf = closing (a_term (shifted s a leaf)) ∷ os
+with_number (declared ws b n ∷ os) leaf = declaring (ws ++ record { fixed = b; name = n; width = leaf } ∷ []) false ∷ os
+with_number os leaf = os
 
 abbrev pub on_number : List Open → Leaf → List Open
-on_number os leaf = cond (is_counting os) (count os leaf) (with_term os (number leaf))
+on_number os leaf = cond (is_apart os) (with_number os leaf) (with_term os (number leaf))
 
 abbrev pub step : List Open → Lexeme → List Open
 step os (grammar.fixed t) = on_fixed t os
-step os (grammar.name leaf) = with_term os (word leaf)
+step os (grammar.name leaf) = on_name os leaf
 step os (grammar.primed leaf) = with_term os (next_word leaf)
 step os (grammar.number leaf) = on_number os leaf
 
@@ -113,6 +132,11 @@ steps os (l ∷ ls) = steps (step os l) ls
 abbrev pub whole_of : List Open → Option Claim
 whole_of (finished f ∷ os) = Some f
 whole_of _ = None
+
+-- the words and the formula, where nothing else is open
+abbrev pub whole_show_of : List Open → Option ShownClaim
+whole_show_of (finished_show ws f ∷ os) = Some (record { words = ws; formula = f })
+whole_show_of _ = None
 
 -- what a way to write a formula says
 abbrev mutual
@@ -135,3 +159,12 @@ abbrev mutual
   term_of (grammar.operation o a b) = binary o (term_of a) (term_of b)
   term_of (grammar.shift s a leaf) = shifted s (term_of a) leaf
   term_of (grammar.choice f a b) = choice (claim_of f) (term_of a) (term_of b)
+
+-- the words that are declared, in their order
+abbrev pub declared_words : WordsText → List DeclaredWord
+declared_words (grammar.one w) = w ∷ []
+declared_words (grammar.more ws w) = declared_words ws ++ w ∷ []
+
+-- what a way to write a text to show says
+abbrev pub shown_claim : ShowSpelling → ShownClaim
+shown_claim s = record { words = declared_words s.words; formula = claim_of s.formula }

@@ -1,11 +1,12 @@
 -- The open parts of a text, without where they lie in memory.
-use Rattle.std.specs.Prelude.{ℕ, List}
+use Rattle.std.specs.Prelude.{ℕ, Bool, List, map}
 use Rattle.rg_words.specs.declared.operators.Comparison.{Comparison}
 use Rattle.rg_words.specs.declared.operators.Operator.{Operator}
 use Rattle.rg_words.specs.declared.operators.Shift.{Shift}
 use Rattle.rg_text.specs.declared.kind.Junction.{Junction}
 use Rattle.rg_text.specs.declared.kind.Conditional.{Conditional}
-use Rattle.rg_parse.specs.Syntax.{Term, Claim, term, claim}
+use Rattle.rg_text.specs.Text.{Leaf, leaf_of}
+use Rattle.rg_parse.specs.Syntax.{Term, Claim, DeclaredWord, term, claim, declared_word}
 use Rattle.rg_parse.specs.declared.build.Item.{Item}
 use Rattle.rg_parse.specs.declared.build.Item.TheVariants as items
 use Rattle.rg_parse.specs.declared.build.Frame.{Frame}
@@ -42,6 +43,10 @@ pub data Open : Type 0 where
   closing : Piece → Open
   after_condition : Claim → Open
   after_consequent : Claim → Term → Open
+  declaring : List DeclaredWord → Bool → Open
+  declared : List DeclaredWord → Bool → Leaf → Open
+  showing : List DeclaredWord → Open
+  finished_show : List DeclaredWord → Claim → Open
 
 abbrev pub open_of : List ℕ → Frame → Open
 open_of src frames.Whole = whole
@@ -64,3 +69,7 @@ open_of src (frames.Counted s a) = counted s (term src a)
 open_of src (frames.Closing x) = closing (piece src x)
 open_of src (frames.AfterCondition f) = after_condition (claim src f)
 open_of src (frames.AfterConsequent f a) = after_consequent (claim src f) (term src a)
+open_of src (frames.Declaring ws b) = declaring (map (declared_word src) ws.items) b
+open_of src (frames.Declared ws b n) = declared (map (declared_word src) ws.items) b (leaf_of src n)
+open_of src (frames.Showing ws) = showing (map (declared_word src) ws.items)
+open_of src (frames.ShowEnd ws f) = finished_show (map (declared_word src) ws.items) (claim src f)

@@ -1,14 +1,14 @@
 //! The tree of a formula, built token by token.
 
 ghost use Rattle.std.specs.Prelude.{◌≡◌, ℕ, List, [], ◌∷◌, ◌++◌, map, reverse, OnOk, IfOk, IsSomeAnd, option_map};
-ghost use Rattle.rg_parse.specs.Syntax.{claim, term};
+ghost use Rattle.rg_parse.specs.Syntax.{claim, term, show_text};
 ghost use Rattle.rg_parse.specs.Frames.{open_of, piece};
 ghost use Rattle.rg_text.specs.Text.{leaf_of};
-ghost use Rattle.rg_parse.specs.Grammar.{FormulaText, formula, lexeme_of};
-ghost use Rattle.rg_parse.specs.Build.{with_claim, with_term, with_piece, close, on_if, between, on_fixed, on_number, step, steps, claim_of, whole_of};
+ghost use Rattle.rg_parse.specs.Grammar.{FormulaText, ShowSpelling, formula, show, lexeme_of};
+ghost use Rattle.rg_parse.specs.Build.{with_claim, with_term, with_piece, close, on_if, between, on_fixed, on_name, on_number, step, steps, claim_of, shown_claim, whole_of, whole_show_of};
 
-use crate::syntax::{Expr, Formula};
-use rg_text::kind::{Conditional, Junction, Kind, Terminal};
+use crate::syntax::{Declaration, Expr, Formula, ShowText};
+use rg_text::kind::{Conditional, Junction, Keyword, Kind, Terminal};
 use rg_text::token::Token;
 use rg_words::operators::{Comparison, Operator, Shift};
 use std::alloc::{AllocError, Global};
@@ -43,6 +43,11 @@ pub enum Frame {
     Closing(Item),
     AfterCondition(Formula),
     AfterConsequent(Formula, Expr),
+    /// Words, and whether `fixed` stands before the next.
+    Declaring(Vec<Declaration>, bool),
+    Declared(Vec<Declaration>, bool, Token),
+    Showing(Vec<Declaration>),
+    ShowEnd(Vec<Declaration>, Formula),
 }
 
 /// Takes a whole formula into the parts around it.
@@ -69,6 +74,7 @@ fn take_formula(alloc: Global, frames: &mut Vec<Frame>, formula: Formula) -> Res
             frames.push(Frame::Closing(Item::Formula(whole)))?;
         }
         Some(Frame::Condition) => frames.push(Frame::AfterCondition(formula))?,
+        Some(Frame::Showing(words)) => frames.push(Frame::ShowEnd(words, formula))?,
         Some(other) => frames.push(other)?,
     }
     Ok(())
@@ -176,6 +182,10 @@ fn take_between(frames: &mut Vec<Frame>, terminal: Terminal) -> Result<(), Alloc
         (Some(Frame::AfterConsequent(f, a)), Terminal::Else) => {
             frames.push(Frame::Alternative(f, a))?;
         }
+        (Some(Frame::Declaring(words, _)), Terminal::Section(Keyword::Fixed)) => {
+            frames.push(Frame::Declaring(words, true))?;
+        }
+        (Some(Frame::Declaring(words, _)), Terminal::Show) => frames.push(Frame::Showing(words))?,
         (Some(other), _) => frames.push(other)?,
     }
     Ok(())
@@ -202,7 +212,25 @@ fn take_terminal(
     Ok(())
 }
 
-/// Takes a number, which is an expression or counts the bits of a shift.
+/// Takes a name, which is an expression or declares a word.
+fn take_name(alloc: Global, frames: &mut Vec<Frame>, token: Token) -> Result<(), AllocError>
+    ensures { (src : List ℕ) → OnOk result (map (open_of src) (reverse frames.new.items)
+        ≡ on_name (map (open_of src) (reverse frames.old.items)) (leaf_of src token)) }
+{
+    match frames.pop() {
+        None => {}
+        Some(Frame::Declaring(words, fixed)) => {
+            frames.push(Frame::Declared(words, fixed, token))?;
+        }
+        Some(other) => {
+            frames.push(other)?;
+            take_expression(alloc, frames, Expr::Word(token))?;
+        }
+    }
+    Ok(())
+}
+
+/// Takes a number, which is an expression, counts the bits of a shift or is the width of a word.
 fn take_number(alloc: Global, frames: &mut Vec<Frame>, token: Token) -> Result<(), AllocError>
     ensures { (src : List ℕ) → OnOk result (map (open_of src) (reverse frames.new.items)
         ≡ on_number (map (open_of src) (reverse frames.old.items)) (leaf_of src token)) }
@@ -212,6 +240,15 @@ fn take_number(alloc: Global, frames: &mut Vec<Frame>, token: Token) -> Result<(
         Some(Frame::Counted(shift, value)) => {
             let whole = Expr::Shifted(shift, Box::new(alloc, value)?, token);
             frames.push(Frame::Closing(Item::Expression(whole)))?;
+        }
+        Some(Frame::Declared(words, fixed, name)) => {
+            let mut words = words;
+            words.push(Declaration {
+                fixed,
+                name,
+                width: token,
+            })?;
+            frames.push(Frame::Declaring(words, false))?;
         }
         Some(other) => {
             frames.push(other)?;
@@ -227,7 +264,7 @@ fn take_token(alloc: Global, frames: &mut Vec<Frame>, token: Token) -> Result<()
         ≡ step (map (open_of src) (reverse frames.old.items)) (lexeme_of src token)) }
 {
     match token.kind {
-        Kind::Name => take_expression(alloc, frames, Expr::Word(token))?,
+        Kind::Name => take_name(alloc, frames, token)?,
         Kind::Primed => take_expression(alloc, frames, Expr::NextWord(token))?,
         Kind::Number => take_number(alloc, frames, token)?,
         Kind::Fixed(terminal) => take_terminal(alloc, frames, terminal)?,
@@ -235,17 +272,35 @@ fn take_token(alloc: Global, frames: &mut Vec<Frame>, token: Token) -> Result<()
     Ok(())
 }
 
-/// The tree of a formula, where the tokens spell one.
-pub fn build(alloc: Global, tokens: &[Token]) -> Result<Option<Formula>, AllocError>
-    ensures { (src : List ℕ) (f : FormulaText) → map (lexeme_of src) tokens.now ≡ formula f []
-        → IfOk result (λ built. IsSomeAnd built (λ r. claim src r ≡ claim_of f)) }
+/// The open parts of a text after all its tokens, where this one stands before them.
+fn read(alloc: Global, first: Frame, tokens: &[Token]) -> Result<Vec<Frame>, AllocError>
+    ensures { (src : List ℕ) → IfOk result (λ frames. map (open_of src) (reverse frames.items)
+        ≡ steps (open_of src first ∷ []) (map (lexeme_of src) tokens.now)) }
 {
     let mut frames = Vec::new(alloc);
-    frames.push(Frame::Whole)?;
+    frames.push(first)?;
     for token in tokens {
         take_token(alloc, &mut frames, *token)?;
     }
+    Ok(frames)
+}
+
+/// The tree of a formula, where the tokens spell one.
+pub fn build_formula(alloc: Global, tokens: &[Token]) -> Result<Option<Formula>, AllocError>
+    ensures { (src : List ℕ) (f : FormulaText) → map (lexeme_of src) tokens.now ≡ formula f []
+        → IfOk result (λ built. IsSomeAnd built (λ r. claim src r ≡ claim_of f)) }
+{
+    let mut frames = read(alloc, Frame::Whole, tokens)?;
     Ok(take_whole(&mut frames))
+}
+
+/// The words and the tree of a text to show, where the tokens spell one.
+pub fn build_show(alloc: Global, tokens: &[Token]) -> Result<Option<ShowText>, AllocError>
+    ensures { (src : List ℕ) (s : ShowSpelling) → map (lexeme_of src) tokens.now ≡ show s []
+        → IfOk result (λ built. IsSomeAnd built (λ r. show_text src r ≡ shown_claim s)) }
+{
+    let mut frames = read(alloc, Frame::Declaring(Vec::new(alloc), false), tokens)?;
+    Ok(take_show(&mut frames))
 }
 
 /// The formula, where nothing else is open.
@@ -256,6 +311,21 @@ fn take_whole(frames: &mut Vec<Frame>) -> Option<Formula>
     match frames.pop() {
         None => None,
         Some(Frame::End(formula)) => Some(formula),
+        Some(other) => {
+            discard(other);
+            None
+        }
+    }
+}
+
+/// The words and the formula, where nothing else is open.
+fn take_show(frames: &mut Vec<Frame>) -> Option<ShowText>
+    ensures { (src : List ℕ) → option_map (show_text src) result
+        ≡ whole_show_of (map (open_of src) (reverse frames.old.items)) }
+{
+    match frames.pop() {
+        None => None,
+        Some(Frame::ShowEnd(words, formula)) => Some(ShowText { words, formula }),
         Some(other) => {
             discard(other);
             None
