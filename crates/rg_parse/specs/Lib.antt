@@ -3,5 +3,6 @@ pub mod Frames
 pub mod Grammar
 pub mod Limits
 pub mod Machine
+pub mod Parse
 pub mod Shape
 pub mod Syntax

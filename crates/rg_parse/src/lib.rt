@@ -2,6 +2,7 @@
 #![tactic(auto)]
 
 pub mod build;
+pub mod parse;
 pub mod point;
 pub mod shape;
 pub mod syntax;
