@@ -6,3 +6,6 @@ pub mod Machine
 pub mod Parse
 pub mod Shape
 pub mod Syntax
+pub mod ResolveFaults
+pub mod ResolveTrees
+pub mod ResolveWords

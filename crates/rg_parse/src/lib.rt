@@ -2,7 +2,9 @@
 #![tactic(auto)]
 
 pub mod build;
+pub mod declare;
 pub mod parse;
 pub mod point;
+pub mod resolve;
 pub mod shape;
 pub mod syntax;
