@@ -10,7 +10,7 @@ use Rattle.rg_text.specs.declared.kind.Kind.{Kind}
 use Rattle.rg_text.specs.declared.kind.Kind.TheVariants.{Name, Primed}
 use Rattle.rg_text.specs.declared.token.Token.{Token}
 use Rattle.rg_text.specs.Spelling.{kind_of_text}
-use Rattle.rg_text.specs.Text.{text_of}
+use Rattle.rg_text.specs.Text.{text_of, unprimed}
 
 -- space, tab, CR or LF
 abbrev pub is_white_space : ℕ → Bool
@@ -68,10 +68,6 @@ pub record IsBadByte (source : List ℕ) (place : ℕ) : Type 0 where
   pub gap : gap_end source to ≡ place
   pub byte : place < length source
   pub bad : BeginsNoToken (drop place source)
-
--- all but the last byte
-abbrev pub unprimed : List ℕ → List ℕ
-unprimed text = take (length text - 1) text
 
 -- what each token says of itself: its span, its kind and its line; a name may be declared, and without its prime a primed one
 pub record IsTokenOf (source : List ℕ) (t : Token) : Type 0 where
