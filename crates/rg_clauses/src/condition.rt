@@ -16,8 +16,7 @@ ghost use Rattle.rg_clauses.specs.Conditions.{clauses_of_claim, CanFail};
 mod tests;
 
 use crate::Clauses;
-use rg_bits::condition::formula;
-use rg_bits::inputs::inputs;
+use rg_bits::{formula, inputs};
 use rg_gates::{GateError, Gates, Table};
 use rg_tree::condition::Condition;
 use rg_words::{Place, Refusal, RefusalNumber, SourceFile};

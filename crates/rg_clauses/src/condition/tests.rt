@@ -9,8 +9,7 @@ ghost use Rattle.rg_tree.specs.Conditions.{claim};
 
 use super::clauses_over;
 use crate::Clauses;
-use rg_bits::inputs::inputs;
-use rg_bits::states::states;
+use rg_bits::{inputs, states};
 use rg_gates::Gates;
 use rg_tree::condition::{Assign, Condition, Second};
 use rg_tree::tree::{Expr, Formula};
