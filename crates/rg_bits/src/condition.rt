@@ -16,7 +16,7 @@ ghost use Rattle.rg_bits.specs.Conditions.{hypothesis_of, assign_of, same_word_o
 ghost use Rattle.rg_words.specs.States.{IsState, AgreeOnFixed};
 
 use crate::expression::{build_literal, build_row};
-use crate::inputs::{first_state, free_state};
+use crate::input_rows::{first_state, free_state};
 use crate::literals::or;
 use crate::operations::compare;
 use rg_gates::{GateError, Gates, Lit, Table};

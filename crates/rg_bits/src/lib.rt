@@ -1,10 +1,14 @@
-//! AND gates for formulas over words.
+//! Conditions over words as AND gates: the literal that is true where a condition holds.
 #![tactic(auto)]
 
-pub mod condition;
-pub mod expression;
-pub mod inputs;
-pub mod literals;
-pub mod operations;
-pub mod rows;
-pub mod states;
+mod condition;
+mod decode;
+mod expression;
+mod input_rows;
+mod literals;
+mod operations;
+mod rows;
+
+pub use condition::formula;
+pub use decode::states;
+pub use input_rows::inputs;

@@ -12,9 +12,11 @@ ghost use Rattle.rg_clauses.specs.Formula.{Satisfies, IsUnsatisfiable, value_at}
 ghost use Rattle.rg_clauses.specs.Encoding.{IsSatisfiable};
 ghost use Rattle.rg_clauses.specs.Conditions.{clauses_of_claim, CanFail};
 
+#[cfg(test)]
+mod tests;
+
 use crate::Clauses;
-use rg_bits::condition::formula;
-use rg_bits::inputs::inputs;
+use rg_bits::{formula, inputs};
 use rg_gates::{GateError, Gates, Table};
 use rg_tree::condition::Condition;
 use rg_words::{Place, Refusal, RefusalNumber, SourceFile};

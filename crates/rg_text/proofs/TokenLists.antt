@@ -1,12 +1,14 @@
 -- Lists of tokens: one more at the end, what each says, and that a source has one list.
-use Rattle.std.proofs.Common.{◌≡◌, ℕ, zero, suc, ◌+◌, ◌-◌, ◌≤◌, inl, inr, List, [], ◌∷◌, ◌++◌, length, drop, refl, sym, ap, ◌∙◌, get_or, arith, length-drop}
+use Rattle.std.proofs.Common.{Some, ◌≡◌, ℕ, ◌+◌, ◌-◌, ◌≤◌, inl, inr, List, [], ◌∷◌, ◌++◌, length, drop, refl, sym, ap, ◌∙◌, get_or, arith, length-drop}
 use Rattle.std.specs.List.{All, AllByRecursion}
 use Rattle.std.proofs.lemmas.Bool.{cases_order}
 use Rattle.std.proofs.lemmas.List.Elements.{All-from_recursion}
 use Rattle.rg_text.specs.declared.kind.Kind.{Kind}
 use Rattle.rg_text.specs.declared.token.Token.{Token}
+use Rattle.rg_text.specs.Text.{text_of}
 use Rattle.rg_text.specs.Tokenization.{gap_end, line_at, IsLongest, BeginsNoToken, IsNextToken, AreTokens, IsTokenized, IsBadByte, IsTokenOf}
 use Rattle.rg_text.proofs.ByFirst.{no_bytes}
+use Rattle.rg_text.proofs.KindTexts.{name_text, primed_text}
 use Rattle.rg_text.proofs.LineFeeds.{lines_bound}
 
 -- one more token
@@ -23,6 +25,8 @@ is_token_of source place t h =
       within = omega (arith, length-drop t.start source);
       kind = h.longest.is;
       line = h.line;
+      name = λ e. name_text (text_of source t) (h.longest.is ∙ ap Some e);
+      primed = λ e. primed_text (text_of source t) (h.longest.is ∙ ap Some e);
     }
 
 pub each_token : (source : List ℕ) (from to : ℕ) (ts : List Token) → AreTokens source from ts to → AllByRecursion (IsTokenOf source) ts

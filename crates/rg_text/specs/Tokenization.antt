@@ -5,10 +5,12 @@ use Rattle.rg_words.specs.declared.refusal.Refusal.{Refusal}
 use Rattle.rg_words.specs.declared.refusal.RefusalNumber.TheVariants.{BadByte, Limit}
 use Rattle.rg_words.specs.declared.refusal.SourceFile.{SourceFile}
 use Rattle.rg_words.specs.Refusals.{no_memory, refused_at}
+use Rattle.rg_words.specs.Names.{IsName}
 use Rattle.rg_text.specs.declared.kind.Kind.{Kind}
+use Rattle.rg_text.specs.declared.kind.Kind.TheVariants.{Name, Primed}
 use Rattle.rg_text.specs.declared.token.Token.{Token}
 use Rattle.rg_text.specs.Spelling.{kind_of_text}
-use Rattle.rg_text.specs.Text.{text_of}
+use Rattle.rg_text.specs.Text.{text_of, unprimed}
 
 -- space, tab, CR or LF
 abbrev pub is_white_space : ℕ → Bool
@@ -67,12 +69,14 @@ pub record IsBadByte (source : List ℕ) (place : ℕ) : Type 0 where
   pub byte : place < length source
   pub bad : BeginsNoToken (drop place source)
 
--- what each token says of itself: its span, its kind and its line
+-- what each token says of itself: its span, its kind and its line; a name may be declared, and without its prime a primed one
 pub record IsTokenOf (source : List ℕ) (t : Token) : Type 0 where
   pub some : t.start < t.end
   pub within : t.end ≤ length source
   pub kind : kind_of_text (text_of source t) ≡ Some t.kind
   pub line : t.line ≡ line_at source t.start
+  pub name : t.kind ≡ Name → IsName (text_of source t)
+  pub primed : t.kind ≡ Primed → IsName (unprimed (text_of source t))
 
 -- why a source is refused: its size, its bad byte, or want of memory
 abbrev pub IsReadRefusal : SourceFile → List ℕ → Refusal → Type 0

@@ -1,7 +1,9 @@
 //! The tokens of a source.
 
-ghost use Rattle.std.specs.Prelude.{◌≡◌, ℕ, ◌+◌, ◌<◌, ◌≤◌, ◌⊎◌, List, length, All, IfOk, IfErr, IsErrOf, IsErrAnd, MatchResult};
+ghost use Rattle.std.specs.Prelude.{◌≡◌, ℕ, ◌+◌, ◌<◌, ◌≤◌, ◌⊎◌, ◌↔◌, true, List, length, All, IfOk, IfErr, IsErrOf, IsErrAnd, IsSome, MatchResult};
 ghost use Rattle.rg_words.specs.Refusals.{no_memory, refused_at};
+ghost use Rattle.rg_words.specs.Names.{is_keyword};
+ghost use Rattle.rg_text.specs.Spelling.{keyword_of};
 ghost use Rattle.rg_text.specs.declared.token.Token.{Token};
 ghost use Rattle.rg_text.specs.Tokenization.{line_at, IsTokenized, IsBadByte, IsTokenOf, IsReadRefusal};
 
@@ -118,4 +120,9 @@ pub fn one_tokenization()
         → IsBadByte source place → IsBadByte source other → place ≡ other }
     ensures never_both { (source : List ℕ) (ts : List Token) (place : ℕ)
         → IsTokenized source ts → IsBadByte source place → ⊥ }
+{}
+
+/// The words that are kept for the language are the keywords.
+pub fn kept_words_are_keywords()
+    ensures { (text : List ℕ) → (is_keyword text ≡ true) ↔ IsSome (keyword_of text) }
 {}

@@ -8,4 +8,5 @@ pub mod Numbers
 pub mod Steps
 pub mod Asked
 pub mod Texts
+pub mod Truths
 pub mod Stands

@@ -27,6 +27,7 @@ pub record Claim : Type 0 where
   pub alone : Bool
   pub or_no_change : Bool
 
+-- a claim of these parts
 abbrev pub claim_of : List Word → List Proposition → SecondState → Proposition → Bool → Bool → Claim
 claim_of words hypotheses second goal alone or_no_change = record {
   words = words;
@@ -37,9 +38,11 @@ claim_of words hypotheses second goal alone or_no_change = record {
   or_no_change = or_no_change;
 }
 
+-- an assignment of the code
 abbrev pub assignment : Assign → Assignment
 assignment a = record { target = a.word; value = expression a.value }
 
+-- a second state of the code
 abbrev pub second_state : Second → SecondState
 second_state Same = same
 second_state Free = free
@@ -87,37 +90,43 @@ ConditionHolds c = (s t : List ℕ) → IsPair c.words s t → condition_holds c
 abbrev pub shown : List Word → Proposition → Claim
 shown words f = claim_of words [] (cond (speaks_of_two f) free same) f false false
 
--- what the building needs of the trees: words that are there
+-- their words are there, and their widths and counts are within the limits
 abbrev pub AllFit : List Proposition → ℕ → Type 0
 AllFit [] n = Unit {0}
 AllFit (f ∷ fs) n = FormulaFits f n × AllFit fs n
 
+-- so are their targets
 abbrev pub AssignmentsFit : List Assignment → ℕ → Type 0
 AssignmentsFit [] n = Unit {0}
 AssignmentsFit (a ∷ as_) n = (a.target < n) × ExpressionFits a.value n × AssignmentsFit as_ n
 
+-- the assignments that make the second state do, if there are any
 abbrev pub SecondFits : SecondState → ℕ → Type 0
 SecondFits (after as_) n = AssignmentsFit as_ n
 SecondFits _ n = Unit {0}
 
+-- all trees of a claim speak of its words
 pub record ClaimFits (c : Claim) : Type 0 where
   pub hypotheses : AllFit c.hypotheses (length c.words)
   pub second : SecondFits c.second (length c.words)
   pub goal : FormulaFits c.goal (length c.words)
 
--- what the meaning needs: comparisons and assignments of one width
+-- their comparisons are of one width each
 abbrev pub AllTyped : List ℕ → List Proposition → Type 0
 AllTyped widths [] = Unit {0}
 AllTyped widths (f ∷ fs) = IsTyped widths f × AllTyped widths fs
 
+-- each value has its target's width
 abbrev pub AssignmentsTyped : List ℕ → List Assignment → Type 0
 AssignmentsTyped widths [] = Unit {0}
 AssignmentsTyped widths (a ∷ as_) = (a.target < length widths) × HasWidth widths a.value (slice_index widths a.target) × AssignmentsTyped widths as_
 
+-- in the assignments that make the second state, if there are any
 abbrev pub SecondTyped : List ℕ → SecondState → Type 0
 SecondTyped widths (after as_) = AssignmentsTyped widths as_
 SecondTyped widths _ = Unit {0}
 
+-- all trees of a claim are typed over its words
 pub record ClaimTyped (c : Claim) : Type 0 where
   pub hypotheses : AllTyped (widths_of c.words) c.hypotheses
   pub second : SecondTyped (widths_of c.words) c.second

@@ -3,6 +3,7 @@ use Rattle.std.specs.Prelude.{Bool, true, false, ◌||◌}
 use Rattle.rg_tree.specs.Trees.{Expression, Proposition, number, word, next_word, inverse, binary, shifted, choice, truth, negation, connected, compared}
 
 abbrev mutual
+  -- an expression has one
   pub has_next_word : Expression → Bool
   has_next_word (number w n) = false
   has_next_word (word k) = false
@@ -12,6 +13,7 @@ abbrev mutual
   has_next_word (shifted d w a k) = has_next_word a
   has_next_word (choice f a b) = speaks_of_two f || has_next_word a || has_next_word b
 
+  -- a formula has one
   pub speaks_of_two : Proposition → Bool
   speaks_of_two (truth b) = false
   speaks_of_two (negation f) = speaks_of_two f

@@ -12,6 +12,7 @@ use Rattle.rg_words.specs.declared.operators.Connective.TheVariants.{And, Or, Im
 use Rattle.rg_words.specs.Layout.{Word, names_of}
 use Rattle.rg_tree.specs.Trees.{Expression, Proposition, number, word, next_word, inverse, binary, shifted, choice, truth, negation, connected, compared}
 
+-- how an operation is written
 abbrev pub operator_text : Operator → List ℕ
 operator_text Add = codes "+"
 operator_text Subtract = codes "-"
@@ -19,10 +20,12 @@ operator_text BitAnd = codes "band"
 operator_text BitOr = codes "bor"
 operator_text BitXor = codes "bxor"
 
+-- how a shift is written
 abbrev pub shift_text : Shift → List ℕ
 shift_text Left = codes "shl"
 shift_text Right = codes "shr"
 
+-- how a comparison is written
 abbrev pub comparison_text : Comparison → List ℕ
 comparison_text Equal = codes "="
 comparison_text NotEqual = codes "!="
@@ -31,12 +34,14 @@ comparison_text LessOrEqual = codes "<="
 comparison_text Greater = codes ">"
 comparison_text GreaterOrEqual = codes ">="
 
+-- how a connective is written
 abbrev pub connective_text : Connective → List ℕ
 connective_text And = codes "and"
 connective_text Or = codes "or"
 connective_text Implies = codes "implies"
 connective_text Iff = codes "iff"
 
+-- how a truth value is written
 abbrev pub truth_text : Bool → List ℕ
 truth_text true = codes "true"
 truth_text false = codes "false"
@@ -50,6 +55,7 @@ abbrev pub between : List ℕ → List ℕ → List ℕ
 between text rest = codes " " ++ (text ++ (codes " " ++ rest))
 
 abbrev mutual
+  -- each operation in parentheses, a primed word with `'`
   pub expression_text : List Word → Expression → List ℕ → List ℕ
   expression_text words (number w n) rest = decimal n ++ rest
   expression_text words (word k) rest = name_text words k ++ rest
@@ -62,6 +68,7 @@ abbrev mutual
   expression_text words (choice f a b) rest =
       codes "(if " ++ formula_text words f (between (codes "then") (expression_text words a (between (codes "else") (expression_text words b (codes ")" ++ rest)))))
 
+  -- each connective and comparison in parentheses
   pub formula_text : List Word → Proposition → List ℕ → List ℕ
   formula_text words (truth b) rest = truth_text b ++ rest
   formula_text words (negation f) rest = codes "not " ++ formula_text words f rest

@@ -5,6 +5,7 @@ ghost use Rattle.rg_words.specs.Layout.{widths_of};
 ghost use Rattle.rg_tree.specs.View.{formula};
 ghost use Rattle.rg_tree.specs.Claims.{ClaimFits, ClaimTyped, claim_of, second_state};
 ghost use Rattle.rg_tree.specs.OneProof.{ClaimFits-prop, ClaimTyped-prop};
+ghost use Rattle.rg_tree.specs.Truth.{TestsSayTruth};
 
 use crate::primes::speaks_of_two;
 use crate::tree::{Expr, Formula};
@@ -83,3 +84,10 @@ impl Condition {
         }
     }
 }
+
+/// What the test of a condition at two states says: where all hypotheses hold, the goal does, or the step may change
+/// nothing and does. A law: a function that does nothing, and whose contract is the law.
+#[tactic(auto, using(crate::proofs::Truths::tests_say_truth))]
+pub fn tests_say_truth()
+    ensures { TestsSayTruth }
+{}

@@ -1,18 +1,18 @@
 -- The words of a layout: where a name is, and one word more.
-use Rattle.std.proofs.Common.{◌≡◌, ◌≢◌, ℕ, ◌<◌, ◌≤◌, ◌+◌, Bool, true, false, List, [], ◌∷◌, ◌++◌, length, Some, None, refl, sym, ap, ◌∙◌, arith, length-append, get_or, cond, take, length-take}
-use Rattle.std.specs.Prelude.{slice_get, nat_lt}
+use Rattle.std.proofs.Common.{◌≡◌, ◌≢◌, ℕ, ◌<◌, ◌≤◌, ◌+◌, Bool, true, false, List, [], ◌∷◌, ◌++◌, length, Option, Some, None, refl, sym, ap, ◌∙◌, arith, length-append, get_or, cond, take, length-take}
+use Rattle.std.specs.Prelude.{IfSome, slice_index_or, slice_get, nat_lt}
 use Rattle.std.specs.List.{position_or_len}
 use Rattle.std.specs.Str.{bytes_eq}
 use Rattle.std.proofs.lemmas.Bool.Decides.{nat_tests}
-use Rattle.std.proofs.lemmas.List.{take_more, get_or-take}
+use Rattle.std.proofs.lemmas.List.{get_or-map, take_more, get_or-take}
 use Rattle.std.proofs.lemmas.Option.{slice_get_within, get_or_from_slice_get}
 use Rattle.std.proofs.lemmas.List.Elements.{All-push, All-get_or}
-use Rattle.std.proofs.lemmas.List.Quantifiers.{all_pairs_push}
+use Rattle.std.proofs.lemmas.List.Quantifiers.{all_pairs_push, position-Some}
 use Rattle.std.proofs.lemmas.List.Sums.{position_or_len_is, fails_before_first}
 use Rattle.std.proofs.lemmas.Slice.Eq.{bytes_eq-Decides}
 use Rattle.rg_words.specs.declared.limits.TheConstants.{MOST_WORDS}
 use Rattle.rg_words.specs.Names.{IsName}
-use Rattle.rg_words.specs.Layout.{Word, index_of, IsWidth, IsLayout}
+use Rattle.rg_words.specs.Layout.{Word, index_of, names_of, IsWidth, IsLayout}
 
 none_not_within : (b : Bool) (n : ℕ) → cond b (Some n) None ≡ None → b ≡ false
 none_not_within true n h = cc
@@ -59,6 +59,14 @@ found_by_name words i d layout h =
     one_passes (position_or_len p words) (length words) i
     (position_or_len_is p words i d (omega arith) (λ k lt. differ name (get_or words k d).name (λ e. layout.distinct k i d lt h (sym e))) (λ lt. (bytes_eq-Decides name name).1 refl))
     h
+
+-- the word that is found has the name
+pub found_has_name : (words : List Word) (name : List ℕ) (found : Option ℕ) → found ≡ index_of words name → IfSome found (λ i. slice_index_or (names_of words) i [] ≡ name)
+found_has_name words name None e = tt
+found_has_name words name (Some i) e =
+    let d : Word = record { name = []; width = 0; fixed = false } in
+    let at = position-Some (λ w. bytes_eq name w.name) words i d (sym e) in
+    get_or-map (λ w. w.name) words i d [] at.0 ∙ sym ((bytes_eq-Decides name (get_or words i d).name).0 at.1)
 
 -- one word more is a layout
 pub layout_more : (words : List Word) (w : Word) → IsLayout words → index_of words w.name ≡ None → length words < MOST_WORDS → IsWidth w.width → IsName w.name → IsLayout (words ++ w ∷ [])

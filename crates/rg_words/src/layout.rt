@@ -1,6 +1,6 @@
 //! The declared words: their names and widths, in the order of declaration.
 
-ghost use Rattle.std.specs.Prelude.{◌≡◌, ◌↔◌, ◌<◌, ◌≤◌, ℕ, List, [], ◌∷◌, ◌++◌, Bool, true, false, length, None, IsTrue, OnOk, OnErr, IfOk, slice_get, slice_index, slice_index_or};
+ghost use Rattle.std.specs.Prelude.{◌≡◌, ◌↔◌, ◌<◌, ◌≤◌, ℕ, List, [], ◌∷◌, ◌++◌, Bool, true, false, length, None, IsTrue, OnOk, OnErr, IfOk, IfSome, slice_get, slice_index, slice_index_or};
 ghost use Rattle.rg_words.specs.Names.{IsName};
 ghost use Rattle.rg_words.specs.Layout.{Word, index_of, names_of, widths_of, fixed_of, IsWidth, IsLayout, declaration_fault};
 ghost use Rattle.rg_words.specs.Refusals.{IsRefusedFor};
@@ -59,7 +59,9 @@ impl Layout {
 
     /// The word of this name.
     pub fn find(&self, name: &str) -> Option<usize>
-        ensures { result ≡ index_of self.now name.now }
+        ensures exact { result ≡ index_of self.now name.now }
+        ensures within { IfSome result (λ word. word < length self.now) }
+        ensures named { IfSome result (λ word. slice_index_or (names_of self.now) word [] ≡ name.now) }
     {
         self.words.get_index_of(name)
     }

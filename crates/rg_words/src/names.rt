@@ -1,6 +1,6 @@
 //! Names of words and of parts, and the words that are kept for the language.
 
-ghost use Rattle.std.specs.Prelude.{◌≡◌};
+ghost use Rattle.std.specs.Prelude.{◌≡◌, is_some, IfSome};
 ghost use Rattle.std.specs.List.{list_any, list_all};
 ghost use Rattle.std.specs.Str.{bytes_eq};
 ghost use Rattle.rg_words.specs.Names.{is_word_start, is_word_byte, is_keyword, is_word, is_name};
@@ -65,4 +65,15 @@ pub fn is_name(text: &str) -> bool
     ensures { result ≡ is_name text.now }
 {
     is_word(text) && !is_keyword(text)
+}
+
+/// The bytes as the text of a name, where they are one.
+pub fn as_name(bytes: &[u8]) -> Option<&str>
+    ensures exact { is_some result ≡ is_name bytes.now }
+    ensures text { IfSome result (λ text. text.now ≡ bytes.now) }
+{
+    let Ok(text) = str::from_utf8(bytes) else {
+        return None;
+    };
+    if is_name(text) { Some(text) } else { None }
 }

@@ -1,6 +1,6 @@
 //! What no clause says: that calls succeed, and that the definitions are what the language means.
 
-use crate::names::{is_keyword, is_name};
+use crate::names::{as_name, is_keyword, is_name};
 use crate::{
     Buffered, Fuse, Layout, Out, Place, Refusal, RefusalNumber, SourceFile, State, Taker,
     WriteFault, write_all,
@@ -16,6 +16,7 @@ fn tells_names(rt: HostRuntime) {
     for text in ["", "2x", "x'", "x y", "x-y", "é", "words", "if", "at"] {
         assert!(rt; !is_name(text), "{text}");
     }
+    assert!(rt; as_name(b"x").is_some() && as_name(&[120, 255]).is_none());
     assert!(rt; is_keyword("conseq") && !is_keyword("consequence"));
 }
 
