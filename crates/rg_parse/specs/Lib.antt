@@ -9,3 +9,4 @@ pub mod Syntax
 pub mod ResolveFaults
 pub mod ResolveTrees
 pub mod ResolveWords
+pub mod Shown

@@ -7,4 +7,5 @@ pub mod parse;
 pub mod point;
 pub mod resolve;
 pub mod shape;
+pub mod show;
 pub mod syntax;
