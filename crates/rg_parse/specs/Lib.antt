@@ -1,1 +1,3 @@
 pub mod Syntax
+pub mod ResolveFaults
+pub mod ResolveTrees

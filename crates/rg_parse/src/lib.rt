@@ -1,4 +1,5 @@
 //! The parser: from tokens to typed trees, or the first fault.
 #![tactic(auto)]
 
+pub mod resolve;
 pub mod syntax;

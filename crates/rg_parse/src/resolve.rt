@@ -1,0 +1,3 @@
+//! The pass of meaning: from a text whose shape is known to typed trees, or the first fault of its leaves.
+
+pub mod group;
