@@ -3,15 +3,15 @@ use Rattle.std.proofs.Common.{◌≡◌, ℕ, ◌<◌, ◌≤◌, ◌^◌, Bool,
 use Rattle.std.specs.Prelude.{Option, Some, None, ◌⊎◌, nat_eq, nat_lt, nat_le, slice_index}
 use Rattle.std.specs.Option.{option_or, unwrap_or}
 use Rattle.std.specs.Str.{bytes_eq}
-use Rattle.std.proofs.lemmas.Bool.{ltb-true, leb-true, eqb-true, not-false}
+use Rattle.std.proofs.lemmas.Bool.{ltb-true, leb-true, eqb-true, not-false, false≢true}
 use Rattle.std.proofs.lemmas.List.{length-map}
 use Rattle.std.proofs.lemmas.List.Quantifiers.{position-Some}
-use Rattle.rg_words.specs.declared.limits.TheConstants.{MOST_SHIFT}
+use Rattle.rg_words.specs.declared.limits.TheConstants.{MOST_WIDTH, MOST_SHIFT}
 use Rattle.rg_words.specs.declared.refusal.RefusalNumber.{RefusalNumber}
 use Rattle.rg_words.specs.Layout.{Word, index_of, widths_of}
 use Rattle.rg_text.specs.Text.{Leaf}
 use Rattle.rg_tree.specs.Typing.{HasWidth, IsTyped}
-use Rattle.rg_tree.specs.Fits.{ExpressionFits, FormulaFits}
+use Rattle.rg_tree.specs.Primes.{has_next_word, speaks_of_two}
 use Rattle.rg_parse.specs.Syntax.{Term, Claim, number, word, next_word, inverse, binary, shifted, choice, truth, negation, joined, implied, compared}
 use Rattle.rg_parse.specs.ResolveFaults.{Fault, number_of, unprimed, width_at, first_name, group_at, group_by, group_of, after_first, unless, is_other, word_faults, number_faults, term_faults, claim_faults}
 use Rattle.rg_parse.specs.ResolveTrees.{place_of, width_of, typed_term, typed_claim}
@@ -85,3 +85,80 @@ unknown_faulty words one_state name u (shifted d a n) group e h = unknown_faulty
 unknown_faulty words one_state name u (choice f a b) group e h = elim (first_of_two _ _ name e)
     [ inl p ↦ unknown_faulty words one_state name u a group p (none_left _ _ (none_right _ _ h))
     | inr q ↦ unknown_faulty words one_state name u b (after_first group) q (none_right _ _ (none_right _ _ h)) ]
+
+-- the widths of words are within the limit
+abbrev pub AreNarrow : List Word → Type 0
+AreNarrow words = (k : ℕ) → k < length words → width_at words k ≤ MOST_WIDTH
+
+module _ (words : List Word) (one_state : Bool) (narrow : AreNarrow words) where
+  word_typed : (name : List ℕ) (w line : ℕ) (barred : Bool) → word_faults words (Width w) barred line (index_of words name) ≡ [] → (place_of words name < length (widths_of words)) × (width_at words (place_of words name) ≡ w)
+  word_typed name w line barred h =
+      let found = word_has_width words w line barred (index_of words name) (λ k e. found_within words name k e) h in
+      (rw (length-map words (λ v. v.width)) found.0, found.1)
+
+  -- a comparison whose two sides are typed at each width at which they have no faults
+  compared_typed : (a b : Term)
+      → ((w : ℕ) → w ≤ MOST_WIDTH → term_faults words one_state (Width w) a ≡ [] → HasWidth (widths_of words) (typed_term words w a) w)
+      → ((w : ℕ) → w ≤ MOST_WIDTH → term_faults words one_state (Width w) b ≡ [] → HasWidth (widths_of words) (typed_term words w b) w)
+      → (first : Option (List ℕ)) → option_or (first_name a) (first_name b) ≡ first
+      → term_faults words one_state (group_by words first) a ++ term_faults words one_state (after_first (group_by words first)) b ≡ []
+      → (w : ℕ) × HasWidth (widths_of words) (typed_term words (width_of (group_by words first)) a) w × HasWidth (widths_of words) (typed_term words (width_of (group_by words first)) b) w
+  compared_typed a b left right None e h = absurd (wordless_faulty words one_state a (no_first _ _ e) (none_left _ _ h))
+  compared_typed a b left right (Some name) e h = at (index_of words name) refl h
+    where
+      at : (found : Option ℕ) → index_of words name ≡ found
+          → term_faults words one_state (group_at words found) a ++ term_faults words one_state (after_first (group_at words found)) b ≡ []
+          → (w : ℕ) × HasWidth (widths_of words) (typed_term words (width_of (group_at words found)) a) w × HasWidth (widths_of words) (typed_term words (width_of (group_at words found)) b) w
+      at None u h = absurd (elim (first_of_two _ _ name e)
+          [ inl p ↦ unknown_faulty words one_state name u a Unasked p (none_left _ _ h)
+          | inr q ↦ unknown_faulty words one_state name u b Unasked q (none_right _ _ h) ])
+      at (Some k) u h =
+          let low = narrow k (found_within words name k u) in
+          (width_at words k, left _ low (none_left _ _ h), right _ low (none_right _ _ h))
+
+  mutual
+    unfolding group_of
+    pub term_typed : (t : Term) (w : ℕ) → w ≤ MOST_WIDTH → term_faults words one_state (Width w) t ≡ [] → HasWidth (widths_of words) (typed_term words w t) w
+    term_typed (number n) w low h = (refl, ltb-true _ _ (unless-none _ _ _ h), low)
+    term_typed (word x) w low h = word_typed x.text w x.line false h
+    term_typed (next_word x) w low h = word_typed (unprimed x.text) w x.line one_state h
+    term_typed (inverse a) w low h = (refl, term_typed a w low h)
+    term_typed (binary o a b) w low h = (refl, term_typed a w low (none_left _ _ h), term_typed b w low (none_right _ _ h))
+    term_typed (shifted d a n) w low h = (refl, term_typed a w low (none_left _ _ h), leb-true _ _ (unless-none _ _ _ (none_right _ _ h)))
+    term_typed (choice f a b) w low h =
+        let rest = none_right _ _ h in
+        (claim_typed f (none_left _ _ h), term_typed a w low (none_left _ _ rest), term_typed b w low (none_right _ _ rest))
+
+    pub claim_typed : (f : Claim) → claim_faults words one_state f ≡ [] → IsTyped (widths_of words) (typed_claim words f)
+    claim_typed (truth b) h = tt
+    claim_typed (negation f) h = claim_typed f h
+    claim_typed (joined j f g) h = (claim_typed f (none_left _ _ h), claim_typed g (none_right _ _ h))
+    claim_typed (implied d f g) h = (claim_typed f (none_left _ _ h), claim_typed g (none_right _ _ h))
+    claim_typed (compared c a b) h = compared_typed a b (term_typed a) (term_typed b) _ refl h
+
+-- a primed word has a fault where one state is spoken of
+primed_faulty : (words : List Word) (group : Group) (line : ℕ) (found : Option ℕ) → word_faults words group true line found ≡ [] → ⊥
+primed_faulty words group line None h = cc
+primed_faulty words group line (Some k) h = false≢true (unless-none _ _ _ (both_none _ _ _ h).1)
+
+neither : (x y : Bool) → x ≡ false → y ≡ false → (x || y) ≡ false
+neither x y p q = rw (p, q) refl
+
+mutual
+  pub term_plain : (words : List Word) (group : Group) (w : ℕ) (t : Term) → term_faults words true group t ≡ [] → has_next_word (typed_term words w t) ≡ false
+  term_plain words group w (number n) h = refl
+  term_plain words group w (word x) h = refl
+  term_plain words group w (next_word x) h = absurd (primed_faulty words group x.line _ h)
+  term_plain words group w (inverse a) h = term_plain words group w a h
+  term_plain words group w (binary o a b) h = neither _ _ (term_plain words group w a (none_left _ _ h)) (term_plain words (after_first group) w b (none_right _ _ h))
+  term_plain words group w (shifted d a n) h = term_plain words group w a (none_left _ _ h)
+  term_plain words group w (choice f a b) h =
+      let rest = none_right _ _ h in
+      neither _ _ (neither _ _ (claim_plain words f (none_left _ _ h)) (term_plain words group w a (none_left _ _ rest))) (term_plain words (after_first group) w b (none_right _ _ rest))
+
+  pub claim_plain : (words : List Word) (f : Claim) → claim_faults words true f ≡ [] → speaks_of_two (typed_claim words f) ≡ false
+  claim_plain words (truth b) h = refl
+  claim_plain words (negation f) h = claim_plain words f h
+  claim_plain words (joined j f g) h = neither _ _ (claim_plain words f (none_left _ _ h)) (claim_plain words g (none_right _ _ h))
+  claim_plain words (implied d f g) h = neither _ _ (claim_plain words f (none_left _ _ h)) (claim_plain words g (none_right _ _ h))
+  claim_plain words (compared c a b) h = neither _ _ (term_plain words (group_of words a b) _ a (none_left _ _ h)) (term_plain words (after_first (group_of words a b)) _ b (none_right _ _ h))
