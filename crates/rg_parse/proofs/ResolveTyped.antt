@@ -90,34 +90,39 @@ unknown_faulty words one_state name u (choice f a b) group e h = elim (first_of_
 abbrev pub AreNarrow : List Word → Type 0
 AreNarrow words = (k : ℕ) → k < length words → width_at words k ≤ MOST_WIDTH
 
+-- where a comparison has no faults, its group has the width of a declared word
+pub record IsWidthOfWord (words : List Word) (group : Group) : Type 0 where
+  pub place : ℕ
+  pub inside : place < length words
+  pub is : group ≡ Width (width_at words place)
+
+module _ (words : List Word) (one_state : Bool) (a b : Term) where
+  found_group : (name : List ℕ) → option_or (first_name a) (first_name b) ≡ Some name
+      → (found : Option ℕ) → index_of words name ≡ found
+      → term_faults words one_state (group_at words found) a ++ term_faults words one_state (after_first (group_at words found)) b ≡ []
+      → IsWidthOfWord words (group_at words found)
+  found_group name e None u h = absurd (elim (first_of_two _ _ name e)
+      [ inl p ↦ unknown_faulty words one_state name u a Unasked p (none_left _ _ h)
+      | inr q ↦ unknown_faulty words one_state name u b Unasked q (none_right _ _ h) ])
+  found_group name e (Some k) u h = record { place = k; inside = found_within words name k u; is = refl }
+
+  first_group : (first : Option (List ℕ)) → option_or (first_name a) (first_name b) ≡ first
+      → term_faults words one_state (group_by words first) a ++ term_faults words one_state (after_first (group_by words first)) b ≡ []
+      → IsWidthOfWord words (group_by words first)
+  first_group None e h = absurd (wordless_faulty words one_state a (no_first _ _ e) (none_left _ _ h))
+  first_group (Some name) e h = found_group name e (index_of words name) refl h
+
+  pub known_group : term_faults words one_state (group_of words a b) a ++ term_faults words one_state (after_first (group_of words a b)) b ≡ [] → IsWidthOfWord words (group_of words a b)
+  unfolding group_of
+  known_group h = first_group _ refl h
+
 module _ (words : List Word) (one_state : Bool) (narrow : AreNarrow words) where
   word_typed : (name : List ℕ) (w line : ℕ) (barred : Bool) → word_faults words (Width w) barred line (index_of words name) ≡ [] → (place_of words name < length (widths_of words)) × (width_at words (place_of words name) ≡ w)
   word_typed name w line barred h =
       let found = word_has_width words w line barred (index_of words name) (λ k e. found_within words name k e) h in
       (rw (length-map words (λ v. v.width)) found.0, found.1)
 
-  -- a comparison whose two sides are typed at each width at which they have no faults
-  compared_typed : (a b : Term)
-      → ((w : ℕ) → w ≤ MOST_WIDTH → term_faults words one_state (Width w) a ≡ [] → HasWidth (widths_of words) (typed_term words w a) w)
-      → ((w : ℕ) → w ≤ MOST_WIDTH → term_faults words one_state (Width w) b ≡ [] → HasWidth (widths_of words) (typed_term words w b) w)
-      → (first : Option (List ℕ)) → option_or (first_name a) (first_name b) ≡ first
-      → term_faults words one_state (group_by words first) a ++ term_faults words one_state (after_first (group_by words first)) b ≡ []
-      → (w : ℕ) × HasWidth (widths_of words) (typed_term words (width_of (group_by words first)) a) w × HasWidth (widths_of words) (typed_term words (width_of (group_by words first)) b) w
-  compared_typed a b left right None e h = absurd (wordless_faulty words one_state a (no_first _ _ e) (none_left _ _ h))
-  compared_typed a b left right (Some name) e h = at (index_of words name) refl h
-    where
-      at : (found : Option ℕ) → index_of words name ≡ found
-          → term_faults words one_state (group_at words found) a ++ term_faults words one_state (after_first (group_at words found)) b ≡ []
-          → (w : ℕ) × HasWidth (widths_of words) (typed_term words (width_of (group_at words found)) a) w × HasWidth (widths_of words) (typed_term words (width_of (group_at words found)) b) w
-      at None u h = absurd (elim (first_of_two _ _ name e)
-          [ inl p ↦ unknown_faulty words one_state name u a Unasked p (none_left _ _ h)
-          | inr q ↦ unknown_faulty words one_state name u b Unasked q (none_right _ _ h) ])
-      at (Some k) u h =
-          let low = narrow k (found_within words name k u) in
-          (width_at words k, left _ low (none_left _ _ h), right _ low (none_right _ _ h))
-
   mutual
-    unfolding group_of
     pub term_typed : (t : Term) (w : ℕ) → w ≤ MOST_WIDTH → term_faults words one_state (Width w) t ≡ [] → HasWidth (widths_of words) (typed_term words w t) w
     term_typed (number n) w low h = (refl, ltb-true _ _ (unless-none _ _ _ h), low)
     term_typed (word x) w low h = word_typed x.text w x.line false h
@@ -134,7 +139,12 @@ module _ (words : List Word) (one_state : Bool) (narrow : AreNarrow words) where
     claim_typed (negation f) h = claim_typed f h
     claim_typed (joined j f g) h = (claim_typed f (none_left _ _ h), claim_typed g (none_right _ _ h))
     claim_typed (implied d f g) h = (claim_typed f (none_left _ _ h), claim_typed g (none_right _ _ h))
-    claim_typed (compared c a b) h = compared_typed a b (term_typed a) (term_typed b) _ refl h
+    claim_typed (compared c a b) h =
+        let known = known_group words one_state a b h in
+        let w = width_at words known.place in
+        let low = narrow known.place known.inside in
+        let at_width = rw known.is at h in
+        (w, rw known.is (term_typed a w low (none_left _ _ at_width)), rw known.is (term_typed b w low (none_right _ _ at_width)))
 
 -- a primed word has a fault where one state is spoken of
 primed_faulty : (words : List Word) (group : Group) (line : ℕ) (found : Option ℕ) → word_faults words group true line found ≡ [] → ⊥

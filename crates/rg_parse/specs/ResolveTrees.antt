@@ -1,5 +1,5 @@
 -- The typed tree that a formula without faults stands for.
-use Rattle.std.specs.Prelude.{ℕ, List, Option, Some, None}
+use Rattle.std.specs.Prelude.{◌≡◌, ℕ, Bool, List, [], Option, Some, None}
 use Rattle.std.specs.Option.{unwrap_or}
 use Rattle.rg_words.specs.declared.operators.Connective.{Connective}
 use Rattle.rg_words.specs.declared.operators.Connective.TheVariants.{And as Conjunction, Or as Disjunction, Implies as Implication, Iff as Equivalence}
@@ -11,7 +11,7 @@ use Rattle.rg_text.specs.declared.kind.Conditional.TheVariants.{Implies, Iff}
 use Rattle.rg_tree.specs.Trees as tree
 use Rattle.rg_tree.specs.Trees.{Expression, Proposition}
 use Rattle.rg_parse.specs.Syntax.{Term, Claim, number, word, next_word, inverse, binary, shifted, choice, truth, negation, joined, implied, compared}
-use Rattle.rg_parse.specs.ResolveFaults.{number_of, unprimed, group_of}
+use Rattle.rg_parse.specs.ResolveFaults.{number_of, unprimed, group_of, term_faults, claim_faults}
 use Rattle.rg_parse.specs.declared.resolve.group.Group.{Group}
 use Rattle.rg_parse.specs.declared.resolve.group.Group.TheVariants.{Width, Unasked, Wordless}
 
@@ -51,3 +51,13 @@ abbrev mutual
   typed_claim words (implied d f g) = tree.connected (conditional_of d) (typed_claim words f) (typed_claim words g)
   typed_claim words (compared c a b) =
       tree.compared c (typed_term words (width_of (group_of words a b)) a) (typed_term words (width_of (group_of words a b)) b)
+
+-- no leaf of the expression is at fault, and the tree is its tree at the width of the group, where that has one
+pub record IsTermTree (words : List Word) (one_state : Bool) (group : Group) (t : Term) (e : Expression) : Type 0 where
+  pub faultless : term_faults words one_state group t ≡ []
+  pub tree : (w : ℕ) → group ≡ Width w → e ≡ typed_term words w t
+
+-- no leaf of the formula is at fault, and the tree is its tree
+pub record IsClaimTree (words : List Word) (one_state : Bool) (f : Claim) (p : Proposition) : Type 0 where
+  pub faultless : claim_faults words one_state f ≡ []
+  pub tree : p ≡ typed_claim words f
