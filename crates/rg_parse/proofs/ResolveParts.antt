@@ -83,3 +83,5 @@ module _ (words : List Word) (one_state : Bool) where
         faultless = no_faults _ _ h.faultless i.faultless;
         tree = both_sides c _ _ a b x y known.is (h.tree _ known.is) (i.tree _ (ap after_first known.is));
       }
+
+pub ruleset parts = (of_word_leaf, of_next_leaf, of_number_leaf, of_unasked_leaf, of_inverse, of_binary, of_shifted, of_choice, of_truth, of_negation, of_joined, of_implied, of_compared)

@@ -2,6 +2,7 @@
 use Rattle.std.proofs.Common.{◌≡◌, ℕ, ◌<◌, ◌≤◌, ◌^◌, Bool, true, false, not, cond, List, [], ◌∷◌, ◌++◌, refl, sym, ap, ◌∙◌, inl, inr, arith}
 use Rattle.std.specs.Prelude.{Option, Some, None, ◌⊎◌, nat_lt, nat_le}
 use Rattle.std.specs.Option.{unwrap_or}
+use Rattle.std.proofs.lemmas.Bool.Decides.{nat_tests}
 use Rattle.rg_words.specs.declared.limits.TheConstants.{MOST_SHIFT}
 use Rattle.rg_words.specs.declared.refusal.Refusal.{Refusal}
 use Rattle.rg_words.specs.declared.refusal.SourceFile.{SourceFile}
@@ -55,3 +56,14 @@ module _ (words : List Word) (group : Group) (barred : Bool) (line : ℕ) (found
 
 pub place_found : (found : Option ℕ) (k : ℕ) → found ≡ Some k → k ≡ unwrap_or found 0
 place_found found k e = rw e refl
+
+pub of_large : (file : SourceFile) (group : Group) (w n line : ℕ) (refusal : Refusal) → group ≡ Width w → (n < 2 ^ w → ⊥) → refusal ≡ refused_at NumberTooLarge file line → IsRefusal file (number_faults group line n) refusal
+of_large file group w n line refusal e large h = rw e (of_test file _ _ line refusal (large_fails large) h)
+  where
+    large_fails : (n < 2 ^ w → ⊥) → nat_lt n (2 ^ w) ≡ false
+    large_fails large = grind (arith, nat_tests)
+
+pub of_wordless : (file : SourceFile) (group : Group) (n line : ℕ) (refusal : Refusal) → group ≡ Wordless → refusal ≡ refused_at WidthUnknown file line → IsRefusal file (number_faults group line n) refusal
+of_wordless file group n line refusal e h = rw e (record { cause = inr h })
+
+pub ruleset refusals = (of_memory, of_first, of_rest, no_faults, of_unknown, of_width, of_prime, no_fault_of_word, place_found, of_test, no_test, of_large, of_wordless)

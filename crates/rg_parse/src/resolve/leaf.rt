@@ -1,6 +1,6 @@
 //! Leaves: the bytes of a token, and the number or the name that they are.
 
-ghost use Rattle.std.specs.Prelude.{◌≡◌, ◌<◌, ◌^◌, SomeIff};
+ghost use Rattle.std.specs.Prelude.{◌≡◌, ◌<◌, ◌≤◌, ◌^◌, SomeIff};
 ghost use Rattle.std.specs.Char.{digit_value};
 ghost use Rattle.rg_words.specs.Layout.{index_of};
 ghost use Rattle.rg_text.specs.Text.{text_of};
@@ -8,6 +8,7 @@ ghost use Rattle.rg_parse.specs.ResolveFaults.{number_of, unprimed};
 
 use rg_text::token::Token;
 use rg_words::Layout;
+use rg_words::limits::MOST_WIDTH;
 use std::str;
 
 /// The bytes of a token.
@@ -48,6 +49,19 @@ pub fn number(digits: &[u8]) -> Option<u64>
         number = number.checked_mul(10)?.checked_add(digit_value(*digit))?;
     }
     Some(number)
+}
+
+/// The same below 2 to the power of a width.
+pub fn number_below(digits: &[u8], width: u32) -> Option<u64>
+    requires { width ≤ MOST_WIDTH }
+    ensures { SomeIff result (number_of digits.now < 2 ^ width) (number_of digits.now) }
+{
+    let number = number(digits)?;
+    if u128::from(number) < 1u128 << width {
+        Some(number)
+    } else {
+        None
+    }
 }
 
 /// The word of this name.
