@@ -76,12 +76,15 @@ module _ (words : List Word) (one_state : Bool) where
   both_sides : (c : Comparison) (group : Group) (w : ℕ) (a b : Term) (x y : Expression) → group ≡ Width w → x ≡ typed_term words w a → y ≡ typed_term words w b → tree.compared c x y ≡ tree.compared c (typed_term words (width_of group) a) (typed_term words (width_of group) b)
   both_sides c group w a b x y e left right = rw (left, right, e) refl
 
-  pub of_compared : (c : Comparison) (a b : Term) (x y : Expression) → IsTermTree words one_state (group_of words a b) a x → IsTermTree words one_state (after_first (group_of words a b)) b y → IsClaimTree words one_state (compared c a b) (tree.compared c x y)
-  of_compared c a b x y h i =
-      let known = known_group words one_state a b (no_faults _ _ h.faultless i.faultless) in
+  pub of_compared : (c : Comparison) (a b : Term) (x y : Expression) (group : Group) → group ≡ group_of words a b → IsTermTree words one_state group a x → IsTermTree words one_state (after_first group) b y → IsClaimTree words one_state (compared c a b) (tree.compared c x y)
+  of_compared c a b x y group same h i =
+      let left : term_faults words one_state (group_of words a b) a ≡ [] = rw (← same) h.faultless in
+      let right : term_faults words one_state (after_first (group_of words a b)) b ≡ [] = rw (← same) i.faultless in
+      let known = known_group words one_state a b (no_faults _ _ left right) in
+      let is = same ∙ known.is in
       record {
-        faultless = no_faults _ _ h.faultless i.faultless;
-        tree = both_sides c _ _ a b x y known.is (h.tree _ known.is) (i.tree _ (ap after_first known.is));
+        faultless = no_faults _ _ left right;
+        tree = both_sides c _ _ a b x y known.is (h.tree _ is) (i.tree _ (ap after_first is));
       }
 
 pub ruleset parts = (of_word_leaf, of_next_leaf, of_number_leaf, of_unasked_leaf, of_inverse, of_binary, of_shifted, of_choice, of_truth, of_negation, of_joined, of_implied, of_compared)

@@ -1,5 +1,6 @@
 //! The pass of meaning: from a text whose shape is known to typed trees, or the first fault of its leaves.
 
+mod formula;
 pub mod group;
-pub mod leaf;
-pub mod scope;
+mod leaf;
+mod scope;

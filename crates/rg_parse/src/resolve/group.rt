@@ -1,6 +1,6 @@
 //! The groups of leaves that have one width.
 
-ghost use Rattle.std.specs.Prelude.{◌≡◌};
+ghost use Rattle.std.specs.Prelude.{◌≡◌, ◌≤◌};
 ghost use Rattle.std.specs.Option.{option_map};
 ghost use Rattle.rg_parse.specs.Syntax.{term};
 ghost use Rattle.rg_parse.specs.ResolveFaults.{first_name, group_of, after_first, is_other};
@@ -9,6 +9,7 @@ ghost use Rattle.rg_parse.specs.ResolveTrees.{width_of};
 use super::leaf::{find, text, unprimed};
 use crate::syntax::Expr;
 use rg_words::Layout;
+use rg_words::limits::MOST_WIDTH;
 
 /// What is asked of the leaves of a comparison.
 #[derive(Clone, Copy, Debug, PartialEq, Eq)]
@@ -24,7 +25,8 @@ pub enum Group {
 impl Group {
     /// What is asked behind the first operand: that no leaf is a word is told once.
     pub fn after_first(self) -> Group
-        ensures { result ≡ after_first self }
+        ensures exact { result ≡ after_first self }
+        ensures width { width_of result ≡ width_of self }
     {
         match self {
             Group::Width(width) => Group::Width(width),
@@ -72,7 +74,8 @@ fn first_name<'a>(source: &'a [u8], e: &Expr) -> Option<&'a [u8]>
 /// The group of a comparison of these two.
 #[tactic(auto, unfolding(crate::specs::ResolveFaults::group_of))]
 pub fn group_of(layout: &Layout, source: &[u8], a: &Expr, b: &Expr) -> Group
-    ensures { result ≡ group_of layout.now (term source.now a.now) (term source.now b.now) }
+    ensures exact { result ≡ group_of layout.now (term source.now a.now) (term source.now b.now) }
+    ensures range { width_of result ≤ MOST_WIDTH }
 {
     let first = match first_name(source, a) {
         Some(name) => Some(name),
