@@ -4,11 +4,11 @@ use Rattle.std.specs.Prelude.{Option, Some, None, ◌⊎◌, nat_eq, nat_lt, nat
 use Rattle.std.specs.Option.{option_or, unwrap_or}
 use Rattle.std.specs.Str.{bytes_eq}
 use Rattle.std.proofs.lemmas.Bool.{ltb-true, leb-true, eqb-true, not-false, false≢true}
-use Rattle.std.proofs.lemmas.List.{length-map}
+use Rattle.std.proofs.lemmas.List.{length-map, get_or-map}
 use Rattle.std.proofs.lemmas.List.Quantifiers.{position-Some}
 use Rattle.rg_words.specs.declared.limits.TheConstants.{MOST_WIDTH, MOST_SHIFT}
 use Rattle.rg_words.specs.declared.refusal.RefusalNumber.{RefusalNumber}
-use Rattle.rg_words.specs.Layout.{Word, index_of, widths_of}
+use Rattle.rg_words.specs.Layout.{Word, IsLayout, index_of, widths_of}
 use Rattle.rg_text.specs.Text.{Leaf}
 use Rattle.rg_tree.specs.Typing.{HasWidth, IsTyped}
 use Rattle.rg_tree.specs.Primes.{has_next_word, speaks_of_two}
@@ -172,3 +172,10 @@ mutual
   claim_plain words (joined j f g) h = neither _ _ (claim_plain words f (none_left _ _ h)) (claim_plain words g (none_right _ _ h))
   claim_plain words (implied d f g) h = neither _ _ (claim_plain words f (none_left _ _ h)) (claim_plain words g (none_right _ _ h))
   claim_plain words (compared c a b) h = neither _ _ (term_plain words (group_of words a b) _ a (none_left _ _ h)) (term_plain words (after_first (group_of words a b)) _ b (none_right _ _ h))
+
+-- the words of a layout are narrow
+pub layout_is_narrow : (words : List Word) → IsLayout words → AreNarrow words
+layout_is_narrow [] layout k inside = absurd (omega arith)
+layout_is_narrow (w ∷ ws) layout k inside =
+    let same = get_or-map (λ (v : Word). v.width) (w ∷ ws) k w 0 inside in
+    rw same (layout.widths k w inside).1

@@ -1,6 +1,56 @@
 //! The pass of meaning: from a text whose shape is known to typed trees, or the first fault of its leaves.
 
+ghost use Rattle.std.specs.Prelude.{◌≡◌, false, [], length, IsTrue, IfOk, IfErr};
+ghost use Rattle.rg_words.specs.Layout.{widths_of};
+ghost use Rattle.rg_tree.specs.View.{formula as view};
+ghost use Rattle.rg_tree.specs.Typing.{IsTyped};
+ghost use Rattle.rg_tree.specs.Fits.{FormulaFits};
+ghost use Rattle.rg_tree.specs.Primes.{speaks_of_two};
+ghost use Rattle.rg_parse.specs.Syntax.{claim};
+ghost use Rattle.rg_parse.specs.ResolveFaults.{claim_faults, IsRefusal};
+ghost use Rattle.rg_parse.specs.ResolveTrees.{typed_claim};
+
 mod formula;
 pub mod group;
 mod leaf;
 mod scope;
+
+use crate::syntax;
+use formula::formula_tree;
+use rg_tree::tree::Formula;
+use rg_words::{Layout, Refusal, SourceFile};
+use scope::Scope;
+use std::alloc::Global;
+
+/// The typed tree of a formula over the declared words, whose tokens are of the source.
+///
+/// Refused at the least leaf that is at fault, by its least number, at the line of its token: 3 a word that isn't
+/// declared, 6 a number too large for its group or a shift count above 63, 7 a word of another width than its group's,
+/// 8 the first number of a group without a word, 9 a primed word where `one_state`. 99 where memory was refused.
+pub fn resolve_formula(
+    alloc: Global,
+    layout: &Layout,
+    file: SourceFile,
+    source: &[u8],
+    one_state: bool,
+    written: &syntax::Formula,
+) -> Result<Formula, Refusal>
+    ensures tree { IfOk result (λ f. view f ≡ typed_claim layout.now (claim source.now written.now)) }
+    ensures faultless { IfOk result (λ _. claim_faults layout.now one_state (claim source.now written.now) ≡ []) }
+    ensures fault { IfErr result (λ refusal. IsRefusal file (claim_faults layout.now one_state (claim source.now written.now)) refusal) }
+    ensures typed { IfOk result (λ f. IsTyped (widths_of layout.now) (view f)) }
+    ensures fits { IfOk result (λ f. FormulaFits (view f) (length layout.now)) }
+    ensures primes { IsTrue one_state → IfOk result (λ f. speaks_of_two (view f) ≡ false) }
+{
+    let scope = Scope {
+        alloc,
+        layout,
+        file,
+        source,
+        one_state,
+    };
+    let tree = formula_tree(&scope, written)?;
+    // The widths of a layout are within the limit.
+    let _count = layout.len();
+    Ok(tree)
+}

@@ -37,7 +37,7 @@ fn conditional(conditional: Conditional) -> Connective
 /// The tree of an expression of this group.
 #[cycle(resolving)]
 #[tactic(auto, using(crate::proofs::ResolveRefusals::refusals, crate::proofs::ResolveParts::parts))]
-fn resolve_expression(scope: &Scope, group: Group, e: &syntax::Expr) -> Result<Expr, Refusal>
+fn expression_tree(scope: &Scope, group: Group, e: &syntax::Expr) -> Result<Expr, Refusal>
     requires { width_of group ≤ MOST_WIDTH }
     ensures tree { IfOk result (λ tree. IsTermTree scope.now.layout.now scope.now.one_state group (term scope.now.source.now e.now) (expression tree)) }
     ensures fault { IfErr result (λ refusal. IsRefusal scope.now.file (term_faults scope.now.layout.now scope.now.one_state group (term scope.now.source.now e.now)) refusal) }
@@ -54,24 +54,24 @@ fn resolve_expression(scope: &Scope, group: Group, e: &syntax::Expr) -> Result<E
             Ok(Expr::NextWord(word))
         }
         syntax::Expr::Inverse(a) => {
-            let a = resolve_expression(scope, group, a)?;
+            let a = expression_tree(scope, group, a)?;
             Ok(Expr::Inverse(group.width(), Box::new(scope.alloc, a)?))
         }
         syntax::Expr::Binary(operator, a, b) => {
-            let a = resolve_expression(scope, group, a)?;
-            let b = resolve_expression(scope, group.after_first(), b)?;
+            let a = expression_tree(scope, group, a)?;
+            let b = expression_tree(scope, group.after_first(), b)?;
             let a = Box::new(scope.alloc, a)?;
             Ok(Expr::Binary(*operator, group.width(), a, Box::new(scope.alloc, b)?))
         }
         syntax::Expr::Shifted(shift, a, count) => {
-            let a = resolve_expression(scope, group, a)?;
+            let a = expression_tree(scope, group, a)?;
             let count = scope.shift_count(count)?;
             Ok(Expr::Shifted(*shift, group.width(), Box::new(scope.alloc, a)?, count))
         }
         syntax::Expr::If(f, a, b) => {
-            let f = resolve_formula(scope, f)?;
-            let a = resolve_expression(scope, group, a)?;
-            let b = resolve_expression(scope, group.after_first(), b)?;
+            let f = formula_tree(scope, f)?;
+            let a = expression_tree(scope, group, a)?;
+            let b = expression_tree(scope, group.after_first(), b)?;
             let f = Box::new(scope.alloc, f)?;
             let a = Box::new(scope.alloc, a)?;
             Ok(Expr::If(f, a, Box::new(scope.alloc, b)?))
@@ -82,27 +82,27 @@ fn resolve_expression(scope: &Scope, group: Group, e: &syntax::Expr) -> Result<E
 /// The tree of a formula.
 #[cycle(resolving)]
 #[tactic(auto, using(crate::proofs::ResolveRefusals::refusals, crate::proofs::ResolveParts::parts))]
-fn resolve_formula(scope: &Scope, f: &syntax::Formula) -> Result<Formula, Refusal>
+pub fn formula_tree(scope: &Scope, f: &syntax::Formula) -> Result<Formula, Refusal>
     ensures tree { IfOk result (λ tree. IsClaimTree scope.now.layout.now scope.now.one_state (claim scope.now.source.now f.now) (formula tree)) }
     ensures fault { IfErr result (λ refusal. IsRefusal scope.now.file (claim_faults scope.now.layout.now scope.now.one_state (claim scope.now.source.now f.now)) refusal) }
 {
     match f {
         syntax::Formula::Truth(b) => Ok(Formula::Truth(*b)),
         syntax::Formula::Not(f) => {
-            let f = resolve_formula(scope, f)?;
+            let f = formula_tree(scope, f)?;
             Ok(Formula::Not(Box::new(scope.alloc, f)?))
         }
-        syntax::Formula::Joined(junction, f, g) => resolve_chain(scope, *junction, f, g),
+        syntax::Formula::Joined(junction, f, g) => chain_tree(scope, *junction, f, g),
         syntax::Formula::Implied(kind, f, g) => {
-            let f = resolve_formula(scope, f)?;
-            let g = resolve_formula(scope, g)?;
+            let f = formula_tree(scope, f)?;
+            let g = formula_tree(scope, g)?;
             let f = Box::new(scope.alloc, f)?;
             Ok(Formula::Connect(conditional(*kind), f, Box::new(scope.alloc, g)?))
         }
         syntax::Formula::Compared(comparison, a, b) => {
             let group = group_of(scope.layout, scope.source, a, b);
-            let a = resolve_expression(scope, group, a)?;
-            let b = resolve_expression(scope, group.after_first(), b)?;
+            let a = expression_tree(scope, group, a)?;
+            let b = expression_tree(scope, group.after_first(), b)?;
             Ok(Formula::Compare(*comparison, a, b))
         }
     }
@@ -118,7 +118,7 @@ struct Link<'a> {
 /// The tree of a chain of operands, which leans to the left.
 #[cycle(resolving)]
 #[tactic(auto, using(crate::proofs::ResolveRefusals::refusals, crate::proofs::ResolveParts::parts))]
-fn resolve_chain(scope: &Scope, junction: Junction, f: &syntax::Formula, g: &syntax::Formula) -> Result<Formula, Refusal>
+fn chain_tree(scope: &Scope, junction: Junction, f: &syntax::Formula, g: &syntax::Formula) -> Result<Formula, Refusal>
     ensures tree { IfOk result (λ tree. IsClaimTree scope.now.layout.now scope.now.one_state (joined junction (claim scope.now.source.now f.now) (claim scope.now.source.now g.now)) (formula tree)) }
     ensures fault { IfErr result (λ refusal. IsRefusal scope.now.file (claim_faults scope.now.layout.now scope.now.one_state (joined junction (claim scope.now.source.now f.now) (claim scope.now.source.now g.now))) refusal) }
 {
@@ -129,10 +129,10 @@ fn resolve_chain(scope: &Scope, junction: Junction, f: &syntax::Formula, g: &syn
         links.push(Link { junction: *junction, operand: right })?;
         first = left;
     }
-    let mut tree = resolve_formula(scope, first)?;
+    let mut tree = formula_tree(scope, first)?;
     while let Some(link) = links.pop() {
         let left = Box::new(scope.alloc, tree)?;
-        let right = Box::new(scope.alloc, resolve_formula(scope, link.operand)?)?;
+        let right = Box::new(scope.alloc, formula_tree(scope, link.operand)?)?;
         tree = Formula::Connect(connective(link.junction), left, right);
     }
     Ok(tree)

@@ -8,47 +8,47 @@ use Rattle.rg_parse.proofs.ResolveParts.{of_compared}
 use Rattle.rg_parse.proofs.ResolveChain.{claim_size, step_of, steps_of, chain_of, steps_of-none, steps_of-push, no_items, spine_start, spine_step, done_start, done_step, done_end, done_smaller, spine_refused, done_refused, IsSpine, IsDone}
 use Rattle.rg_parse.proofs.resolve.formula.+resolving.Goals as goal
 
-pub resolve_chain-loop-first-init : goal.resolve_chain-loop-first-init
-resolve_chain-loop-first-init t c =
+pub chain_tree-loop-first-init : goal.chain_tree-loop-first-init
+chain_tree-loop-first-init t c =
     rw (steps_of-push c.args.scope.now.source.now _ _ _ c.in_ok-push.ensures.items, c.new-links.ensures.items, steps_of-none) (spine_start _ _ _)
 
-pub resolve_chain-loop-first-preserved : goal.resolve_chain-loop-first-preserved
-resolve_chain-loop-first-preserved t c =
+pub chain_tree-loop-first-preserved : goal.chain_tree-loop-first-preserved
+chain_tree-loop-first-preserved t c =
     let spine = rw c.in-Joined.is at c.loop-first.invariant in
     rw (steps_of-push c.args.scope.now.source.now _ _ _ c.in_ok-push-2.ensures.items, c.deref-first.ensures, c.deref.ensures) (spine_step _ _ _ _ _ spine)
 
-pub resolve_chain-returns-in_err-tree : goal.resolve_chain-returns-in_err-tree
-resolve_chain-returns-in_err-tree t c =
+pub chain_tree-returns-in_err-tree : goal.chain_tree-returns-in_err-tree
+chain_tree-returns-in_err-tree t c =
     let p = err_from_is_err_and c.from_residual-in_err-tree.result c.from_residual-in_err-tree.ensures.1 in
     rw (p.1, p.2) (record { tree = tt; fault = spine_refused _ _ _ _ _ _ _ c.loop-first.invariant c.in_err-tree.ensures.fault })
 
-pub resolve_chain-resolve_formula-requires-in-Some :
-    goal.resolve_chain-resolve_formula-requires-in-Some
-resolve_chain-resolve_formula-requires-in-Some t c =
+pub chain_tree-formula_tree-requires-in-Some :
+    goal.chain_tree-formula_tree-requires-in-Some
+chain_tree-formula_tree-requires-in-Some t c =
     let done = rw (steps_of-push c.args.scope.now.source.now _ _ _ c.in-Some.ensures.items) at c.loop-link.invariant in
     let smaller = done_smaller _ _ _ _ _ _ done in
     (omega (arith, smaller, c.decreases), tt)
 
-pub resolve_chain-returns-in_err-resolve_formula :
-    goal.resolve_chain-returns-in_err-resolve_formula
-resolve_chain-returns-in_err-resolve_formula t c =
-    let p = err_from_is_err_and c.from_residual-in_err-resolve_formula.result c.from_residual-in_err-resolve_formula.ensures.1 in
+pub chain_tree-returns-in_err-formula_tree :
+    goal.chain_tree-returns-in_err-formula_tree
+chain_tree-returns-in_err-formula_tree t c =
+    let p = err_from_is_err_and c.from_residual-in_err-formula_tree.result c.from_residual-in_err-formula_tree.ensures.1 in
     let done = rw (steps_of-push c.args.scope.now.source.now _ _ _ c.in-Some.ensures.items) at c.loop-link.invariant in
-    rw (p.1, p.2) (record { tree = tt; fault = done_refused _ _ _ _ _ _ _ _ done c.in_err-resolve_formula.ensures.fault })
+    rw (p.1, p.2) (record { tree = tt; fault = done_refused _ _ _ _ _ _ _ _ done c.in_err-formula_tree.ensures.fault })
 
-pub resolve_chain-loop-link-preserved : goal.resolve_chain-loop-link-preserved
-resolve_chain-loop-link-preserved t c =
+pub chain_tree-loop-link-preserved : goal.chain_tree-loop-link-preserved
+chain_tree-loop-link-preserved t c =
     let done = rw (steps_of-push c.args.scope.now.source.now _ _ _ c.in-Some.ensures.items) at c.loop-link.invariant in
-    rw (c.connective.ensures, c.in_ok-left.ensures.ok, c.in_ok-right.ensures.ok) (done_step _ _ _ _ _ _ _ done c.in_ok-resolve_formula.ensures.tree)
+    rw (c.connective.ensures, c.in_ok-left.ensures.ok, c.in_ok-right.ensures.ok) (done_step _ _ _ _ _ _ _ done c.in_ok-formula_tree.ensures.tree)
 
-pub resolve_chain-returns : goal.resolve_chain-returns
-resolve_chain-returns t c =
+pub chain_tree-returns : goal.chain_tree-returns
+chain_tree-returns t c =
     let none = no_items c.loop-link.links.items (omega (arith, c.in_default-pop.ensures.cases.0, c.loop-link.links.ok)) in
     let done = rw (none, steps_of-none) at c.loop-link.invariant in
     record { tree = done_end _ _ _ _ done; fault = tt }
 
-pub resolve_formula-returns-in_ok-b-in-Compared-clause-tree :
-    goal.resolve_formula-returns-in_ok-b-in-Compared-clause-tree
-resolve_formula-returns-in_ok-b-in-Compared-clause-tree t c =
+pub formula_tree-returns-in_ok-b-in-Compared-clause-tree :
+    goal.formula_tree-returns-in_ok-b-in-Compared-clause-tree
+formula_tree-returns-in_ok-b-in-Compared-clause-tree t c =
     let rest = rw c.after_first.ensures.exact at c.in_ok-b-in-Compared.ensures.tree in
     rw c.in-Compared.is (of_compared _ _ _ _ _ _ _ c.group_of-group.result c.group_of-group.ensures.exact c.in_ok-a-in-Compared.ensures.tree rest)
