@@ -1,3 +1,4 @@
 pub mod Syntax
 pub mod ResolveFaults
 pub mod ResolveTrees
+pub mod ResolveWords

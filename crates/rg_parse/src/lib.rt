@@ -1,5 +1,6 @@
 //! The parser: from tokens to typed trees, or the first fault.
 #![tactic(auto)]
 
+pub mod declare;
 pub mod resolve;
 pub mod syntax;

@@ -12,7 +12,7 @@ ghost use Rattle.rg_parse.specs.ResolveTrees.{typed_claim};
 
 mod formula;
 pub mod group;
-mod leaf;
+pub mod leaf;
 mod scope;
 
 use crate::syntax;
