@@ -1,23 +1,29 @@
 //! The pass of meaning: from a text whose shape is known to typed trees, or the first fault of its leaves.
 
-ghost use Rattle.std.specs.Prelude.{◌≡◌, false, [], length, IsTrue, IfOk, IfErr};
+ghost use Rattle.std.specs.Prelude.{◌≡◌, ◌≤◌, false, [], length, map, All, IsTrue, IfOk, IfErr};
+ghost use Rattle.rg_words.specs.Names.{IsName};
 ghost use Rattle.rg_words.specs.Layout.{widths_of};
+ghost use Rattle.rg_text.specs.Text.{text_of};
 ghost use Rattle.rg_tree.specs.View.{formula as view};
 ghost use Rattle.rg_tree.specs.Typing.{IsTyped};
 ghost use Rattle.rg_tree.specs.Fits.{FormulaFits};
 ghost use Rattle.rg_tree.specs.Primes.{speaks_of_two};
-ghost use Rattle.rg_parse.specs.Syntax.{claim};
+ghost use Rattle.rg_parse.specs.Syntax.{claim, declared_word};
 ghost use Rattle.rg_parse.specs.ResolveFaults.{claim_faults, IsRefusal};
 ghost use Rattle.rg_parse.specs.ResolveTrees.{typed_claim};
+ghost use Rattle.rg_parse.specs.ResolveWords.{words_of, shown_faults};
 
 mod formula;
 pub mod group;
 pub mod leaf;
 mod scope;
 
+use crate::declare::declare;
 use crate::syntax;
+use crate::syntax::Declaration;
 use formula::formula_tree;
 use rg_tree::tree::Formula;
+use rg_words::limits::MOST_WORDS;
 use rg_words::{Layout, Refusal, SourceFile};
 use scope::Scope;
 use std::alloc::Global;
@@ -53,4 +59,30 @@ pub fn resolve_formula(
     // The widths of a layout are within the limit.
     let _count = layout.len();
     Ok(tree)
+}
+
+/// The declared words and the typed tree of a formula over them that may speak of two states.
+///
+/// Refused at the least token that is at fault: those of the declarations, as `declare` refuses them, come before the
+/// leaves of the formula, as `resolve_formula` refuses them. 99 where memory was refused.
+#[tactic(auto, using(crate::proofs::ResolveRefusals::refusals))]
+pub fn resolve_shown(
+    alloc: Global,
+    file: SourceFile,
+    source: &[u8],
+    declarations: &[Declaration],
+    written: &syntax::Formula,
+) -> Result<(Layout, Formula), Refusal>
+    requires names { All (λ d. IsName (text_of source.now d.name)) declarations.now }
+    requires count { length declarations.now ≤ MOST_WORDS }
+    ensures words { IfOk result (λ r. r.0 ≡ words_of (map (declared_word source.now) declarations.now)) }
+    ensures tree { IfOk result (λ r. view r.1 ≡ typed_claim r.0 (claim source.now written.now)) }
+    ensures faultless { IfOk result (λ _. shown_faults (map (declared_word source.now) declarations.now) (claim source.now written.now) ≡ []) }
+    ensures fault { IfErr result (λ refusal. IsRefusal file (shown_faults (map (declared_word source.now) declarations.now) (claim source.now written.now)) refusal) }
+    ensures typed { IfOk result (λ r. IsTyped (widths_of r.0) (view r.1)) }
+    ensures fits { IfOk result (λ r. FormulaFits (view r.1) (length r.0)) }
+{
+    let layout = declare(alloc, file, source, declarations)?;
+    let tree = resolve_formula(alloc, &layout, file, source, false, written)?;
+    Ok((layout, tree))
 }
