@@ -1,5 +1,5 @@
 -- Words that are declared one after another.
-use Rattle.std.proofs.Common.{◌≡◌, ℕ, suc, ◌+◌, ◌≤◌, ◌<◌, List, [], ◌∷◌, ◌++◌, length, map, drop, refl, sym, ap, subst, ◌∙◌, arith, add-one, append_assoc, get_or, drop-cons}
+use Rattle.std.proofs.Common.{◌≡◌, ℕ, suc, ◌+◌, ◌≤◌, ◌<◌, List, [], ◌∷◌, ◌++◌, length, map, drop, refl, sym, ap, ◌∙◌, add-one, append_assoc, get_or, drop-cons}
 use Rattle.std.proofs.lemmas.List.{append-nil}
 use Rattle.std.proofs.Math.ListN.{drop_of_length-le}
 use Rattle.rg_words.specs.declared.refusal.Refusal.{Refusal}
@@ -23,9 +23,9 @@ so_far_start all = record { whole = refl; faults = refl }
 pub so_far_step : (all rest : List DeclaredWord) (d : DeclaredWord) (words more : List Word) → IsDeclaredSoFar all (d ∷ rest) words → name_faults words d.name ++ width_faults d.width ≡ [] → more ≡ words ++ word_of d ∷ [] → IsDeclaredSoFar all rest more
 unfolding faults_behind
 so_far_step all rest d words more h none same = rw same (record {
-    whole = append_assoc words (word_of d ∷ []) (words_of rest) ∙ h.whole;
-    faults = sym (ap (λ fs. fs ++ faults_behind (words ++ word_of d ∷ []) rest) none) ∙ h.faults;
-  })
+  whole = append_assoc words (word_of d ∷ []) (words_of rest) ∙ h.whole;
+  faults = sym (ap (λ fs. fs ++ faults_behind (words ++ word_of d ∷ []) rest) none) ∙ h.faults;
+})
 
 pub so_far_refused : (file : SourceFile) (refusal : Refusal) (all rest : List DeclaredWord) (d : DeclaredWord) (words : List Word) → IsDeclaredSoFar all (d ∷ rest) words → IsRefusal file (name_faults words d.name ++ width_faults d.width) refusal → IsRefusal file (declaration_faults all) refusal
 unfolding faults_behind

@@ -1,6 +1,6 @@
 -- Names are text, and numbers of more digits are no smaller.
-use Rattle.std.proofs.Common.{◌≡◌, ℕ, ◌+◌, ◌*◌, ◌<◌, ◌≤◌, Bool, true, false, ◌||◌, ◌&&◌, List, [], ◌∷◌, length, refl, sym, subst, ◌∙◌, arith, get_or, ap, drop, suc, drop-cons}
-use Rattle.std.specs.Prelude.{Option, Some, None, IsTrue, All, nat_le}
+use Rattle.std.proofs.Common.{◌≡◌, ℕ, ◌+◌, ◌*◌, ◌<◌, ◌≤◌, true, List, [], ◌∷◌, length, refl, sym, subst, ◌∙◌, arith, get_or, ap, drop, suc, drop-cons}
+use Rattle.std.specs.Prelude.{Option, Some, None, All}
 use Rattle.std.specs.List.{list_all}
 use Rattle.std.specs.Char.{digit_value}
 use Rattle.std.specs.Str.{IsUtf8, IsAscii, bytes_eq}

@@ -1,5 +1,5 @@
 -- The tree of an expression and of a formula, from the trees of its parts.
-use Rattle.std.proofs.Common.{◌≡◌, ℕ, ◌<◌, ◌≤◌, ◌^◌, Bool, true, false, List, [], ◌∷◌, ◌++◌, refl, sym, ap, ◌∙◌, arith}
+use Rattle.std.proofs.Common.{◌≡◌, ℕ, ◌<◌, ◌^◌, Bool, false, List, [], refl, ap, ◌∙◌}
 use Rattle.std.specs.Prelude.{nat_lt, nat_le}
 use Rattle.std.proofs.lemmas.Bool.{lt-ltb}
 use Rattle.rg_words.specs.declared.limits.TheConstants.{MOST_SHIFT}
@@ -14,12 +14,12 @@ use Rattle.rg_text.specs.Text.{Leaf}
 use Rattle.rg_tree.specs.Trees as tree
 use Rattle.rg_tree.specs.Trees.{Expression, Proposition}
 use Rattle.rg_parse.specs.Syntax.{Term, Claim, number, word, next_word, inverse, binary, shifted, choice, truth, negation, joined, implied, compared}
-use Rattle.rg_parse.specs.ResolveFaults.{number_of, unprimed, group_of, after_first, unless, word_faults, number_faults, term_faults, claim_faults}
-use Rattle.rg_parse.specs.ResolveTrees.{place_of, connective_of, conditional_of, width_of, typed_term, typed_claim, IsTermTree, IsClaimTree}
+use Rattle.rg_parse.specs.ResolveFaults.{number_of, unprimed, group_of, after_first, unless, word_faults, term_faults}
+use Rattle.rg_parse.specs.ResolveTrees.{place_of, connective_of, conditional_of, width_of, typed_term, IsTermTree, IsClaimTree}
 use Rattle.rg_parse.proofs.ResolveRefusals.{no_faults, no_test}
-use Rattle.rg_parse.proofs.ResolveTyped.{known_group, IsWidthOfWord}
+use Rattle.rg_parse.proofs.ResolveTyped.{known_group}
 use Rattle.rg_parse.specs.declared.resolve.group.Group.{Group}
-use Rattle.rg_parse.specs.declared.resolve.group.Group.TheVariants.{Width, Unasked, Wordless}
+use Rattle.rg_parse.specs.declared.resolve.group.Group.TheVariants.{Width, Unasked}
 
 module _ (words : List Word) (one_state : Bool) where
   pub of_word_leaf : (group : Group) (x : Leaf) (k : ℕ) → word_faults words group false x.line (index_of words x.text) ≡ [] → k ≡ place_of words x.text → IsTermTree words one_state group (word x) (tree.word k)

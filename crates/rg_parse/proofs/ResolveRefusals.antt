@@ -1,9 +1,8 @@
 -- Refusals and trees of a leaf, and of what is made of two parts.
-use Rattle.std.proofs.Common.{◌≡◌, ℕ, ◌<◌, ◌≤◌, ◌^◌, Bool, true, false, not, cond, List, [], ◌∷◌, ◌++◌, refl, sym, ap, ◌∙◌, inl, inr, arith}
-use Rattle.std.specs.Prelude.{Option, Some, None, ◌⊎◌, nat_lt, nat_le}
+use Rattle.std.proofs.Common.{◌≡◌, ℕ, ◌<◌, ◌^◌, Bool, true, false, List, [], ◌∷◌, ◌++◌, refl, inl, inr, arith}
+use Rattle.std.specs.Prelude.{Option, Some, None, nat_lt}
 use Rattle.std.specs.Option.{unwrap_or}
 use Rattle.std.proofs.lemmas.Bool.Decides.{nat_tests}
-use Rattle.rg_words.specs.declared.limits.TheConstants.{MOST_SHIFT}
 use Rattle.rg_words.specs.declared.refusal.Refusal.{Refusal}
 use Rattle.rg_words.specs.declared.refusal.SourceFile.{SourceFile}
 use Rattle.rg_words.specs.declared.refusal.RefusalNumber.{RefusalNumber}
@@ -12,7 +11,7 @@ use Rattle.rg_words.specs.Refusals.{no_memory, refused_at}
 use Rattle.rg_words.specs.Layout.{Word}
 use Rattle.rg_parse.specs.ResolveFaults.{Fault, width_at, unless, is_other, word_faults, number_faults, IsFirst, IsRefusal}
 use Rattle.rg_parse.specs.declared.resolve.group.Group.{Group}
-use Rattle.rg_parse.specs.declared.resolve.group.Group.TheVariants.{Width, Unasked, Wordless}
+use Rattle.rg_parse.specs.declared.resolve.group.Group.TheVariants.{Width, Wordless}
 
 -- want of memory is a refusal of every text
 pub of_memory : (file : SourceFile) (faults : List Fault) (refusal : Refusal) → refusal ≡ no_memory → IsRefusal file faults refusal

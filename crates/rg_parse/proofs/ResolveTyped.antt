@@ -1,20 +1,19 @@
 -- A formula without faults is typed, fits its words, and has no primed word where one state is spoken of.
-use Rattle.std.proofs.Common.{◌≡◌, ℕ, ◌<◌, ◌≤◌, ◌^◌, Bool, true, false, not, cond, ◌||◌, List, [], ◌∷◌, ◌++◌, length, map, refl, sym, ap, subst, ◌∙◌, arith, get_or, inl, inr}
-use Rattle.std.specs.Prelude.{Option, Some, None, ◌⊎◌, nat_eq, nat_lt, nat_le, slice_index}
+use Rattle.std.proofs.Common.{◌≡◌, ℕ, ◌<◌, ◌≤◌, Bool, true, false, cond, ◌||◌, List, [], ◌∷◌, ◌++◌, length, refl, ap, ◌∙◌, arith, inl, inr}
+use Rattle.std.specs.Prelude.{Option, Some, None, ◌⊎◌}
 use Rattle.std.specs.Option.{option_or, unwrap_or}
 use Rattle.std.specs.Str.{bytes_eq}
 use Rattle.std.proofs.lemmas.Bool.{ltb-true, leb-true, eqb-true, not-false, false≢true}
 use Rattle.std.proofs.lemmas.List.{length-map, get_or-map}
 use Rattle.std.proofs.lemmas.List.Quantifiers.{position-Some}
-use Rattle.rg_words.specs.declared.limits.TheConstants.{MOST_WIDTH, MOST_SHIFT}
+use Rattle.rg_words.specs.declared.limits.TheConstants.{MOST_WIDTH}
 use Rattle.rg_words.specs.declared.refusal.RefusalNumber.{RefusalNumber}
 use Rattle.rg_words.specs.Layout.{Word, IsLayout, index_of, widths_of}
-use Rattle.rg_text.specs.Text.{Leaf}
 use Rattle.rg_tree.specs.Typing.{HasWidth, IsTyped}
 use Rattle.rg_tree.specs.Primes.{has_next_word, speaks_of_two}
 use Rattle.rg_parse.specs.Syntax.{Term, Claim, number, word, next_word, inverse, binary, shifted, choice, truth, negation, joined, implied, compared}
-use Rattle.rg_parse.specs.ResolveFaults.{Fault, number_of, unprimed, width_at, first_name, group_at, group_by, group_of, after_first, unless, is_other, word_faults, number_faults, term_faults, claim_faults}
-use Rattle.rg_parse.specs.ResolveTrees.{place_of, width_of, typed_term, typed_claim}
+use Rattle.rg_parse.specs.ResolveFaults.{Fault, unprimed, width_at, first_name, group_at, group_by, group_of, after_first, unless, word_faults, term_faults, claim_faults}
+use Rattle.rg_parse.specs.ResolveTrees.{place_of, typed_term, typed_claim}
 use Rattle.rg_parse.specs.declared.resolve.group.Group.{Group}
 use Rattle.rg_parse.specs.declared.resolve.group.Group.TheVariants.{Width, Unasked, Wordless}
 
@@ -78,13 +77,15 @@ unknown_faulty words one_state name u (word x) group e h =
 unknown_faulty words one_state name u (next_word x) group e h =
     let same : unprimed x.text ≡ name = cc in word_is_found words group one_state x.line _ (ap (λ n. index_of words n) same ∙ u) h
 unknown_faulty words one_state name u (inverse a) group e h = unknown_faulty words one_state name u a group e h
-unknown_faulty words one_state name u (binary o a b) group e h = elim (first_of_two _ _ name e)
-    [ inl p ↦ unknown_faulty words one_state name u a group p (none_left _ _ h)
-    | inr q ↦ unknown_faulty words one_state name u b (after_first group) q (none_right _ _ h) ]
+unknown_faulty words one_state name u (binary o a b) group e h = elim (first_of_two _ _ name e) [
+  | inl p ↦ unknown_faulty words one_state name u a group p (none_left _ _ h)
+  | inr q ↦ unknown_faulty words one_state name u b (after_first group) q (none_right _ _ h)
+]
 unknown_faulty words one_state name u (shifted d a n) group e h = unknown_faulty words one_state name u a group e (none_left _ _ h)
-unknown_faulty words one_state name u (choice f a b) group e h = elim (first_of_two _ _ name e)
-    [ inl p ↦ unknown_faulty words one_state name u a group p (none_left _ _ (none_right _ _ h))
-    | inr q ↦ unknown_faulty words one_state name u b (after_first group) q (none_right _ _ (none_right _ _ h)) ]
+unknown_faulty words one_state name u (choice f a b) group e h = elim (first_of_two _ _ name e) [
+  | inl p ↦ unknown_faulty words one_state name u a group p (none_left _ _ (none_right _ _ h))
+  | inr q ↦ unknown_faulty words one_state name u b (after_first group) q (none_right _ _ (none_right _ _ h))
+]
 
 -- the widths of words are within the limit
 abbrev pub AreNarrow : List Word → Type 0
@@ -101,9 +102,10 @@ module _ (words : List Word) (one_state : Bool) (a b : Term) where
       → (found : Option ℕ) → index_of words name ≡ found
       → term_faults words one_state (group_at words found) a ++ term_faults words one_state (after_first (group_at words found)) b ≡ []
       → IsWidthOfWord words (group_at words found)
-  found_group name e None u h = absurd (elim (first_of_two _ _ name e)
-      [ inl p ↦ unknown_faulty words one_state name u a Unasked p (none_left _ _ h)
-      | inr q ↦ unknown_faulty words one_state name u b Unasked q (none_right _ _ h) ])
+  found_group name e None u h = absurd (elim (first_of_two _ _ name e) [
+    | inl p ↦ unknown_faulty words one_state name u a Unasked p (none_left _ _ h)
+    | inr q ↦ unknown_faulty words one_state name u b Unasked q (none_right _ _ h)
+  ])
   found_group name e (Some k) u h = record { place = k; inside = found_within words name k u; is = refl }
 
   first_group : (first : Option (List ℕ)) → option_or (first_name a) (first_name b) ≡ first

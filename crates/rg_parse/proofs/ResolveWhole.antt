@@ -1,26 +1,16 @@
 -- What holds of the tree of a whole formula over the words of a layout.
-use Rattle.std.proofs.Common.{◌≡◌, ℕ, Bool, true, false, List, length, sym, subst}
-use Rattle.std.proofs.lemmas.List.{length-map}
+use Rattle.std.proofs.Common.{◌≡◌, Bool, true, false, List}
 use Rattle.rg_words.specs.Layout.{Word, IsLayout, widths_of}
 use Rattle.rg_tree.specs.Trees.{Proposition}
 use Rattle.rg_tree.specs.Typing.{IsTyped}
-use Rattle.rg_tree.specs.Fits.{FormulaFits}
 use Rattle.rg_tree.specs.Primes.{speaks_of_two}
 use Rattle.rg_parse.specs.Syntax.{Claim}
-use Rattle.rg_parse.specs.ResolveTrees.{typed_claim, IsClaimTree}
+use Rattle.rg_parse.specs.ResolveTrees.{IsClaimTree}
 use Rattle.rg_parse.proofs.ResolveTyped.{claim_typed, claim_plain, layout_is_narrow}
-use Rattle.rg_parse.proofs.ResolveFits.{formula_fits}
 
 module _ (words : List Word) (one_state : Bool) (f : Claim) (p : Proposition) (layout : IsLayout words) (h : IsClaimTree words one_state f p) where
   pub tree_typed : IsTyped (widths_of words) p
   tree_typed = rw h.tree (claim_typed words one_state (layout_is_narrow words layout) f h.faultless)
-
-  pub tree_fits : FormulaFits p (length words)
-  tree_fits =
-      let count = length-map words (λ (w : Word). w.width) in
-      let narrow = rw (← count) at (layout_is_narrow words layout) in
-      let P : ℕ → Type 0 = λ n. FormulaFits p n in
-      subst P count (formula_fits (widths_of words) narrow p tree_typed)
 
 pub tree_plain : (words : List Word) (f : Claim) (p : Proposition) → IsClaimTree words true f p → speaks_of_two p ≡ false
 tree_plain words f p h = rw h.tree (claim_plain words f h.faultless)

@@ -1,5 +1,5 @@
 -- The typed tree that a formula without faults stands for.
-use Rattle.std.specs.Prelude.{◌≡◌, ℕ, Bool, List, [], Option, Some, None}
+use Rattle.std.specs.Prelude.{◌≡◌, ℕ, Bool, List, []}
 use Rattle.std.specs.Option.{unwrap_or}
 use Rattle.rg_words.specs.declared.operators.Connective.{Connective}
 use Rattle.rg_words.specs.declared.operators.Connective.TheVariants.{And as Conjunction, Or as Disjunction, Implies as Implication, Iff as Equivalence}

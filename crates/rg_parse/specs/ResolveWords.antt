@@ -1,5 +1,5 @@
 -- Declarations: their words, and their faults in the order of the text.
-use Rattle.std.specs.Prelude.{ℕ, Bool, false, ◌&&◌, nat_le, List, [], ◌∷◌, ◌++◌, map, is_none}
+use Rattle.std.specs.Prelude.{false, ◌&&◌, nat_le, List, [], ◌∷◌, ◌++◌, map, is_none}
 use Rattle.rg_words.specs.declared.limits.TheConstants.{MOST_WIDTH}
 use Rattle.rg_words.specs.declared.refusal.RefusalNumber.TheVariants.{NameTwice, Width}
 use Rattle.rg_words.specs.Layout.{Word, index_of}

@@ -26,13 +26,22 @@ fn width_of(file: SourceFile, source: &[u8], token: &Token) -> Result<u32, Refus
 {
     match number(text(source, token)) {
         Some(width) if width >= 1 && width <= u64::from(MOST_WIDTH) => Ok(width as u32),
-        _ => Err(Refusal::at(RefusalNumber::Width, file, Place::Line(u64::from(token.line)))),
+        _ => Err(Refusal::at(
+            RefusalNumber::Width,
+            file,
+            Place::Line(u64::from(token.line)),
+        )),
     }
 }
 
 /// Puts a declared word behind the others.
 #[tactic(auto, using(crate::proofs::ResolveRefusals::refusals))]
-fn declare_word(layout: &mut Layout, file: SourceFile, source: &[u8], declaration: &Declaration) -> Result<(), Refusal>
+fn declare_word(
+    layout: &mut Layout,
+    file: SourceFile,
+    source: &[u8],
+    declaration: &Declaration,
+) -> Result<(), Refusal>
     requires name { IsName (text_of source.now declaration.now.name) }
     requires room { length layout.old < MOST_WORDS }
     ensures word { OnOk result (layout.new ≡ layout.old ++ word_of (declared_word source.now declaration.now) ∷ []) }
@@ -60,7 +69,12 @@ fn declare_word(layout: &mut Layout, file: SourceFile, source: &[u8], declaratio
 ///
 /// Refused at the least token that is at fault, at its line: 4 the name of a second declaration of a name, 5 a width
 /// that isn't from 1 to 64. 99 where memory was refused.
-pub fn declare(alloc: Global, file: SourceFile, source: &[u8], declarations: &[Declaration]) -> Result<Layout, Refusal>
+pub fn declare(
+    alloc: Global,
+    file: SourceFile,
+    source: &[u8],
+    declarations: &[Declaration],
+) -> Result<Layout, Refusal>
     requires names { All (λ d. IsName (text_of source.now d.name)) declarations.now }
     requires count { length declarations.now ≤ MOST_WORDS }
     ensures words { IfOk result (λ layout. layout ≡ words_of (map (declared_word source.now) declarations.now)) }

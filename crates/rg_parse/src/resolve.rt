@@ -14,8 +14,8 @@ ghost use Rattle.rg_parse.specs.ResolveTrees.{typed_claim};
 ghost use Rattle.rg_parse.specs.ResolveWords.{words_of, shown_faults};
 
 mod formula;
-pub mod group;
-pub mod leaf;
+mod group;
+pub(crate) mod leaf;
 mod scope;
 
 use crate::declare::declare;
@@ -23,6 +23,7 @@ use crate::syntax;
 use crate::syntax::Declaration;
 use formula::formula_tree;
 use rg_tree::tree::Formula;
+use rg_tree::typing::typed_trees_fit;
 use rg_words::limits::MOST_WORDS;
 use rg_words::{Layout, Refusal, SourceFile};
 use scope::Scope;
@@ -56,8 +57,9 @@ pub fn resolve_formula(
         one_state,
     };
     let tree = formula_tree(&scope, written)?;
-    // The widths of a layout are within the limit.
+    // Typed trees over the words of a layout fit them.
     let _count = layout.len();
+    typed_trees_fit();
     Ok(tree)
 }
 

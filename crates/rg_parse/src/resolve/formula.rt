@@ -118,15 +118,26 @@ struct Link<'a> {
 /// The tree of a chain of operands, which leans to the left.
 #[cycle(resolving)]
 #[tactic(auto, using(crate::proofs::ResolveRefusals::refusals, crate::proofs::ResolveParts::parts))]
-fn chain_tree(scope: &Scope, junction: Junction, f: &syntax::Formula, g: &syntax::Formula) -> Result<Formula, Refusal>
+fn chain_tree(
+    scope: &Scope,
+    junction: Junction,
+    f: &syntax::Formula,
+    g: &syntax::Formula,
+) -> Result<Formula, Refusal>
     ensures tree { IfOk result (λ tree. IsClaimTree scope.now.layout.now scope.now.one_state (joined junction (claim scope.now.source.now f.now) (claim scope.now.source.now g.now)) (formula tree)) }
     ensures fault { IfErr result (λ refusal. IsRefusal scope.now.file (claim_faults scope.now.layout.now scope.now.one_state (joined junction (claim scope.now.source.now f.now) (claim scope.now.source.now g.now))) refusal) }
 {
     let mut links = Vec::new(scope.alloc);
-    links.push(Link { junction, operand: g })?;
+    links.push(Link {
+        junction,
+        operand: g,
+    })?;
     let mut first = f;
     while let syntax::Formula::Joined(junction, left, right) = first {
-        links.push(Link { junction: *junction, operand: right })?;
+        links.push(Link {
+            junction: *junction,
+            operand: right,
+        })?;
         first = left;
     }
     let mut tree = formula_tree(scope, first)?;

@@ -41,7 +41,13 @@ impl Scope<'_> {
 
     /// The place of a word of this group, plain or primed: its name may differ from its token's text.
     #[tactic(auto, using(crate::proofs::ResolveRefusals::refusals))]
-    pub fn word(&self, group: Group, token: &Token, name: &[u8], barred: bool) -> Result<usize, Refusal>
+    pub fn word(
+        &self,
+        group: Group,
+        token: &Token,
+        name: &[u8],
+        barred: bool,
+    ) -> Result<usize, Refusal>
         ensures faultless { IfOk result (λ _. word_faults self.now.layout.now group barred token.now.line (index_of self.now.layout.now name.now) ≡ []) }
         ensures place { IfOk result (λ k. k ≡ place_of self.now.layout.now name.now) }
         ensures fault { IfErr result (λ e. IsRefusal self.now.file (word_faults self.now.layout.now group barred token.now.line (index_of self.now.layout.now name.now)) e) }

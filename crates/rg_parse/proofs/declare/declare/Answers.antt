@@ -1,4 +1,4 @@
-use Rattle.std.proofs.Common.{◌≡◌, ℕ, ◌+◌, [], ◌∷◌, ◌++◌, length, map, arith, length-append}
+use Rattle.std.proofs.Common.{arith, length-append}
 use Rattle.std.proofs.lemmas.Result.{err_from_is_err_and}
 use Rattle.rg_parse.proofs.ResolveDeclared.{so_far_start, so_far_words, so_far_faultless, declared_from-start, declared_from-end, declared_step, declared_refused}
 use Rattle.rg_parse.proofs.declare.declare.Goals as goal

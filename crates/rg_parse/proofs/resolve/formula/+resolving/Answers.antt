@@ -1,11 +1,7 @@
-use Rattle.std.proofs.Common.{rules, ◌≡◌, ℕ, ◌+◌, ◌<◌, List, [], ◌∷◌, ◌++◌, arith, sym, ap, ◌∙◌}
-use Rattle.rg_tree.specs.View.{expression, formula}
-use Rattle.rg_parse.specs.Syntax.{term, claim, joined}
-use Rattle.rg_parse.specs.ResolveFaults.{term_faults, claim_faults, IsRefusal}
-use Rattle.rg_parse.specs.ResolveTrees.{width_of, connective_of, conditional_of, IsTermTree, IsClaimTree}
+use Rattle.std.proofs.Common.{arith}
 use Rattle.std.proofs.lemmas.Result.{err_from_is_err_and}
 use Rattle.rg_parse.proofs.ResolveParts.{of_compared}
-use Rattle.rg_parse.proofs.ResolveChain.{claim_size, step_of, steps_of, chain_of, steps_of-none, steps_of-push, no_items, spine_start, spine_step, done_start, done_step, done_end, done_smaller, spine_refused, done_refused, IsSpine, IsDone}
+use Rattle.rg_parse.proofs.ResolveChain.{steps_of-none, steps_of-push, no_items, spine_start, spine_step, done_step, done_end, done_smaller, spine_refused, done_refused}
 use Rattle.rg_parse.proofs.resolve.formula.+resolving.Goals as goal
 
 pub chain_tree-loop-first-init : goal.chain_tree-loop-first-init

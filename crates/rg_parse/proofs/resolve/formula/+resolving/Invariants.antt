@@ -1,4 +1,4 @@
-use Rattle.std.proofs.Common.{ℕ, ◌+◌, vec_len}
+use Rattle.std.proofs.Common.{◌+◌, vec_len}
 use Rattle.rg_tree.specs.View.{formula}
 use Rattle.rg_parse.specs.Syntax.{term, claim, joined}
 use Rattle.rg_parse.proofs.ResolveChain.{term_size, claim_size, steps_of, IsSpine, IsDone}

@@ -1,6 +1,4 @@
-use Rattle.std.proofs.Common.{◌≡◌, ◌+◌, ◌*◌, ◌≤◌, ◌∙◌, arith, length, get_or, sym, ap}
-use Rattle.std.specs.Char.{digit_value}
-use Rattle.rg_parse.specs.ResolveFaults.{number_of}
+use Rattle.std.proofs.Common.{arith}
 use Rattle.rg_parse.proofs.ResolveNames.{no_less, no_more_digits}
 use Rattle.rg_parse.proofs.resolve.leaf.number.Goals as goal
 
