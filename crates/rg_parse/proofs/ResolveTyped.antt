@@ -27,12 +27,12 @@ none_right [] ys h = h
 none_right (x ∷ xs) ys h = cc
 
 -- a test that has no fault holds
-unless-none : (test : Bool) (what : RefusalNumber) (line : ℕ) → unless test what line ≡ [] → test ≡ true
+pub unless-none : (test : Bool) (what : RefusalNumber) (line : ℕ) → unless test what line ≡ [] → test ≡ true
 unless-none true what line h = refl
 unless-none false what line h = cc
 
 -- the first word of two operands is that of one of them
-first_of_two : (x y : Option (List ℕ)) (name : List ℕ) → option_or x y ≡ Some name → (x ≡ Some name) ⊎ (y ≡ Some name)
+pub first_of_two : (x y : Option (List ℕ)) (name : List ℕ) → option_or x y ≡ Some name → (x ≡ Some name) ⊎ (y ≡ Some name)
 first_of_two None y name h = inr h
 first_of_two (Some x) y name h = inl h
 
@@ -41,7 +41,7 @@ no_first None y h = refl
 no_first (Some x) y h = cc
 
 -- a list that begins with a fault where a test holds is empty
-both_none : (test : Bool) (fault : Fault) (rest : List Fault) → cond test (fault ∷ []) rest ≡ [] → (test ≡ false) × (rest ≡ [])
+pub both_none : (test : Bool) (fault : Fault) (rest : List Fault) → cond test (fault ∷ []) rest ≡ [] → (test ≡ false) × (rest ≡ [])
 both_none true fault rest h = cc
 both_none false fault rest h = (refl, h)
 
