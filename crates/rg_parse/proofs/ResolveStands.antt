@@ -1,23 +1,25 @@
 -- A formula stands for a typed tree exactly where it has no faults, and then for one.
-use Rattle.std.proofs.Common.{◌≡◌, ℕ, ◌<◌, ◌≤◌, ◌^◌, Bool, true, false, List, [], ◌∷◌, ◌++◌, refl, sym, ap, subst, ◌∙◌, inl, inr, arith}
+use Rattle.std.proofs.Common.{◌≡◌, ℕ, ◌^◌, Bool, true, false, List, [], refl, sym, ap, subst, ◌∙◌, inl, inr}
 use Rattle.std.specs.Prelude.{Option, Some, None, is_some, ◌⊎◌, not, nat_eq, nat_lt, nat_le}
 use Rattle.std.specs.Option.{option_or, unwrap_or}
 use Rattle.std.proofs.lemmas.Bool.{ltb-true, leb-true, eqb-true, eq-eqb, not-false, not-true, lt-ltb, le-leb}
 use Rattle.rg_words.specs.declared.limits.TheConstants.{MOST_SHIFT}
 use Rattle.rg_words.specs.declared.refusal.RefusalNumber.TheVariants.{NumberTooLarge}
+use Rattle.rg_words.specs.declared.refusal.Refusal.{Refusal}
+use Rattle.rg_words.specs.declared.refusal.SourceFile.{SourceFile}
+use Rattle.rg_words.specs.Refusals.{no_memory}
 use Rattle.rg_words.specs.Layout.{Word, index_of}
 use Rattle.rg_text.specs.Text.{Leaf}
 use Rattle.rg_tree.specs.Trees as tree
 use Rattle.rg_tree.specs.Trees.{Expression, Proposition}
 use Rattle.rg_parse.specs.Syntax as written
 use Rattle.rg_parse.specs.Syntax.{Term, Claim}
-use Rattle.rg_parse.specs.ResolveFaults.{number_of, unprimed, width_at, first_name, group_at, group_by, group_of, after_first, word_faults, term_faults, claim_faults}
-use Rattle.rg_parse.specs.ResolveTrees.{connective_of, conditional_of, width_of, typed_term, typed_claim}
-use Rattle.rg_parse.specs.ResolveTyping.{TermStandsFor, ClaimStandsFor, number, word, next_word, inverse, binary, shifted, choice, truth, negation, joined, implied, compared}
+use Rattle.rg_parse.specs.ResolveFaults.{number_of, unprimed, width_at, first_name, group_at, group_by, group_of, word_faults, term_faults, claim_faults, IsRefusal}
+use Rattle.rg_parse.specs.ResolveTrees.{typed_term, typed_claim}
+use Rattle.rg_parse.specs.ResolveTyping.{TermStandsFor, ClaimStandsFor, OneTree, FaultlessStand, number, word, next_word, inverse, binary, shifted, choice, truth, negation, joined, implied, compared}
 use Rattle.rg_parse.proofs.ResolveRefusals.{no_faults, no_test, no_fault_of_word}
 use Rattle.rg_parse.proofs.ResolveTyped.{none_left, none_right, unless-none, both_none, first_of_two, known_group}
-use Rattle.rg_parse.specs.declared.resolve.group.Group.{Group}
-use Rattle.rg_parse.specs.declared.resolve.group.Group.TheVariants.{Width, Unasked, Wordless}
+use Rattle.rg_parse.specs.declared.resolve.group.Group.TheVariants.{Width}
 
 -- a name is there
 the_name : (first : Option (List ℕ)) → is_some first ≡ true → (name : List ℕ) × (first ≡ Some name)
@@ -134,3 +136,13 @@ module _ (words : List Word) (one_state : Bool) where
         let w = width_at words known.place in
         let at_width = rw known.is at h in
         rw known.is (compared c w a b _ _ (term_stands w a (none_left _ _ at_width)) (term_stands w b (none_right _ _ at_width)) (has_first_word w a b known.is))
+
+pub one_tree : OneTree
+one_tree words one_state f p q s r = claim_tree words one_state f p s ∙ sym (claim_tree words one_state f q r)
+
+pub faultless_stand : FaultlessStand
+faultless_stand words one_state f = (λ h. (typed_claim words f, claim_stands words one_state f h), λ s. claim_faultless words one_state f s.0 s.1)
+
+-- a refusal that isn't want of memory tells of a fault
+pub refused_stands_for_none : (words : List Word) (one_state : Bool) (f : Claim) (file : SourceFile) (refusal : Refusal) → IsRefusal file (claim_faults words one_state f) refusal → (refusal ≡ no_memory) ⊎ ((p : Proposition) → ClaimStandsFor words one_state f p → ⊥)
+refused_stands_for_none words one_state f file refusal h = elim h.cause [ inl e ↦ inl e | inr e ↦ inr (λ p s. rw (claim_faultless words one_state f p s) at e) ]

@@ -1,5 +1,5 @@
 -- When a formula stands for a typed tree over declared words, by rules; one of them fits at most.
-use Rattle.std.specs.Prelude.{◌≡◌, ℕ, ◌<◌, ◌≤◌, ◌^◌, Bool, true, false, List, Option, Some, is_some}
+use Rattle.std.specs.Prelude.{◌≡◌, ◌↔◌, ℕ, ◌<◌, ◌≤◌, ◌^◌, Bool, true, false, List, [], Some, is_some}
 use Rattle.std.specs.Option.{option_or}
 use Rattle.rg_words.specs.declared.limits.TheConstants.{MOST_SHIFT}
 use Rattle.rg_words.specs.declared.operators.Operator.{Operator}
@@ -13,7 +13,7 @@ use Rattle.rg_tree.specs.Trees as tree
 use Rattle.rg_tree.specs.Trees.{Expression, Proposition}
 use Rattle.rg_parse.specs.Syntax as written
 use Rattle.rg_parse.specs.Syntax.{Term, Claim}
-use Rattle.rg_parse.specs.ResolveFaults.{number_of, unprimed, width_at, first_name}
+use Rattle.rg_parse.specs.ResolveFaults.{number_of, unprimed, width_at, first_name, claim_faults}
 use Rattle.rg_parse.specs.ResolveTrees.{connective_of, conditional_of}
 
 -- an expression has a word, plain or primed, outside the formulas of `(if ..)`
@@ -38,3 +38,11 @@ mutual
     joined : (j : Junction) (f g : Claim) (p q : Proposition) → ClaimStandsFor words one_state f p → ClaimStandsFor words one_state g q → ClaimStandsFor words one_state (written.joined j f g) (tree.connected (connective_of j) p q)
     implied : (d : Conditional) (f g : Claim) (p q : Proposition) → ClaimStandsFor words one_state f p → ClaimStandsFor words one_state g q → ClaimStandsFor words one_state (written.implied d f g) (tree.connected (conditional_of d) p q)
     compared : (c : Comparison) (w : ℕ) (a b : Term) (x y : Expression) → TermStandsFor words one_state w a x → TermStandsFor words one_state w b y → is_some (option_or (first_name a) (first_name b)) ≡ true → ClaimStandsFor words one_state (written.compared c a b) (tree.compared c x y)
+
+-- a formula stands for one tree at most
+abbrev pub OneTree : Type 0
+OneTree = (words : List Word) (one_state : Bool) (f : Claim) (p q : Proposition) → ClaimStandsFor words one_state f p → ClaimStandsFor words one_state f q → p ≡ q
+
+-- a formula stands for a tree exactly where it has no faults
+abbrev pub FaultlessStand : Type 0
+FaultlessStand = (words : List Word) (one_state : Bool) (f : Claim) → (claim_faults words one_state f ≡ []) ↔ ((p : Proposition) × ClaimStandsFor words one_state f p)
