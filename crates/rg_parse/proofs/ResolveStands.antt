@@ -9,12 +9,12 @@ use Rattle.rg_words.specs.declared.refusal.Refusal.{Refusal}
 use Rattle.rg_words.specs.declared.refusal.SourceFile.{SourceFile}
 use Rattle.rg_words.specs.Refusals.{no_memory}
 use Rattle.rg_words.specs.Layout.{Word, index_of}
-use Rattle.rg_text.specs.Text.{Leaf}
+use Rattle.rg_text.specs.Text.{Leaf, unprimed}
 use Rattle.rg_tree.specs.Trees as tree
 use Rattle.rg_tree.specs.Trees.{Expression, Proposition}
 use Rattle.rg_parse.specs.Syntax as written
 use Rattle.rg_parse.specs.Syntax.{Term, Claim}
-use Rattle.rg_parse.specs.ResolveFaults.{number_of, unprimed, width_at, first_name, group_at, group_by, group_of, word_faults, term_faults, claim_faults, IsRefusal}
+use Rattle.rg_parse.specs.ResolveFaults.{number_of, width_at, first_name, group_at, group_by, group_of, word_faults, term_faults, claim_faults, IsRefusal}
 use Rattle.rg_parse.specs.ResolveTrees.{typed_term, typed_claim}
 use Rattle.rg_parse.specs.ResolveTyping.{TermStandsFor, ClaimStandsFor, OneTree, FaultlessStand, number, word, next_word, inverse, binary, shifted, choice, truth, negation, joined, implied, compared}
 use Rattle.rg_parse.proofs.ResolveRefusals.{no_faults, no_test, no_fault_of_word}

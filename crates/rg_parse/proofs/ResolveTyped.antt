@@ -11,8 +11,9 @@ use Rattle.rg_words.specs.declared.refusal.RefusalNumber.{RefusalNumber}
 use Rattle.rg_words.specs.Layout.{Word, IsLayout, index_of, widths_of}
 use Rattle.rg_tree.specs.Typing.{HasWidth, IsTyped}
 use Rattle.rg_tree.specs.Primes.{has_next_word, speaks_of_two}
+use Rattle.rg_text.specs.Text.{unprimed}
 use Rattle.rg_parse.specs.Syntax.{Term, Claim, number, word, next_word, inverse, binary, shifted, choice, truth, negation, joined, implied, compared}
-use Rattle.rg_parse.specs.ResolveFaults.{Fault, unprimed, width_at, first_name, group_at, group_by, group_of, after_first, unless, word_faults, term_faults, claim_faults}
+use Rattle.rg_parse.specs.ResolveFaults.{Fault, width_at, first_name, group_at, group_by, group_of, after_first, unless, word_faults, term_faults, claim_faults}
 use Rattle.rg_parse.specs.ResolveTrees.{place_of, typed_term, typed_claim}
 use Rattle.rg_parse.specs.declared.resolve.group.Group.{Group}
 use Rattle.rg_parse.specs.declared.resolve.group.Group.TheVariants.{Width, Unasked, Wordless}

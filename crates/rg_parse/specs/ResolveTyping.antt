@@ -8,12 +8,12 @@ use Rattle.rg_words.specs.declared.operators.Comparison.{Comparison}
 use Rattle.rg_words.specs.Layout.{Word, index_of}
 use Rattle.rg_text.specs.declared.kind.Junction.{Junction}
 use Rattle.rg_text.specs.declared.kind.Conditional.{Conditional}
-use Rattle.rg_text.specs.Text.{Leaf}
+use Rattle.rg_text.specs.Text.{Leaf, unprimed}
 use Rattle.rg_tree.specs.Trees as tree
 use Rattle.rg_tree.specs.Trees.{Expression, Proposition}
 use Rattle.rg_parse.specs.Syntax as written
 use Rattle.rg_parse.specs.Syntax.{Term, Claim}
-use Rattle.rg_parse.specs.ResolveFaults.{number_of, unprimed, width_at, first_name, claim_faults}
+use Rattle.rg_parse.specs.ResolveFaults.{number_of, width_at, first_name, claim_faults}
 use Rattle.rg_parse.specs.ResolveTrees.{connective_of, conditional_of}
 
 -- an expression has a word, plain or primed, outside the formulas of `(if ..)`

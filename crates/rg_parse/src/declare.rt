@@ -13,9 +13,9 @@ use crate::resolve::leaf::{find, number, text};
 use crate::syntax::Declaration;
 use rg_text::token::Token;
 use rg_words::limits::{MOST_WIDTH, MOST_WORDS};
+use rg_words::names::as_name;
 use rg_words::{Layout, Place, Refusal, RefusalNumber, SourceFile};
 use std::alloc::Global;
-use std::str;
 
 /// A width from 1 to 64.
 #[tactic(auto, using(crate::proofs::ResolveRefusals::refusals))]
@@ -55,7 +55,7 @@ fn declare_word(
         return Err(Refusal::at(RefusalNumber::NameTwice, file, line));
     }
     let width = width_of(file, source, &declaration.width)?;
-    let Ok(name) = str::from_utf8(name) else {
+    let Some(name) = as_name(name) else {
         unreachable!()
     };
     if declaration.fixed {
