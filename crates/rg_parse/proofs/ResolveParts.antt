@@ -10,11 +10,11 @@ use Rattle.rg_words.specs.declared.refusal.RefusalNumber.TheVariants.{NumberTooL
 use Rattle.rg_words.specs.Layout.{Word, index_of}
 use Rattle.rg_text.specs.declared.kind.Junction.{Junction}
 use Rattle.rg_text.specs.declared.kind.Conditional.{Conditional}
-use Rattle.rg_text.specs.Text.{Leaf}
+use Rattle.rg_text.specs.Text.{Leaf, unprimed}
 use Rattle.rg_tree.specs.Trees as tree
 use Rattle.rg_tree.specs.Trees.{Expression, Proposition}
 use Rattle.rg_parse.specs.Syntax.{Term, Claim, number, word, next_word, inverse, binary, shifted, choice, truth, negation, joined, implied, compared}
-use Rattle.rg_parse.specs.ResolveFaults.{number_of, unprimed, group_of, after_first, unless, word_faults, term_faults}
+use Rattle.rg_parse.specs.ResolveFaults.{number_of, group_of, after_first, unless, word_faults, term_faults}
 use Rattle.rg_parse.specs.ResolveTrees.{place_of, connective_of, conditional_of, width_of, typed_term, IsTermTree, IsClaimTree}
 use Rattle.rg_parse.proofs.ResolveRefusals.{no_faults, no_test}
 use Rattle.rg_parse.proofs.ResolveTyped.{known_group}

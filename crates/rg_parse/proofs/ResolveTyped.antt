@@ -11,8 +11,9 @@ use Rattle.rg_words.specs.declared.refusal.RefusalNumber.{RefusalNumber}
 use Rattle.rg_words.specs.Layout.{Word, IsLayout, index_of, widths_of}
 use Rattle.rg_tree.specs.Typing.{HasWidth, IsTyped}
 use Rattle.rg_tree.specs.Primes.{has_next_word, speaks_of_two}
+use Rattle.rg_text.specs.Text.{unprimed}
 use Rattle.rg_parse.specs.Syntax.{Term, Claim, number, word, next_word, inverse, binary, shifted, choice, truth, negation, joined, implied, compared}
-use Rattle.rg_parse.specs.ResolveFaults.{Fault, unprimed, width_at, first_name, group_at, group_by, group_of, after_first, unless, word_faults, term_faults, claim_faults}
+use Rattle.rg_parse.specs.ResolveFaults.{Fault, width_at, first_name, group_at, group_by, group_of, after_first, unless, word_faults, term_faults, claim_faults}
 use Rattle.rg_parse.specs.ResolveTrees.{place_of, typed_term, typed_claim}
 use Rattle.rg_parse.specs.declared.resolve.group.Group.{Group}
 use Rattle.rg_parse.specs.declared.resolve.group.Group.TheVariants.{Width, Unasked, Wordless}
@@ -27,12 +28,12 @@ none_right [] ys h = h
 none_right (x ∷ xs) ys h = cc
 
 -- a test that has no fault holds
-unless-none : (test : Bool) (what : RefusalNumber) (line : ℕ) → unless test what line ≡ [] → test ≡ true
+pub unless-none : (test : Bool) (what : RefusalNumber) (line : ℕ) → unless test what line ≡ [] → test ≡ true
 unless-none true what line h = refl
 unless-none false what line h = cc
 
 -- the first word of two operands is that of one of them
-first_of_two : (x y : Option (List ℕ)) (name : List ℕ) → option_or x y ≡ Some name → (x ≡ Some name) ⊎ (y ≡ Some name)
+pub first_of_two : (x y : Option (List ℕ)) (name : List ℕ) → option_or x y ≡ Some name → (x ≡ Some name) ⊎ (y ≡ Some name)
 first_of_two None y name h = inr h
 first_of_two (Some x) y name h = inl h
 
@@ -41,7 +42,7 @@ no_first None y h = refl
 no_first (Some x) y h = cc
 
 -- a list that begins with a fault where a test holds is empty
-both_none : (test : Bool) (fault : Fault) (rest : List Fault) → cond test (fault ∷ []) rest ≡ [] → (test ≡ false) × (rest ≡ [])
+pub both_none : (test : Bool) (fault : Fault) (rest : List Fault) → cond test (fault ∷ []) rest ≡ [] → (test ≡ false) × (rest ≡ [])
 both_none true fault rest h = cc
 both_none false fault rest h = (refl, h)
 

@@ -5,7 +5,7 @@ use Rattle.std.proofs.lemmas.List.{length-map}
 use Rattle.std.proofs.lemmas.List.Elements.{All-head, All-tail, All-cons, All-append}
 use Rattle.std.specs.Prelude.{true, false, Bool}
 use Rattle.rg_words.specs.Names.{IsName}
-use Rattle.rg_words.specs.Layout.{Word}
+use Rattle.rg_words.specs.Layout.{Word, IsLayout}
 use Rattle.rg_words.specs.Refusals.{no_memory}
 use Rattle.rg_words.specs.declared.refusal.Refusal.{Refusal}
 use Rattle.rg_words.specs.declared.refusal.SourceFile.{SourceFile}
@@ -24,7 +24,8 @@ use Rattle.rg_parse.specs.Build.{steps, claim_of, declared_words, shown_claim}
 use Rattle.rg_parse.proofs.Builds.{builds_formula, builds_show}
 use Rattle.rg_parse.specs.Parse.{OneFormula, OneShow}
 use Rattle.rg_parse.specs.ResolveFaults.{Fault, claim_faults, IsFirst, IsRefusal}
-use Rattle.rg_parse.specs.ResolveTrees.{typed_claim}
+use Rattle.rg_parse.specs.ResolveTyping.{ClaimStandsFor}
+use Rattle.rg_parse.proofs.ResolveStands.{one_tree}
 use Rattle.rg_parse.specs.ResolveWords.{words_of, shown_faults}
 use Rattle.rg_parse.specs.Shown.{IsRead, SpellsShow, SpellsFormula, IsShowRefusal, IsFormulaRefusal, OneShown, OneFormulaShown}
 use Rattle.rg_parse.specs.Limits.{word_count, IsShallow, IsShort}
@@ -99,11 +100,6 @@ declarations_named src ts ds s each spelled e =
     let named = (words_ok s.words _ ok).0 in
     tokens_named src ds (subst (λ ws. All (λ w. IsName w.name.text) ws) (sym e) named)
 
--- a refusal where nothing is at fault is want of memory
-pub faultless_refusal : (file : SourceFile) (faults : List Fault) (e : Refusal) → faults ≡ [] → IsRefusal file faults e → e ≡ no_memory
-faultless_refusal file faults e none r =
-    ⊎_elim (λ m. m) (λ f. absurd (subst (λ l. IsFirst file l e) none f)) r.cause
-
 length-declared : (ws : WordsText) → length (declared_words ws) ≡ word_count ws
 length-declared (one w) = refl
 length-declared (more ws w) = length-append (declared_words ws) (w ∷ []) ∙ ap (λ n. n + 1) (length-declared ws)
@@ -116,14 +112,14 @@ declarations_count src ds s most e =
 -- bytes have one list of tokens
 module _ (source : List ℕ) (ts : List Token) (read : IsRead source ts) where
   pub show_spells : (s : ShowSpelling) (ds : List Declaration) (g : Claim) (words : List Word) (f : Proposition) → IsShallow texts.Show s → IsShort texts.Show s → map (lexeme_of source) ts ≡ show s []
-      → map (declared_word source) ds ≡ declared_words s.words → g ≡ claim_of s.formula → words ≡ words_of (map (declared_word source) ds) → f ≡ typed_claim words g → shown_faults (map (declared_word source) ds) g ≡ [] → SpellsShow source words f
-  show_spells s ds g words f shallow short spelled d e w t none = record {
+      → map (declared_word source) ds ≡ declared_words s.words → g ≡ claim_of s.formula → words ≡ words_of (map (declared_word source) ds) → IsLayout words → ClaimStandsFor words false g f → SpellsShow source words f
+  show_spells s ds g words f shallow short spelled d e w layout stands = record {
     tokens = ts;
     spelling = s;
     written = record { read = read; shallow = shallow; short = short; spelled = spelled };
-    faultless = subst (λ h. shown_faults (declared_words s.words) h ≡ []) e (subst (λ l. shown_faults l g ≡ []) d none);
     words_are = w ∙ ap words_of d;
-    formula_is = t ∙ ap (λ h. typed_claim words h) e;
+    layout = layout;
+    stands = subst (λ h. ClaimStandsFor words false h f) e stands;
   }
 
   pub show_refused : (file : SourceFile) (s : ShowSpelling) (ds : List Declaration) (g : Claim) (e : Refusal) → IsShallow texts.Show s → IsShort texts.Show s → map (lexeme_of source) ts ≡ show s []
@@ -133,22 +129,22 @@ module _ (source : List ℕ) (ts : List Token) (read : IsRead source ts) where
       (λ f. inr (inr (ts, s, record { read = read; shallow = shallow; short = short; spelled = spelled }, subst (λ c. IsFirst file (shown_faults (declared_words s.words) c) e) h (subst (λ l. IsFirst file (shown_faults l g) e) d f))))
       r.cause
 
-  -- what is spelled so has no faults
-  pub show_accepted : (file : SourceFile) (s : ShowSpelling) (ds : List Declaration) (g : Claim) (e : Refusal) (words : List Word) (f : Proposition) → map (lexeme_of source) ts ≡ show s []
-      → map (declared_word source) ds ≡ declared_words s.words → g ≡ claim_of s.formula → (sp : SpellsShow source words f) → ts ≡ sp.tokens → IsRefusal file (shown_faults (map (declared_word source) ds) g) e → e ≡ no_memory
-  show_accepted file s ds g e words f spelled d h sp same r =
+  -- what is spelled so is refused for want of memory alone
+  pub show_accepted : (s : ShowSpelling) (ds : List Declaration) (g : Claim) (e : Refusal) (words : List Word) (f : Proposition) → map (lexeme_of source) ts ≡ show s []
+      → map (declared_word source) ds ≡ declared_words s.words → g ≡ claim_of s.formula → (sp : SpellsShow source words f) → ts ≡ sp.tokens
+      → (e ≡ no_memory) ⊎ (IsLayout (words_of (map (declared_word source) ds)) → (p : Proposition) → ClaimStandsFor (words_of (map (declared_word source) ds)) false g p → ⊥) → e ≡ no_memory
+  show_accepted s ds g e words f spelled d h sp same r =
       let one = one_show s sp.spelling (sym spelled ∙ ap (λ l. map (lexeme_of source) l) same ∙ sp.written.spelled) in
-      let none = ap (λ c. shown_faults c.words c.formula) one ∙ sp.faultless in
-      let faults = ap (λ l. shown_faults l g) d ∙ ap (λ c. shown_faults (declared_words s.words) c) h in
-      faultless_refusal file (shown_faults (map (declared_word source) ds) g) e (faults ∙ none) r
+      let w : words ≡ words_of (map (declared_word source) ds) = sp.words_are ∙ sym (ap (λ c. words_of c.words) one) ∙ sym (ap words_of d) in
+      let claim_is : (shown_claim sp.spelling).formula ≡ g = sym (ap (λ c. c.formula) one) ∙ sym h in
+      ⊎_elim (λ m. m) (λ no. absurd (no (subst IsLayout w sp.layout) f (subst (λ c. ClaimStandsFor (words_of (map (declared_word source) ds)) false c f) claim_is (subst (λ l. ClaimStandsFor l false (shown_claim sp.spelling).formula f) w sp.stands)))) r
 
-  pub formula_spells : (words : List Word) (s : FormulaText) (g : Claim) (f : Proposition) → IsShallow texts.Formula s → map (lexeme_of source) ts ≡ formula s [] → g ≡ claim_of s → f ≡ typed_claim words g → claim_faults words false g ≡ [] → SpellsFormula words source f
-  formula_spells words s g f shallow spelled e t none = record {
+  pub formula_spells : (words : List Word) (s : FormulaText) (g : Claim) (f : Proposition) → IsShallow texts.Formula s → map (lexeme_of source) ts ≡ formula s [] → g ≡ claim_of s → ClaimStandsFor words false g f → SpellsFormula words source f
+  formula_spells words s g f shallow spelled e stands = record {
     tokens = ts;
     spelling = s;
     written = record { read = read; shallow = shallow; spelled = spelled };
-    faultless = subst (λ h. claim_faults words false h ≡ []) e none;
-    formula_is = t ∙ ap (λ h. typed_claim words h) e;
+    stands = subst (λ h. ClaimStandsFor words false h f) e stands;
   }
 
   pub formula_refused : (file : SourceFile) (words : List Word) (s : FormulaText) (g : Claim) (e : Refusal) → IsShallow texts.Formula s → map (lexeme_of source) ts ≡ formula s [] → g ≡ claim_of s → IsRefusal file (claim_faults words false g) e → IsFormulaRefusal file words source e
@@ -157,10 +153,11 @@ module _ (source : List ℕ) (ts : List Token) (read : IsRead source ts) where
       (λ f. inr (inr (ts, s, record { read = read; shallow = shallow; spelled = spelled }, subst (λ c. IsFirst file (claim_faults words false c) e) h f)))
       r.cause
 
-  pub formula_accepted : (file : SourceFile) (words : List Word) (s : FormulaText) (g : Claim) (e : Refusal) (f : Proposition) → map (lexeme_of source) ts ≡ formula s [] → g ≡ claim_of s → (sp : SpellsFormula words source f) → ts ≡ sp.tokens → IsRefusal file (claim_faults words false g) e → e ≡ no_memory
-  formula_accepted file words s g e f spelled h sp same r =
+  pub formula_accepted : (words : List Word) (s : FormulaText) (g : Claim) (e : Refusal) (f : Proposition) → map (lexeme_of source) ts ≡ formula s [] → g ≡ claim_of s → (sp : SpellsFormula words source f) → ts ≡ sp.tokens
+      → (e ≡ no_memory) ⊎ ((p : Proposition) → ClaimStandsFor words false g p → ⊥) → e ≡ no_memory
+  formula_accepted words s g e f spelled h sp same r =
       let one = one_formula s sp.spelling (sym spelled ∙ ap (λ l. map (lexeme_of source) l) same ∙ sp.written.spelled) in
-      faultless_refusal file (claim_faults words false g) e (ap (λ c. claim_faults words false c) (h ∙ one) ∙ sp.faultless) r
+      ⊎_elim (λ m. m) (λ no. absurd (no f (subst (λ c. ClaimStandsFor words false c f) (sym one ∙ sym h) sp.stands))) r
 
 -- the same bytes spell one thing
 module _ (one_tokens : (source : List ℕ) (ts us : List Token) → IsTokenized source ts → IsTokenized source us → ts ≡ us) where
@@ -169,10 +166,11 @@ module _ (one_tokens : (source : List ℕ) (ts us : List Token) → IsTokenized 
       let same = one_tokens source a.tokens b.tokens a.written.read.tokenized b.written.read.tokenized in
       let one = one_show a.spelling b.spelling (sym a.written.spelled ∙ ap (λ l. map (lexeme_of source) l) same ∙ b.written.spelled) in
       let w = a.words_are ∙ ap (λ c. words_of c.words) one ∙ sym b.words_are in
-      (w, a.formula_is ∙ ap (λ l. typed_claim l (shown_claim a.spelling).formula) w ∙ ap (λ c. typed_claim words' c.formula) one ∙ sym b.formula_is)
+      let first = subst (λ l. ClaimStandsFor l false (shown_claim a.spelling).formula f) w a.stands in
+      (w, one_tree words' false (shown_claim b.spelling).formula f f' (subst (λ c. ClaimStandsFor words' false c.formula f) one first) b.stands)
 
   pub one_formula_shown : OneFormulaShown
   one_formula_shown words source f f' a b =
       let same = one_tokens source a.tokens b.tokens a.written.read.tokenized b.written.read.tokenized in
       let one = one_formula a.spelling b.spelling (sym a.written.spelled ∙ ap (λ l. map (lexeme_of source) l) same ∙ b.written.spelled) in
-      a.formula_is ∙ ap (λ c. typed_claim words c) one ∙ sym b.formula_is
+      one_tree words false (claim_of b.spelling) f f' (subst (λ c. ClaimStandsFor words false c f) one a.stands) b.stands

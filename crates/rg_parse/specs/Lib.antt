@@ -10,3 +10,4 @@ pub mod ResolveFaults
 pub mod ResolveTrees
 pub mod ResolveWords
 pub mod Shown
+pub mod ResolveTyping

@@ -9,6 +9,7 @@ use Rattle.rg_words.specs.declared.refusal.RefusalNumber.{RefusalNumber}
 use Rattle.rg_words.specs.declared.refusal.RefusalNumber.TheVariants.{UnknownName, NumberTooLarge, WidthsDiffer, WidthUnknown, Prime}
 use Rattle.rg_words.specs.Refusals.{no_memory, refused_at}
 use Rattle.rg_words.specs.Layout.{Word, index_of, widths_of}
+use Rattle.rg_text.specs.Text.{unprimed}
 use Rattle.rg_parse.specs.Syntax.{Term, Claim, number, word, next_word, inverse, binary, shifted, choice, truth, negation, joined, implied, compared}
 use Rattle.rg_parse.specs.declared.resolve.group.Group.{Group}
 use Rattle.rg_parse.specs.declared.resolve.group.Group.TheVariants.{Width, Unasked, Wordless}
@@ -21,10 +22,6 @@ pub record Fault : Type 0 where
 -- the number that decimal digits write
 abbrev pub number_of : List ℕ → ℕ
 number_of digits = digits_value 10 digits
-
--- the name in a primed name: all but its last byte
-abbrev pub unprimed : List ℕ → List ℕ
-unprimed text = take (length text - 1) text
 
 -- the width of the k-th word
 abbrev pub width_at : List Word → ℕ → ℕ

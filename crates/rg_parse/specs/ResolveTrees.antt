@@ -10,8 +10,9 @@ use Rattle.rg_text.specs.declared.kind.Conditional.{Conditional}
 use Rattle.rg_text.specs.declared.kind.Conditional.TheVariants.{Implies, Iff}
 use Rattle.rg_tree.specs.Trees as tree
 use Rattle.rg_tree.specs.Trees.{Expression, Proposition}
+use Rattle.rg_text.specs.Text.{unprimed}
 use Rattle.rg_parse.specs.Syntax.{Term, Claim, number, word, next_word, inverse, binary, shifted, choice, truth, negation, joined, implied, compared}
-use Rattle.rg_parse.specs.ResolveFaults.{number_of, unprimed, group_of, term_faults, claim_faults}
+use Rattle.rg_parse.specs.ResolveFaults.{number_of, group_of, term_faults, claim_faults}
 use Rattle.rg_parse.specs.declared.resolve.group.Group.{Group}
 use Rattle.rg_parse.specs.declared.resolve.group.Group.TheVariants.{Width, Unasked, Wordless}
 

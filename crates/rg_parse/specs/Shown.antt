@@ -3,7 +3,7 @@ use Rattle.std.specs.Prelude.{◌≡◌, ℕ, ◌≤◌, ◌⊎◌, false, List,
 use Rattle.rg_words.specs.declared.limits.TheConstants.{MOST_TEXT_BYTES}
 use Rattle.rg_words.specs.declared.refusal.Refusal.{Refusal}
 use Rattle.rg_words.specs.declared.refusal.SourceFile.{SourceFile}
-use Rattle.rg_words.specs.Layout.{Word}
+use Rattle.rg_words.specs.Layout.{Word, IsLayout}
 use Rattle.rg_text.specs.declared.token.Token.{Token}
 use Rattle.rg_text.specs.Tokenization.{IsTokenized, IsReadRefusal}
 use Rattle.rg_tree.specs.Trees.{Proposition}
@@ -14,7 +14,7 @@ use Rattle.rg_parse.specs.Syntax.{ShownClaim}
 use Rattle.rg_parse.specs.Build.{claim_of, shown_claim}
 use Rattle.rg_parse.specs.Parse.{IsShapeRefusal}
 use Rattle.rg_parse.specs.ResolveFaults.{Fault, claim_faults, IsFirst}
-use Rattle.rg_parse.specs.ResolveTrees.{typed_claim}
+use Rattle.rg_parse.specs.ResolveTyping.{ClaimStandsFor}
 use Rattle.rg_parse.specs.ResolveWords.{words_of, shown_faults}
 
 -- the bytes are within the size of a text, and are cut into these tokens
@@ -42,22 +42,21 @@ faults_shown s = shown_faults (shown_claim s).words (shown_claim s).formula
 abbrev pub faults_over : List Word → FormulaText → List Fault
 faults_over words f = claim_faults words false (claim_of f)
 
--- the bytes spell these words and this formula over them
+-- the bytes spell these words, which are a layout, and this formula over them
 pub record SpellsShow (source : List ℕ) (words : List Word) (f : Proposition) : Type 0 where
   pub tokens : List Token
   pub spelling : ShowSpelling
   pub written : IsWrittenShow source tokens spelling
-  pub faultless : faults_shown spelling ≡ []
   pub words_are : words ≡ words_of (shown_claim spelling).words
-  pub formula_is : f ≡ typed_claim words (shown_claim spelling).formula
+  pub layout : IsLayout words
+  pub stands : ClaimStandsFor words false (shown_claim spelling).formula f
 
 -- the bytes spell this formula over the words
 pub record SpellsFormula (words : List Word) (source : List ℕ) (f : Proposition) : Type 0 where
   pub tokens : List Token
   pub spelling : FormulaText
   pub written : IsWrittenFormula source tokens spelling
-  pub faultless : faults_over words spelling ≡ []
-  pub formula_is : f ≡ typed_claim words (claim_of spelling)
+  pub stands : ClaimStandsFor words false (claim_of spelling) f
 
 -- why bytes are refused: they are too many or have a bad byte, or want of memory; or their tokens have no such shape;
 -- or the least faulty leaf

@@ -1,8 +1,9 @@
 //! The declared words of a text, or the first fault of their declarations.
 
-ghost use Rattle.std.specs.Prelude.{◌≡◌, ◌≤◌, ◌<◌, [], ◌∷◌, ◌++◌, length, map, All, OnOk, IfOk, IfErr};
+ghost use Rattle.std.specs.Prelude.{◌≡◌, ◌≤◌, ◌<◌, [], ◌∷◌, ◌++◌, length, map, All, OnOk, IfOk, IfErr, ◌⊎◌};
 ghost use Rattle.rg_words.specs.Names.{IsName};
-ghost use Rattle.rg_words.specs.Layout.{IsWidth};
+ghost use Rattle.rg_words.specs.Layout.{IsWidth, IsLayout};
+ghost use Rattle.rg_words.specs.Refusals.{no_memory};
 ghost use Rattle.rg_text.specs.Text.{text_of, leaf_of};
 ghost use Rattle.rg_parse.specs.Syntax.{declared_word};
 ghost use Rattle.rg_parse.specs.ResolveFaults.{number_of, IsRefusal};
@@ -12,9 +13,9 @@ use crate::resolve::leaf::{find, number, text};
 use crate::syntax::Declaration;
 use rg_text::token::Token;
 use rg_words::limits::{MOST_WIDTH, MOST_WORDS};
+use rg_words::names::as_name;
 use rg_words::{Layout, Place, Refusal, RefusalNumber, SourceFile};
 use std::alloc::Global;
-use std::str;
 
 /// A width from 1 to 64.
 #[tactic(auto, using(crate::proofs::ResolveRefusals::refusals))]
@@ -54,7 +55,7 @@ fn declare_word(
         return Err(Refusal::at(RefusalNumber::NameTwice, file, line));
     }
     let width = width_of(file, source, &declaration.width)?;
-    let Ok(name) = str::from_utf8(name) else {
+    let Some(name) = as_name(name) else {
         unreachable!()
     };
     if declaration.fixed {
@@ -78,6 +79,9 @@ pub fn declare(
     requires names { All (λ d. IsName (text_of source.now d.name)) declarations.now }
     requires count { length declarations.now ≤ MOST_WORDS }
     ensures words { IfOk result (λ layout. layout ≡ words_of (map (declared_word source.now) declarations.now)) }
+    // They are the words of a layout, and where they aren't the declarations are refused.
+    ensures refused { IfErr result (λ refusal. (refusal ≡ no_memory)
+        ⊎ (IsLayout (words_of (map (declared_word source.now) declarations.now)) → ⊥)) }
     ensures faultless { OnOk result (declaration_faults (map (declared_word source.now) declarations.now) ≡ []) }
     ensures fault { IfErr result (λ refusal. IsRefusal file (declaration_faults (map (declared_word source.now) declarations.now)) refusal) }
 {

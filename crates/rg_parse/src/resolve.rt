@@ -1,16 +1,18 @@
 //! The pass of meaning: from a text whose shape is known to typed trees, or the first fault of its leaves.
 
-ghost use Rattle.std.specs.Prelude.{◌≡◌, ◌≤◌, false, [], length, map, All, IsTrue, IfOk, IfErr};
+ghost use Rattle.std.specs.Prelude.{◌≡◌, ◌≤◌, false, [], length, map, All, IsTrue, IfOk, IfErr, ◌⊎◌};
 ghost use Rattle.rg_words.specs.Names.{IsName};
-ghost use Rattle.rg_words.specs.Layout.{widths_of};
+ghost use Rattle.rg_words.specs.Layout.{IsLayout, widths_of};
+ghost use Rattle.rg_words.specs.Refusals.{no_memory};
 ghost use Rattle.rg_text.specs.Text.{text_of};
+ghost use Rattle.rg_tree.specs.Trees.{Proposition};
 ghost use Rattle.rg_tree.specs.View.{formula as view};
 ghost use Rattle.rg_tree.specs.Typing.{IsTyped};
 ghost use Rattle.rg_tree.specs.Fits.{FormulaFits};
 ghost use Rattle.rg_tree.specs.Primes.{speaks_of_two};
 ghost use Rattle.rg_parse.specs.Syntax.{claim, declared_word};
 ghost use Rattle.rg_parse.specs.ResolveFaults.{claim_faults, IsRefusal};
-ghost use Rattle.rg_parse.specs.ResolveTrees.{typed_claim};
+ghost use Rattle.rg_parse.specs.ResolveTyping.{ClaimStandsFor, OneTree, FaultlessStand};
 ghost use Rattle.rg_parse.specs.ResolveWords.{words_of, shown_faults};
 
 mod formula;
@@ -42,7 +44,11 @@ pub fn resolve_formula(
     one_state: bool,
     written: &syntax::Formula,
 ) -> Result<Formula, Refusal>
-    ensures tree { IfOk result (λ f. view f ≡ typed_claim layout.now (claim source.now written.now)) }
+    // Ok with the tree that the formula stands for, exactly where there is one and memory was enough.
+    ensures stands { IfOk result (λ f. ClaimStandsFor layout.now one_state (claim source.now written.now) (view f)) }
+    ensures refused { IfErr result (λ refusal. (refusal ≡ no_memory)
+        ⊎ ((p : Proposition) → ClaimStandsFor layout.now one_state (claim source.now written.now) p → ⊥)) }
+    // The first fault in the order of the text.
     ensures faultless { IfOk result (λ _. claim_faults layout.now one_state (claim source.now written.now) ≡ []) }
     ensures fault { IfErr result (λ refusal. IsRefusal file (claim_faults layout.now one_state (claim source.now written.now)) refusal) }
     ensures typed { IfOk result (λ f. IsTyped (widths_of layout.now) (view f)) }
@@ -78,7 +84,12 @@ pub fn resolve_shown(
     requires names { All (λ d. IsName (text_of source.now d.name)) declarations.now }
     requires count { length declarations.now ≤ MOST_WORDS }
     ensures words { IfOk result (λ r. r.0 ≡ words_of (map (declared_word source.now) declarations.now)) }
-    ensures tree { IfOk result (λ r. view r.1 ≡ typed_claim r.0 (claim source.now written.now)) }
+    ensures stands { IfOk result (λ r. ClaimStandsFor r.0 false (claim source.now written.now) (view r.1)) }
+    ensures refused { IfErr result (λ refusal. (refusal ≡ no_memory)
+        ⊎ (IsLayout (words_of (map (declared_word source.now) declarations.now))
+        → (p : Proposition)
+        → ClaimStandsFor (words_of (map (declared_word source.now) declarations.now)) false (claim source.now written.now) p
+        → ⊥)) }
     ensures faultless { IfOk result (λ _. shown_faults (map (declared_word source.now) declarations.now) (claim source.now written.now) ≡ []) }
     ensures fault { IfErr result (λ refusal. IsRefusal file (shown_faults (map (declared_word source.now) declarations.now) (claim source.now written.now)) refusal) }
     ensures typed { IfOk result (λ r. IsTyped (widths_of r.0) (view r.1)) }
@@ -88,3 +99,10 @@ pub fn resolve_shown(
     let tree = resolve_formula(alloc, &layout, file, source, false, written)?;
     Ok((layout, tree))
 }
+
+/// A formula stands for one typed tree at most, and for one exactly where none of its leaves is at fault.
+#[tactic(auto, using(crate::proofs::ResolveStands::one_tree, crate::proofs::ResolveStands::faultless_stand))]
+pub fn formulas_stand_for_one_tree()
+    ensures one_tree { OneTree }
+    ensures faultless { FaultlessStand }
+{}

@@ -41,7 +41,10 @@ pub fn show(alloc: Global, source: &[u8]) -> Result<(Layout, Formula), Refusal>
         Err(refusal) => return Err(refusal),
     };
     match resolve_shown(alloc, SourceFile::Text, source, &text.words, &text.formula) {
-        Ok(shown) => Ok(shown),
+        Ok(shown) => {
+            let _count = shown.0.len();
+            Ok(shown)
+        }
         Err(refusal) => Err(refusal),
     }
 }

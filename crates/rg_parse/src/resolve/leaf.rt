@@ -3,8 +3,8 @@
 ghost use Rattle.std.specs.Prelude.{◌≡◌, ◌<◌, ◌≤◌, ◌^◌, SomeIff};
 ghost use Rattle.std.specs.Char.{digit_value};
 ghost use Rattle.rg_words.specs.Layout.{index_of};
-ghost use Rattle.rg_text.specs.Text.{text_of};
-ghost use Rattle.rg_parse.specs.ResolveFaults.{number_of, unprimed};
+ghost use Rattle.rg_text.specs.Text.{text_of, unprimed};
+ghost use Rattle.rg_parse.specs.ResolveFaults.{number_of};
 
 use rg_text::token::Token;
 use rg_words::Layout;

@@ -1,6 +1,7 @@
 use Rattle.std.proofs.Common.{arith, length-append}
 use Rattle.std.proofs.lemmas.Result.{err_from_is_err_and}
 use Rattle.rg_parse.proofs.ResolveDeclared.{so_far_start, so_far_words, so_far_faultless, declared_from-start, declared_from-end, declared_step, declared_refused}
+use Rattle.rg_parse.proofs.ResolveLayout.{refused_of_no_layout}
 use Rattle.rg_parse.proofs.declare.declare.Goals as goal
 
 pub loop-declaration-init : goal.loop-declaration-init
@@ -10,6 +11,11 @@ pub returns-in_err-declare_word-clause-fault : goal.returns-in_err-declare_word-
 returns-in_err-declare_word-clause-fault c =
     let p = err_from_is_err_and c.from_residual.result c.from_residual.ensures.1 in
     rw (p.1, p.2) (declared_refused _ _ _ _ _ c.loop-declaration-test.true c.loop-declaration.invariant.so_far c.args.file _ c.in_err-declare_word.ensures.fault)
+
+pub returns-in_err-declare_word-clause-refused : goal.returns-in_err-declare_word-clause-refused
+returns-in_err-declare_word-clause-refused c =
+    let p = err_from_is_err_and c.from_residual.result c.from_residual.ensures.1 in
+    rw (p.1, p.2) (refused_of_no_layout _ c.args.file _ (declared_refused _ _ _ _ _ c.loop-declaration-test.true c.loop-declaration.invariant.so_far c.args.file _ c.in_err-declare_word.ensures.fault))
 
 pub loop-declaration-preserved : goal.loop-declaration-preserved
 loop-declaration-preserved c = record {

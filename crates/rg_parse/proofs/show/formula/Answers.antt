@@ -25,7 +25,7 @@ returns-in-Ok-resolve_formula-clause-spells c =
     let said = c.in-Ok-parse_formula.ensures.answers source in
     let tokenized = subst (λ (l : List Token). IsTokenized source l) (sym c.as_slice.ensures) c.in-Ok.ensures.tokens in
     let r = c.in-Ok-resolve_formula.ensures in
-    formula_spells source c.as_slice.result.now (record { size = c.in-Ok.ensures.fits; tokenized = tokenized }) c.args.layout.now said.0 _ _ said.1 said.2 said.3 r.tree r.faultless
+    formula_spells source c.as_slice.result.now (record { size = c.in-Ok.ensures.fits; tokenized = tokenized }) c.args.layout.now said.0 _ _ said.1 said.2 said.3 r.stands
 
 pub returns-clause-refused : goal.returns-clause-refused
 returns-clause-refused c =
@@ -40,4 +40,4 @@ returns-clause-accepts c = λ f sp.
     let said = c.in-Ok-parse_formula.ensures.answers source in
     let tokenized = subst (λ (l : List Token). IsTokenized source l) (sym c.as_slice.ensures) c.in-Ok.ensures.tokens in
     let one = c.as_slice.ensures ∙ c.in-Ok.ensures.only_tokens sp.tokens sp.written.read.size sp.written.read.tokenized in
-    formula_accepted source c.as_slice.result.now (record { size = c.in-Ok.ensures.fits; tokenized = tokenized }) Text c.args.layout.now said.0 _ _ f said.2 said.3 sp one c.in-Err-resolve_formula.ensures.fault
+    formula_accepted source c.as_slice.result.now (record { size = c.in-Ok.ensures.fits; tokenized = tokenized }) c.args.layout.now said.0 _ _ f said.2 said.3 sp one c.in-Err-resolve_formula.ensures.refused

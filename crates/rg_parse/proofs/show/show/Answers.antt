@@ -44,7 +44,7 @@ returns-in-Ok-resolve_shown-clause-spells c =
     let tokenized = subst (λ (l : List Token). IsTokenized source l) (sym c.as_slice.ensures) c.in-Ok.ensures.tokens in
     let same = ap (λ (l : List Declaration). map (declared_word source) l) c.deref.ensures.value in
     let r = c.in-Ok-resolve_shown.ensures in
-    show_spells source c.as_slice.result.now (record { size = c.in-Ok.ensures.fits; tokenized = tokenized }) said.0 c.deref.result.now _ _ _ said.1 said.2 said.3 (same ∙ ap (λ t. t.words) said.4) (ap (λ t. t.formula) said.4) r.words r.tree r.faultless
+    show_spells source c.as_slice.result.now (record { size = c.in-Ok.ensures.fits; tokenized = tokenized }) said.0 c.deref.result.now _ _ _ said.1 said.2 said.3 (same ∙ ap (λ t. t.words) said.4) (ap (λ t. t.formula) said.4) r.words c.len-count.ensures.layout r.stands
 
 pub returns-clause-refused : goal.returns-clause-refused
 returns-clause-refused c =
@@ -61,4 +61,4 @@ returns-clause-accepts c = λ words f sp.
     let tokenized = subst (λ (l : List Token). IsTokenized source l) (sym c.as_slice.ensures) c.in-Ok.ensures.tokens in
     let same = ap (λ (l : List Declaration). map (declared_word source) l) c.deref.ensures.value in
     let one = c.as_slice.ensures ∙ c.in-Ok.ensures.only_tokens sp.tokens sp.written.read.size sp.written.read.tokenized in
-    show_accepted source c.as_slice.result.now (record { size = c.in-Ok.ensures.fits; tokenized = tokenized }) Text said.0 c.deref.result.now _ _ words f said.3 (same ∙ ap (λ t. t.words) said.4) (ap (λ t. t.formula) said.4) sp one c.in-Err-resolve_shown.ensures.fault
+    show_accepted source c.as_slice.result.now (record { size = c.in-Ok.ensures.fits; tokenized = tokenized }) said.0 c.deref.result.now _ _ words f said.3 (same ∙ ap (λ t. t.words) said.4) (ap (λ t. t.formula) said.4) sp one c.in-Err-resolve_shown.ensures.refused
