@@ -2,7 +2,7 @@
 
 use crate::names::{as_name, is_keyword, is_name};
 use crate::{
-    Buffered, Fuse, Layout, Out, Place, Refusal, RefusalNumber, SourceFile, State, Taker,
+    Buffered, Device, Fuse, Layout, Out, Place, Refusal, RefusalNumber, SourceFile, State, Taker,
     WriteFault, write_all,
 };
 use std::alloc::{AllocError, Global};
@@ -130,6 +130,17 @@ fn writes_in_pieces(rt: HostRuntime) -> Result<(), Fail> {
     let mut fuse = Fuse::new(Taker::new(rt.alloc(), 3), 2);
     assert!(rt; write_all(&mut fuse, b"eight by").is_err());
     assert!(rt; fuse.inner().bytes() == b"eight ".as_slice());
+    Ok(())
+}
+
+#[test]
+fn writes_to_a_device(rt: HostRuntime) -> Result<(), Fail> {
+    let mut device = Device::new(Vec::new(rt.alloc()));
+    assert!(rt; write_all(&mut device, b"eight by").is_ok());
+    let mut room = [0u8; 3];
+    let mut full = Device::new(room.as_mut_slice());
+    assert_eq!(rt; write_all(&mut full, b"eight by"), Err(WriteFault));
+    assert!(rt; room == *b"eig");
     Ok(())
 }
 
