@@ -1,11 +1,11 @@
 -- What the lines of a proofs text say.
-use Rattle.std.specs.Prelude.{ℕ, ◌+◌, ◌==◌, ◌||◌, ◌&&◌, not, nat_lt, ℤ, pos, negsuc, Bool, true, false, Option, Some, None, option_and_then, unwrap_or, Result, Ok, Err, List, [], ◌∷◌, if◌then◌else◌, slice_index, codes}
+use Rattle.std.specs.Prelude.{◌≡◌, ◌⊎◌, ℕ, ◌+◌, ◌==◌, ◌||◌, ◌&&◌, not, nat_lt, ℤ, pos, negsuc, Bool, true, false, Option, Some, None, option_and_then, unwrap_or, Result, Ok, Err, List, [], ◌∷◌, if◌then◌else◌, slice_index, codes}
 use Rattle.std.specs.Str.{bytes_eq}
 use Rattle.std.specs.Str.Lines.{lines}
 use Rattle.rg_words.specs.declared.refusal.Refusal.{Refusal}
 use Rattle.rg_words.specs.declared.refusal.RefusalNumber.TheVariants.{Unreadable, IdOrder}
 use Rattle.rg_words.specs.declared.refusal.SourceFile.TheVariants.{Proofs}
-use Rattle.rg_words.specs.Refusals.{refused_at}
+use Rattle.rg_words.specs.Refusals.{no_memory, refused_at}
 use Rattle.rg_hints.specs.Lines.{Line, Section}
 use Rattle.rg_hints.specs.Text.{fields_of, number_in, positive, literal_in}
 
@@ -89,3 +89,7 @@ section_with given (Err r) = Err r
 -- the section that a text spells over so many given clauses, or the first faulty line; the first line has this number
 abbrev pub section_of : ℕ → ℕ → List ℕ → Result Section Refusal
 section_of first_line given bytes = section_with given (hint_lines_of (lines bytes) first_line given)
+
+-- why a text is refused: for want of memory, or for its first faulty line
+abbrev pub IsReadingRefusal : Result Section Refusal → Refusal → Type 0
+IsReadingRefusal reading r = (r ≡ no_memory) ⊎ (reading ≡ Err r)

@@ -1,13 +1,16 @@
 //! Hint lines from a text.
 
-ghost use Rattle.std.specs.Prelude.{◌≡◌, ◌+◌, ◌^◌, ◌<◌, [], length, IfOk, MatchOption, MatchResult, OnErr, All};
+ghost use Rattle.std.specs.Prelude.{◌≡◌, ℕ, ◌+◌, ◌^◌, ◌<◌, [], length, IfOk, OnOk, OnSome, MatchOption, MatchResult, All};
 ghost use Rattle.rg_clauses.specs.Formula.{IsLiteral};
 ghost use Rattle.rg_hints.specs.Text.{fields_of};
 ghost use Rattle.rg_hints.specs.Reading.{literals_of, hints_of, hint_line, hint_line_of, reading_of};
 ghost use Rattle.rg_hints.specs.LineForms.{reading_as};
 
-use crate::text::{is_passed_over, literal_in, next_field, number_in, positive};
-use std::alloc::AllocError;
+use crate::chain::refusal_at;
+use crate::lines::{Head, Lines};
+use crate::text::{is_passed_over, literal_in, next_field, number_in, positive, split_line};
+use rg_words::{Refusal, RefusalNumber};
+use std::alloc::{AllocError, Global};
 
 /// Reads the literals before the first 0 of a line into the list, in place of what it holds, and gives what
 /// stands behind that 0. None where a field before it is no literal, or no 0 stands there.
@@ -15,19 +18,22 @@ fn read_literals<'a>(
     line: &'a [u8],
     literals: &mut Vec<i32>,
 ) -> Result<Option<&'a [u8]>, AllocError>
-    ensures { IfOk result (λ rest. MatchOption rest
+    ensures value { IfOk result (λ rest. MatchOption rest
         (literals_of (fields_of line.now) ≡ None)
         (λ r. literals_of (fields_of line.now) ≡ Some (literals.new.items, fields_of r.now))) }
+    ensures fit { OnOk result (All (IsLiteral 2147483647) literals.new.items) }
 {
     literals.clear();
     let mut rest = line;
     while let Some((field, behind)) = next_field(rest) {
         rest = behind;
-        match literal_in(field) {
-            None => return Ok(None),
-            Some(0) => return Ok(Some(rest)),
-            Some(literal) => literals.push(literal)?,
+        let Some(literal) = literal_in(field) else {
+            return Ok(None);
+        };
+        if literal == 0 {
+            return Ok(Some(rest));
         }
+        literals.push(literal)?;
     }
     Ok(None)
 }
@@ -43,11 +49,13 @@ fn read_hints<'a>(line: &'a [u8], hints: &mut Vec<u32>) -> Result<Option<&'a [u8
     let mut rest = line;
     while let Some((field, behind)) = next_field(rest) {
         rest = behind;
-        match number_in(field) {
-            None => return Ok(None),
-            Some(0) => return Ok(Some(rest)),
-            Some(hint) => hints.push(hint)?,
+        let Some(hint) = number_in(field) else {
+            return Ok(None);
+        };
+        if hint == 0 {
+            return Ok(Some(rest));
         }
+        hints.push(hint)?;
     }
     Ok(None)
 }
@@ -60,9 +68,10 @@ fn read_hint_line(
     literals: &mut Vec<i32>,
     hints: &mut Vec<u32>,
 ) -> Result<Option<u32>, AllocError>
-    ensures { IfOk result (λ id. MatchOption id
+    ensures value { IfOk result (λ id. MatchOption id
         (hint_line_of first.now (fields_of rest.now) ≡ None)
         (λ n. hint_line_of first.now (fields_of rest.now) ≡ Some (hint_line n literals.new.items hints.new.items))) }
+    ensures fit { IfOk result (λ id. OnSome id (All (IsLiteral 2147483647) literals.new.items)) }
 {
     let Some(id) = positive(number_in(first)) else {
         return Ok(None);
@@ -91,7 +100,8 @@ fn read_line(
     literals: &mut Vec<i32>,
     hints: &mut Vec<u32>,
 ) -> Result<LineForm, AllocError>
-    ensures { IfOk result (λ form. reading_of (fields_of line.now) ≡ reading_as form literals.new.items hints.new.items) }
+    ensures value { IfOk result (λ form. reading_of (fields_of line.now) ≡ reading_as form literals.new.items hints.new.items) }
+    ensures fit { IfOk result (λ form. (id : ℕ) → form ≡ LineForm.HintLine id → All (IsLiteral 2147483647) literals.new.items) }
 {
     let Some((first, rest)) = next_field(line) else {
         return Ok(LineForm::PassedOver);
@@ -102,5 +112,58 @@ fn read_line(
     match read_hint_line(first, rest, literals, hints)? {
         Some(id) => Ok(LineForm::HintLine(id)),
         None => Ok(LineForm::Unreadable),
+    }
+}
+
+impl Lines {
+    ghost use Rattle.std.specs.Prelude.{◌≡◌, ◌+◌, ◌^◌, ◌<◌, length, Ok, MatchResult};
+    ghost use Rattle.rg_words.specs.Refusals.{no_memory};
+    ghost use Rattle.rg_hints.specs.Reading.{section_of, IsReadingRefusal};
+
+    /// Reads the hint lines of a text, the first line of which has the number `first_line`, over `given`
+    /// clauses. The text has no heads of sections.
+    ///
+    /// Refused with 41 at the first line that has no known form, and with 43 at the first whose number is not
+    /// greater than `given` and than those before it; the lesser line is told, and at one line 41.
+    pub fn read(
+        alloc: Global,
+        bytes: &[u8],
+        first_line: u64,
+        given: usize,
+    ) -> Result<Lines, Refusal>
+        requires { first_line + length bytes.now < 2 ^ 64 }
+
+        // The section that the text spells, or its first faulty line.
+        ensures { MatchResult result
+            (λ lines. section_of first_line given bytes.now ≡ Ok lines)
+            (IsReadingRefusal (section_of first_line given bytes.now)) }
+    {
+        let mut lines = Lines::new(alloc, given);
+        let mut literals = Vec::new(alloc);
+        let mut hints = Vec::new(alloc);
+        let mut rest = bytes;
+        let mut number = first_line;
+        let mut last = given;
+        while !rest.is_empty() {
+            let (line, behind) = split_line(rest);
+            match read_line(line, &mut literals, &mut hints)? {
+                LineForm::PassedOver => {}
+                LineForm::Unreadable => return Err(refusal_at(RefusalNumber::Unreadable, number)),
+                LineForm::HintLine(id) => {
+                    if id as usize <= last {
+                        return Err(refusal_at(RefusalNumber::IdOrder, number));
+                    }
+                    last = id as usize;
+                    let head = Head {
+                        id,
+                        text_line: number,
+                    };
+                    lines = lines.with_line(head, &literals, &hints)?;
+                }
+            }
+            rest = behind;
+            number += 1;
+        }
+        Ok(lines)
     }
 }

@@ -1,8 +1,9 @@
 //! Lines, fields and numbers of a proofs text.
 
-ghost use Rattle.std.specs.Prelude.{◌≡◌, ◌==◌, ◌<◌, ◌≤◌, [], ◌∷◌, length, IfSome, MatchOption, not, drop};
+ghost use Rattle.std.specs.Prelude.{◌≡◌, ◌==◌, ◌<◌, ◌≤◌, [], ◌∷◌, length, IfSome, MatchOption, not, drop, pos, ◌≢◌};
 ghost use Rattle.std.specs.List.{prefix_len};
 ghost use Rattle.std.specs.Str.Lines.{lines, strip_carriage_return};
+ghost use Rattle.rg_clauses.specs.Formula.{IsLiteral};
 ghost use Rattle.rg_hints.specs.Text.{is_blank, fields_of, number_in, positive, literal_in};
 ghost use Rattle.rg_hints.specs.Reading.{is_passed_over};
 
@@ -117,7 +118,8 @@ pub fn positive(number: Option<u32>) -> Option<u32>
 
 /// The number that a field writes, with a minus sign or none; a minus sign before 0 is none.
 pub fn literal_in(field: &[u8]) -> Option<i32>
-    ensures { result ≡ literal_in field.now }
+    ensures value { result ≡ literal_in field.now }
+    ensures bound { IfSome result (λ x. x ≢ pos 0 → IsLiteral 2147483647 x) }
 {
     match field {
         [] => None,
