@@ -116,7 +116,7 @@ fn read_line(
 }
 
 impl Lines {
-    ghost use Rattle.std.specs.Prelude.{◌≡◌, ◌+◌, ◌^◌, ◌<◌, length, Ok, MatchResult};
+    ghost use Rattle.std.specs.Prelude.{◌≡◌, ◌+◌, ◌^◌, ◌<◌, length, Ok, MatchResult, IfOk};
     ghost use Rattle.rg_words.specs.Refusals.{no_memory};
     ghost use Rattle.rg_hints.specs.Reading.{section_of, IsReadingRefusal};
 
@@ -134,9 +134,10 @@ impl Lines {
         requires { first_line + length bytes.now < 2 ^ 64 }
 
         // The section that the text spells, or its first faulty line.
-        ensures { MatchResult result
+        ensures section { MatchResult result
             (λ lines. section_of first_line given bytes.now ≡ Ok lines)
             (IsReadingRefusal (section_of first_line given bytes.now)) }
+        ensures given { IfOk result (λ lines. lines.given ≡ given) }
     {
         let mut lines = Lines::new(alloc, given);
         let mut literals = Vec::new(alloc);
