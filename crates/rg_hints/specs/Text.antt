@@ -3,6 +3,7 @@ use Rattle.std.specs.Prelude.{ℕ, ◌==◌, ◌||◌, ◌&&◌, nat_le, ℤ, po
 use Rattle.std.specs.List.{slice_split}
 use Rattle.std.specs.Str.{all_ascii_digits}
 use Rattle.std.specs.Str.Parse.{digits_value}
+use Rattle.rg_words.specs.declared.limits.TheConstants.{MOST_HINT_NUMBER}
 
 -- a space or a tab
 abbrev pub is_blank : ℕ → Bool
@@ -17,11 +18,11 @@ is_filled (b ∷ bs) = true
 abbrev pub fields_of : List ℕ → List (List ℕ)
 fields_of line = filter is_filled (slice_split is_blank line)
 
--- a number that is at most 2147483647
+-- a number that may stand in a hint line
 abbrev pub in_range : ℕ → Option ℕ
-in_range n = if nat_le n 2147483647 then Some n else None
+in_range n = if nat_le n MOST_HINT_NUMBER then Some n else None
 
--- the number from 0 to 2147483647 that a field writes by decimal digits, with any leading zeros
+-- the number in range that a field writes by decimal digits, with any leading zeros
 abbrev pub number_in : List ℕ → Option ℕ
 number_in field = if is_filled field && all_ascii_digits field then in_range (digits_value 10 field) else None
 

@@ -1,7 +1,7 @@
 //! Hint lines from a text.
 
 ghost use Rattle.std.specs.Prelude.{◌≡◌, ℕ, ◌+◌, ◌^◌, ◌<◌, [], length, IfOk, OnOk, OnSome, MatchOption, MatchResult, All};
-ghost use Rattle.rg_clauses.specs.Formula.{IsLiteral};
+ghost use Rattle.rg_hints.specs.Lines.{IsHintLiteral};
 ghost use Rattle.rg_hints.specs.Text.{fields_of};
 ghost use Rattle.rg_hints.specs.Reading.{literals_of, hints_of, hint_line, hint_line_of, reading_of};
 ghost use Rattle.rg_hints.specs.LineForms.{reading_as};
@@ -21,7 +21,7 @@ fn read_literals<'a>(
     ensures value { IfOk result (λ rest. MatchOption rest
         (literals_of (fields_of line.now) ≡ None)
         (λ r. literals_of (fields_of line.now) ≡ Some (literals.new.items, fields_of r.now))) }
-    ensures fit { OnOk result (All (IsLiteral 2147483647) literals.new.items) }
+    ensures fit { OnOk result (All IsHintLiteral literals.new.items) }
 {
     literals.clear();
     let mut rest = line;
@@ -71,7 +71,7 @@ fn read_hint_line(
     ensures value { IfOk result (λ id. MatchOption id
         (hint_line_of first.now (fields_of rest.now) ≡ None)
         (λ n. hint_line_of first.now (fields_of rest.now) ≡ Some (hint_line n literals.new.items hints.new.items))) }
-    ensures fit { IfOk result (λ id. OnSome id (All (IsLiteral 2147483647) literals.new.items)) }
+    ensures fit { IfOk result (λ id. OnSome id (All IsHintLiteral literals.new.items)) }
 {
     let Some(id) = positive(number_in(first)) else {
         return Ok(None);
@@ -101,7 +101,7 @@ fn read_line(
     hints: &mut Vec<u32>,
 ) -> Result<LineForm, AllocError>
     ensures value { IfOk result (λ form. reading_of (fields_of line.now) ≡ reading_as form literals.new.items hints.new.items) }
-    ensures fit { IfOk result (λ form. (id : ℕ) → form ≡ LineForm.HintLine id → All (IsLiteral 2147483647) literals.new.items) }
+    ensures fit { IfOk result (λ form. (id : ℕ) → form ≡ LineForm.HintLine id → All IsHintLiteral literals.new.items) }
 {
     let Some((first, rest)) = next_field(line) else {
         return Ok(LineForm::PassedOver);

@@ -3,9 +3,13 @@
 ghost use Rattle.std.specs.Prelude.{◌≡◌, ◌==◌, ◌<◌, ◌≤◌, [], ◌∷◌, length, IfSome, MatchOption, not, drop, pos, ◌≢◌};
 ghost use Rattle.std.specs.List.{prefix_len};
 ghost use Rattle.std.specs.Str.Lines.{lines, strip_carriage_return};
-ghost use Rattle.rg_clauses.specs.Formula.{IsLiteral};
+ghost use Rattle.rg_hints.specs.Lines.{IsHintLiteral};
 ghost use Rattle.rg_hints.specs.Text.{is_blank, fields_of, number_in, positive, literal_in};
 ghost use Rattle.rg_hints.specs.Reading.{is_passed_over};
+
+use rg_words::limits::MOST_HINT_NUMBER;
+
+const MOST: u64 = MOST_HINT_NUMBER as u64;
 
 fn is_blank(byte: u8) -> bool
     ensures { result ≡ is_blank byte }
@@ -89,18 +93,18 @@ pub fn next_field(line: &[u8]) -> Option<(&[u8], &[u8])>
 /// leading zeros.
 pub fn number_in(field: &[u8]) -> Option<u32>
     ensures value { result ≡ number_in field.now }
-    ensures bound { IfSome result (λ n. n ≤ 2147483647) }
+    ensures bound { IfSome result (λ n. n ≤ MOST_HINT_NUMBER) }
 {
     let mut number = 0;
     for byte in field {
         if !byte.is_ascii_digit() {
             return None;
         }
-        if number <= 2_147_483_647 {
+        if number <= MOST {
             number = 10 * number + u64::from(*byte - b'0');
         }
     }
-    if field.is_empty() || number > 2_147_483_647 {
+    if field.is_empty() || number > MOST {
         return None;
     }
     Some(number as u32)
@@ -119,7 +123,7 @@ pub fn positive(number: Option<u32>) -> Option<u32>
 /// The number that a field writes, with a minus sign or none; a minus sign before 0 is none.
 pub fn literal_in(field: &[u8]) -> Option<i32>
     ensures value { result ≡ literal_in field.now }
-    ensures bound { IfSome result (λ x. x ≢ pos 0 → IsLiteral 2147483647 x) }
+    ensures bound { IfSome result (λ x. x ≢ pos 0 → IsHintLiteral x) }
 {
     match field {
         [] => None,
