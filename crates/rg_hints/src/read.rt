@@ -8,7 +8,7 @@ ghost use Rattle.rg_hints.specs.LineForms.{reading_as};
 
 use crate::chain::refusal_at;
 use crate::lines::{Head, Lines};
-use crate::text::{is_passed_over, literal_in, next_field, number_in, positive, split_line};
+use crate::text::{is_passed_over, literal_in, next_field, number_in, positive_in, split_line};
 use rg_words::{Refusal, RefusalNumber};
 use std::alloc::{AllocError, Global};
 
@@ -73,7 +73,7 @@ fn read_hint_line(
         (λ n. hint_line_of first.now (fields_of rest.now) ≡ Some (hint_line n literals.new.items hints.new.items))) }
     ensures fit { IfOk result (λ id. OnSome id (All IsHintLiteral literals.new.items)) }
 {
-    let Some(id) = positive(number_in(first)) else {
+    let Some(id) = positive_in(first) else {
         return Ok(None);
     };
     let Some(rest) = read_literals(rest, literals)? else {

@@ -110,11 +110,12 @@ pub fn number_in(field: &[u8]) -> Option<u32>
     Some(number as u32)
 }
 
-/// The number where it is not 0.
-pub fn positive(number: Option<u32>) -> Option<u32>
-    ensures { result ≡ positive number }
+/// The number that a field writes, where it is not 0.
+pub fn positive_in(field: &[u8]) -> Option<u32>
+    ensures value { result ≡ positive (number_in field.now) }
+    ensures bound { IfSome result (λ n. (0 < n) × (n ≤ MOST_HINT_NUMBER)) }
 {
-    match number {
+    match number_in(field) {
         Some(0) | None => None,
         Some(number) => Some(number),
     }
@@ -127,8 +128,8 @@ pub fn literal_in(field: &[u8]) -> Option<i32>
 {
     match field {
         [] => None,
-        [b'-', digits @ ..] => match number_in(digits) {
-            Some(0) | None => None,
+        [b'-', digits @ ..] => match positive_in(digits) {
+            None => None,
             Some(number) => Some(-(number as i32)),
         },
         _ => match number_in(field) {
