@@ -1,1 +1,13 @@
+pub mod Build
+pub mod Frames
+pub mod Grammar
+pub mod Limits
+pub mod Machine
+pub mod Parse
+pub mod Shape
 pub mod Syntax
+pub mod ResolveFaults
+pub mod ResolveTrees
+pub mod ResolveWords
+pub mod Shown
+pub mod ResolveTyping

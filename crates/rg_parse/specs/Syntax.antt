@@ -1,5 +1,5 @@
 -- What a text says before its names are known, without where it lies in memory.
-use Rattle.std.specs.Prelude.{ℕ, Bool, List}
+use Rattle.std.specs.Prelude.{ℕ, Bool, List, map}
 use Rattle.rg_words.specs.declared.operators.Comparison.{Comparison}
 use Rattle.rg_words.specs.declared.operators.Operator.{Operator}
 use Rattle.rg_words.specs.declared.operators.Shift.{Shift}
@@ -11,6 +11,7 @@ use Rattle.rg_parse.specs.declared.syntax.Expr.TheVariants.{Number, Word, NextWo
 use Rattle.rg_parse.specs.declared.syntax.Formula.{Formula}
 use Rattle.rg_parse.specs.declared.syntax.Formula.TheVariants.{Truth, Not', Joined', Implied', Compared}
 use Rattle.rg_parse.specs.declared.syntax.Declaration.{Declaration}
+use Rattle.rg_parse.specs.declared.syntax.ShowText.{ShowText}
 
 -- an expression and a formula as written
 mutual
@@ -55,3 +56,11 @@ abbrev mutual
 
 abbrev pub declared_word : List ℕ → Declaration → DeclaredWord
 declared_word src d = record { fixed = d.fixed; name = leaf_of src d.name; width = leaf_of src d.width }
+
+-- declared words and a formula as written
+pub record ShownClaim : Type 0 where
+  pub words : List DeclaredWord
+  pub formula : Claim
+
+abbrev pub show_text : List ℕ → ShowText → ShownClaim
+show_text src s = record { words = map (declared_word src) s.words.items; formula = claim src s.formula }

@@ -35,3 +35,10 @@ pub struct Declaration {
     pub name: Token,
     pub width: Token,
 }
+
+/// A text to show: its declared words, in their order, and a formula over them.
+#[derive(Debug, Drop)]
+pub struct ShowText {
+    pub words: Vec<Declaration>,
+    pub formula: Formula,
+}

@@ -10,6 +10,7 @@ use Rattle.rg_words.specs.declared.operators.Connective.{Connective}
 use Rattle.rg_words.specs.declared.operators.Connective.TheVariants.{And, Or, Implies, Iff}
 use Rattle.rg_tree.specs.Trees.{Expression, Proposition, number, word, next_word, inverse, binary, shifted, choice, truth, negation, connected, compared}
 
+-- the value of an operation at w bits
 abbrev pub operated : Operator → ℕ → ℕ → ℕ → ℕ
 operated Add w a b = (a + b) % 2 ^ w
 operated Subtract w a b = (a + (2 ^ w - b)) % 2 ^ w
@@ -17,10 +18,12 @@ operated BitAnd w a b = bit_and a b
 operated BitOr w a b = bit_or a b
 operated BitXor w a b = bit_xor a b
 
+-- the value of a shift by k at w bits
 abbrev pub moved : Shift → ℕ → ℕ → ℕ → ℕ
 moved Left w a k = a * 2 ^ k % 2 ^ w
 moved Right w a k = a / 2 ^ k
 
+-- whether a comparison of unsigned numbers is so
 abbrev pub is_so : Comparison → ℕ → ℕ → Bool
 is_so Equal a b = nat_eq a b
 is_so NotEqual a b = not (nat_eq a b)
@@ -29,6 +32,7 @@ is_so LessOrEqual a b = not (nat_lt b a)
 is_so Greater a b = nat_lt b a
 is_so GreaterOrEqual a b = not (nat_lt a b)
 
+-- the truth of two formulas joined
 abbrev pub joined : Connective → Bool → Bool → Bool
 joined And a b = a && b
 joined Or a b = a || b

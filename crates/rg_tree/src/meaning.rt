@@ -1,24 +1,33 @@
-// What expressions and formulas mean.
+//! What expressions and formulas mean.
 
-ghost use Rattle.std.specs.Prelude.{◌≡◌, ◌-◌, ◌^◌, ◌<◌, ◌≤◌, length};
+ghost use Rattle.std.specs.Prelude.{◌≡◌, ◌-◌, ◌^◌, ◌≤◌, ◌↔◌, length, IsTrue};
+ghost use Rattle.rg_words.specs.declared.limits.TheConstants.{MOST_WIDTH, MOST_SHIFT};
 ghost use Rattle.rg_tree.specs.Fits.{ExpressionFits, FormulaFits};
+ghost use Rattle.rg_tree.specs.Inside.{IsInside, is_inside};
 ghost use Rattle.rg_tree.specs.Meaning.{operated, moved, is_so, joined, value_of, holds};
 ghost use Rattle.rg_tree.specs.View.{expression, formula};
 
 use crate::tree::{Expr, Formula};
+use rg_words::State;
 use rg_words::operators::{Comparison, Connective, Operator, Shift};
 
 /// The value of an expression, plain words read in the first state and primed ones in the second.
 #[cycle(meaning)]
-pub fn value(e: &Expr, first: &[u64], second: &[u64]) -> u64
-    requires fits { ExpressionFits (expression e.now) (length first.now) }
-    requires same { length second.now ≡ length first.now }
-    ensures { result ≡ value_of (expression e.now) first.now second.now }
+pub fn value(e: &Expr, first: &State, second: &State) -> u64
+    requires fits { ExpressionFits (expression e.now) (length first.now.widths) }
+    requires same { second.now.widths ≡ first.now.widths }
+    ensures { result ≡ value_of (expression e.now) first.now.values second.now.values }
 {
     match e {
         Expr::Number(_, n) => *n,
-        Expr::Word(k) => first[*k],
-        Expr::NextWord(k) => second[*k],
+        Expr::Word(k) => {
+            prove!(*k < first.len());
+            first.get(*k)
+        }
+        Expr::NextWord(k) => {
+            prove!(*k < second.len());
+            second.get(*k)
+        }
         Expr::Inverse(width, a) => invert(*width, value(a, first, second)),
         Expr::Binary(operator, width, a, b) => {
             let left = value(a, first, second);
@@ -40,12 +49,12 @@ pub fn value(e: &Expr, first: &[u64], second: &[u64]) -> u64
     }
 }
 
-/// Whether a formula is true.
+/// Whether a formula is true, plain words read in the first state and primed ones in the second.
 #[cycle(meaning)]
-pub fn holds(f: &Formula, first: &[u64], second: &[u64]) -> bool
-    requires fits { FormulaFits (formula f.now) (length first.now) }
-    requires same { length second.now ≡ length first.now }
-    ensures { result ≡ holds (formula f.now) first.now second.now }
+pub fn holds(f: &Formula, first: &State, second: &State) -> bool
+    requires fits { FormulaFits (formula f.now) (length first.now.widths) }
+    requires same { second.now.widths ≡ first.now.widths }
+    ensures { result ≡ holds (formula f.now) first.now.values second.now.values }
 {
     match f {
         Formula::Truth(b) => *b,
@@ -61,8 +70,18 @@ pub fn holds(f: &Formula, first: &[u64], second: &[u64]) -> bool
     }
 }
 
+/// Whether the step from the first state to the second is inside the formula: that holds of both, or they are equal.
+pub fn inside(f: &Formula, first: &State, second: &State) -> bool
+    requires fits { FormulaFits (formula f.now) (length first.now.widths) }
+    requires same { second.now.widths ≡ first.now.widths }
+    ensures test { result ≡ is_inside (formula f.now) first.now.values second.now.values }
+    ensures inside { IsTrue result ↔ IsInside (formula f.now) first.now.values second.now.values }
+{
+    holds(f, first, second) || first.same(second)
+}
+
 fn operate(operator: Operator, width: u32, a: u64, b: u64) -> u64
-    requires { width ≤ 64 }
+    requires { width ≤ MOST_WIDTH }
     ensures { result ≡ operated operator width a b }
 {
     let size = 1u128 << width;
@@ -100,15 +119,15 @@ fn join(connective: Connective, a: bool, b: bool) -> bool
 }
 
 fn invert(width: u32, a: u64) -> u64
-    requires { width ≤ 64 }
+    requires { width ≤ MOST_WIDTH }
     ensures { result ≡ 2 ^ width - 1 - a }
 {
     ((1u128 << width) - 1).saturating_sub(u128::from(a)) as u64
 }
 
 fn move_bits(shift: Shift, width: u32, a: u64, count: u32) -> u64
-    requires width { width ≤ 64 }
-    requires count { count < 64 }
+    requires width { width ≤ MOST_WIDTH }
+    requires count { count ≤ MOST_SHIFT }
     ensures { result ≡ moved shift width a count }
 {
     match shift {

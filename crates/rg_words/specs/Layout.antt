@@ -1,8 +1,13 @@
 -- Declared words, in the order of declaration.
-use Rattle.std.specs.Prelude.{ℕ, ◌≤◌, Bool, List, length, map, Option, position, All, String, string_bytes}
+use Rattle.std.specs.Prelude.{ℕ, ◌≤◌, ◌≢◌, Bool, not, ◌&&◌, nat_le, if◌then◌else◌, List, length, map, Option, Some, None, is_some, position, All, String, string_bytes}
 use Rattle.std.specs.Global.{Global}
+use Rattle.std.specs.List.{AllPairs}
 use Rattle.std.specs.Str.{bytes_eq}
 use Rattle.rg_words.specs.declared.layout.Declared.{Declared}
+use Rattle.rg_words.specs.declared.limits.TheConstants.{MOST_WORDS, MOST_WIDTH}
+use Rattle.rg_words.specs.declared.refusal.RefusalNumber.{RefusalNumber}
+use Rattle.rg_words.specs.declared.refusal.RefusalNumber.TheVariants.{NameTwice, Width, Limit}
+use Rattle.rg_words.specs.Names.{IsName}
 
 -- a declared word: the bytes of its name, its width in bits, and whether no step changes it
 pub record Word : Type 0 where
@@ -18,10 +23,31 @@ words_of entries = map (λ e. record { name = string_bytes e.0; width = e.1.widt
 abbrev pub index_of : List Word → List ℕ → Option ℕ
 index_of words name = position (λ w. bytes_eq name w.name) words
 
+abbrev pub names_of : List Word → List (List ℕ)
+names_of words = map (λ w. w.name) words
+
 abbrev pub widths_of : List Word → List ℕ
 widths_of words = map (λ w. w.width) words
 
--- at most 64 words, of widths from 1 to 64
-pub record WithinLimits (words : List Word) : Type 0 where
-  pub count : length words ≤ 64
-  pub widths : All (λ w. (1 ≤ w.width) × (w.width ≤ 64)) words
+-- for each word whether it is fixed
+abbrev pub fixed_of : List Word → List Bool
+fixed_of words = map (λ w. w.fixed) words
+
+-- from 1 bit to 64
+abbrev pub IsWidth : ℕ → Type 0
+IsWidth width = (1 ≤ width) × (width ≤ MOST_WIDTH)
+
+-- what the words of a layout are: at most 64, of such widths, each with a name of its own
+pub record IsLayout (words : List Word) : Type 0 where
+  pub count : length words ≤ MOST_WORDS
+  pub widths : All (λ w. IsWidth w.width) words
+  pub names : All (λ w. IsName w.name) words
+  pub distinct : AllPairs (λ v w. v.name ≢ w.name) words
+
+-- why a word can't be declared behind these words, if it can't: the first of these three that holds
+abbrev pub declaration_fault : List Word → List ℕ → ℕ → Option RefusalNumber
+declaration_fault words name width =
+    if is_some (index_of words name) then Some NameTwice
+    else if not (nat_le 1 width && nat_le width MOST_WIDTH) then Some Width
+    else if nat_le MOST_WORDS (length words) then Some Limit
+    else None

@@ -1,6 +1,7 @@
 //! Words and states, refusals, limits and writers: what every other crate speaks of.
 #![tactic(auto)]
 
+mod buffered;
 mod layout;
 pub mod limits;
 pub mod names;
@@ -8,8 +9,11 @@ pub mod operators;
 mod refusal;
 mod sink;
 mod state;
+#[cfg(test)]
+mod tests;
 mod writers;
 
+pub use buffered::Buffered;
 pub use layout::Layout;
 pub use refusal::{Place, Refusal, RefusalNumber, SourceFile};
 pub use sink::{Out, WriteFault, write_all};

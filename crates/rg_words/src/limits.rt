@@ -47,3 +47,6 @@ pub const MOST_RUN_STEPS: u64 = 1_000_000;
 
 /// The most decisions of one search for hint lines.
 pub const MOST_DECISIONS: u64 = 1_000_000_000;
+
+/// The most bytes that a buffered writer holds back.
+pub const BUFFER_BYTES: usize = 65_536;

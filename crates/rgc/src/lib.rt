@@ -5,7 +5,9 @@ mod app;
 mod command;
 mod fields;
 mod line;
+mod shown;
 
 pub use command::Command;
 pub use fields::FieldFault;
 pub use line::{Line, LineFault};
+pub use shown::{clauses, valid};

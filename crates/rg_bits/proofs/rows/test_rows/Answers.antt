@@ -1,0 +1,24 @@
+use Rattle.std.proofs.Common.{arith, rules}
+use Rattle.rg_words.specs.declared.limits.TheConstants.{MOST_VARIABLES}
+use Rattle.rg_gates.proofs.Growth.{Extends-trans}
+use Rattle.rg_bits.proofs.TestSteps.{test-turn, test-done, test-past}
+use Rattle.rg_bits.proofs.rows.test_rows.Goals as goal
+
+pub loop-i-preserved : goal.loop-i-preserved
+loop-i-preserved g c =
+    let l = c.loop-i in
+    record {
+      built = test-turn c.args.test c.args.a.now c.args.b.now c.args.start l.so_far c.args.gates.now l.gates l.i l.invariant.built c.in_ok-so_far.so_far c.test_bit.new.gates (omega arith) c.in_ok-so_far.ensures.built;
+      extends = Extends-trans l.invariant.extends c.test_bit.ensures.extends;
+      so_far = c.in_ok-so_far.ensures.literal;
+    }
+
+pub returns-clause-built : goal.returns-clause-built
+returns-clause-built g c =
+    let l = c.loop-i in
+    test-done c.args.test c.args.a.now c.args.b.now c.args.start l.so_far c.args.gates.now l.gates l.i l.invariant.built (omega arith)
+
+pub returns-in_err-so_far-clause-full : goal.returns-in_err-so_far-clause-full
+returns-in_err-so_far-clause-full g c = λ e.
+    let l = c.loop-i in
+    test-past c.args.test c.args.a.now c.args.b.now c.args.start l.so_far c.args.gates.now l.gates l.i l.invariant.built MOST_VARIABLES (omega arith) (search rules)

@@ -1,0 +1,107 @@
+-- Flat code: blocks with targets, one place for each part, its runs, and the code of a program.
+use Rattle.std.specs.Prelude.{◌≡◌, ◌≢◌, ℕ, suc, ◌+◌, Bool, true, false, ◌&&◌, List, [], ◌∷◌, ◌++◌, if◌then◌else◌, Option, Some, None, slice_get, length, ◌↔◌}
+use Rattle.rg_words.specs.Layout.{Word}
+use Rattle.rg_tree.specs.Trees.{Proposition, Assignment}
+use Rattle.rg_tree.specs.Statements.{Statement, skip, assign, await, sequence, branch, loop, Items, one, more, PartTree, ProgramTree}
+use Rattle.rg_tree.specs.Claims.{assigned}
+use Rattle.rg_tree.specs.Traces.{State, holds_at, Move, Own, Env, Step, IsTraceOf}
+use Rattle.rg_tree.specs.Programs.{IsRun}
+
+-- a block, with the places that it leads to
+pub data BlockTree : Type 0 where
+  do_block : ℕ → ℕ → List Assignment → BlockTree
+  await_block : ℕ → ℕ → Proposition → List Assignment → BlockTree
+  test_block : ℕ → ℕ → ℕ → Proposition → BlockTree
+  end_block : BlockTree
+
+-- the block may lead from s to t, and to this place
+abbrev pub Makes_step : Option BlockTree → State → State → ℕ → Type 0
+Makes_step None s t to = ⊥
+Makes_step (Some (do_block row next act)) s t to = (t ≡ assigned act s) × (to ≡ next)
+Makes_step (Some (await_block row next b act)) s t to = (holds_at b s ≡ true) × (t ≡ assigned act s) × (to ≡ next)
+Makes_step (Some (test_block row yes_place no_place b)) s t to = (t ≡ s) × (to ≡ (if holds_at b s then yes_place else no_place))
+Makes_step (Some end_block) s t to = ⊥
+
+abbrev pub is_end : Option BlockTree → Bool
+is_end None = false
+is_end (Some (do_block row next act)) = false
+is_end (Some (await_block row next b act)) = false
+is_end (Some (test_block row yes_place no_place b)) = false
+is_end (Some end_block) = true
+
+-- the runs of one part's code from a place, as the part sees them
+abbrev pub CodeRuns : List BlockTree → ℕ → State → List Move → Bool → Type 0
+CodeRuns code at s [] ended = ended ≡ is_end (slice_get code at)
+CodeRuns code at s (Env t ∷ ms) ended = CodeRuns code at t ms ended
+CodeRuns code at s (Own t ∷ ms) ended = (to : ℕ) × Makes_step (slice_get code at) s t to × CodeRuns code to t ms ended
+
+-- one step of the code of all parts, numbered from i: the part who makes it goes on from its place, all others stay
+abbrev pub PlacesGo : ℕ → List (List BlockTree) → List ℕ → List ℕ → State → Step → Type 0
+PlacesGo i [] [] [] s x = Unit {0}
+PlacesGo i (c ∷ cs) (k ∷ ks) (k' ∷ ks') s x =
+    (x.who ≡ i → Makes_step (slice_get c k) s x.after k') × (x.who ≢ i → k' ≡ k) × PlacesGo (suc i) cs ks ks' s x
+PlacesGo i _ _ _ s x = ⊥
+
+abbrev pub all_at_end : List (List BlockTree) → List ℕ → Bool
+all_at_end (c ∷ cs) (k ∷ ks) = is_end (slice_get c k) && all_at_end cs ks
+all_at_end _ _ = true
+
+-- runs of the code of all parts from these places. It has ended where each place is an end
+abbrev pub AllCodeRuns : List (List BlockTree) → List ℕ → State → List Step → Bool → Type 0
+AllCodeRuns codes places s [] ended = ended ≡ all_at_end codes places
+AllCodeRuns codes places s (x ∷ xs) ended =
+    (places' : List ℕ) × PlacesGo 1 codes places places' s x × AllCodeRuns codes places' x.after xs ended
+
+abbrev pub zeros : List (List BlockTree) → List ℕ
+zeros [] = []
+zeros (c ∷ cs) = 0 ∷ zeros cs
+
+-- a run of the code from the first places
+pub record IsCodeRun (words : List Word) (codes : List (List BlockTree)) (s : State) (xs : List Step) (ended : Bool) : Type 0 where
+  pub trace : IsTraceOf words (length codes) s xs
+  pub run : AllCodeRuns codes (zeros codes) s xs ended
+
+-- how many blocks a statement has: one for each statement in it that is no sequence
+abbrev mutual
+  pub count_of : Statement → ℕ
+  count_of (skip row) = 1
+  count_of (assign row a) = 1
+  count_of (await row b act) = 1
+  count_of (sequence row s items) = count_of s + count_of_items items
+  count_of (branch row b s t) = suc (count_of s + count_of t)
+  count_of (loop row b s) = suc (count_of s)
+
+  pub count_of_items : Items → ℕ
+  count_of_items (one s) = count_of s
+  count_of_items (more s items) = count_of s + count_of_items items
+
+-- the blocks of a statement whose first block stands at place first, and after which comes the block at place next
+abbrev mutual
+  pub code_of : Statement → ℕ → ℕ → List BlockTree
+  code_of (skip row) first next = do_block row next [] ∷ []
+  code_of (assign row a) first next = do_block row next (a ∷ []) ∷ []
+  code_of (await row b act) first next = await_block row next b act ∷ []
+  code_of (sequence row s items) first next = code_of s first (first + count_of s) ++ code_of_items items (first + count_of s) next
+  code_of (branch row b s t) first next =
+      test_block row (suc first) (suc first + count_of s) b ∷ (code_of s (suc first) next ++ code_of t (suc first + count_of s) next)
+  code_of (loop row b s) first next = test_block row (suc first) next b ∷ code_of s (suc first) first
+
+  pub code_of_items : Items → ℕ → ℕ → List BlockTree
+  code_of_items (one s) first next = code_of s first next
+  code_of_items (more s items) first next = code_of s first (first + count_of s) ++ code_of_items items (first + count_of s) next
+
+-- the code of a part's body, with its end
+abbrev pub part_code : Statement → List BlockTree
+part_code s = code_of s 0 (count_of s) ++ end_block ∷ []
+
+abbrev pub program_code : List PartTree → List (List BlockTree)
+program_code [] = []
+program_code (p ∷ ps) = part_code p.body ∷ program_code ps
+
+-- the code has exactly the program's runs
+abbrev pub HasRunsOf : ProgramTree → List (List BlockTree) → Type 0
+HasRunsOf program codes =
+    (s : State) (xs : List Step) (ended : Bool) → IsCodeRun program.words codes s xs ended ↔ IsRun program s xs ended
+
+abbrev pub CompilerIsRight : Type 0
+CompilerIsRight = (program : ProgramTree) → HasRunsOf program (program_code program.parts)

@@ -1,0 +1,76 @@
+-- what a look-up by a test of equality finds
+use Rattle.std.proofs.Common.{◌≡◌, ℕ, suc, ◌+◌, ◌<◌, ◌≤◌, Bool, true, false, not, ◌||◌, cond, nat_lt, List, [], ◌∷◌, ◌++◌, length, get_or, Some, None, refl, sym, ap, ◌∙◌, inl, inr, ⊎_elim, subst, arith}
+use Rattle.std.specs.Prelude.{MatchOption}
+use Rattle.std.specs.List.{list_any, position_or_len, position}
+use Rattle.std.proofs.lemmas.Bool.{false≢true}
+use Rattle.std.proofs.lemmas.Bool.Decides.{nat_tests}
+use Rattle.std.proofs.lemmas.List.Sums.{fails_before_first, passes_at_first, prefix_len-le-length}
+use Rattle.rg_gates.specs.declared.Gate.{Gate}
+use Rattle.rg_gates.specs.declared.Lit.TheVariants.{Variable}
+use Rattle.rg_gates.specs.Circuit.{Circuit, no_gate}
+use Rattle.rg_gates.specs.And.{TakesGate}
+use Rattle.rg_gates.specs.Table.{IsMissing, IsFirst, IsPlaced}
+
+lt-zero : (n : ℕ) → nat_lt 0 (suc n) ≡ true
+lt-zero n = grind (arith, nat_tests)
+
+lt-next : (m n : ℕ) → nat_lt m n ≡ nat_lt (1 + m) (suc n)
+lt-next m n = grind (arith, nat_tests)
+
+-- some element passes where the first that does stands within the list
+any_is : (p : Gate → Bool) (xs : List Gate) → list_any p xs ≡ nat_lt (position_or_len p xs) (length xs)
+any_is p [] = refl
+any_is p (x ∷ xs) =
+    elim (p x) as (λ b. (b || list_any p xs) ≡ nat_lt (cond (not b) (1 + position_or_len p xs) 0) (suc (length xs))) [
+      | true ↦ sym (lt-zero (length xs))
+      | false ↦ any_is p xs ∙ lt-next (position_or_len p xs) (length xs)
+    ]
+
+module _ (p : Gate → Bool) (g : Gate) (reads : (h : Gate) → p h ≡ true → g ≡ h) (itself : p g ≡ true) (xs : List Gate) where
+  differ_before : (j : ℕ) → j < position_or_len p xs → get_or xs j no_gate ≡ g → ⊥
+  differ_before j less e =
+      let P : Gate → Type 0 = λ h. p h ≡ true in
+      false≢true (sym (fails_before_first p xs j no_gate less) ∙ subst P (sym e) itself)
+
+  first_is : position_or_len p xs < length xs → IsFirst xs g (position_or_len p xs)
+  first_is h = (h, sym (reads _ (passes_at_first p xs no_gate h)), differ_before)
+
+  missing_is : length xs ≤ position_or_len p xs → IsMissing xs g
+  missing_is h j less = differ_before j (omega arith)
+
+  -- what `find` gives
+  pub found_at : MatchOption (position p xs) (IsMissing xs g) (IsFirst xs g)
+  found_at =
+      elim (nat_lt (position_or_len p xs) (length xs)) as (λ b. nat_lt (position_or_len p xs) (length xs) ≡ b → MatchOption (cond b (Some (position_or_len p xs)) None) (IsMissing xs g) (IsFirst xs g)) [
+        | true ↦ λ e. first_is (grind (arith, nat_tests))
+        | false ↦ λ e. missing_is (grind (arith, nat_tests))
+      ] refl
+
+  -- what `insert_full` gives
+  pub placed_at : IsPlaced xs g (position_or_len p xs) (cond (list_any p xs) xs (xs ++ g ∷ []))
+  placed_at =
+      let bound = prefix_len-le-length (λ x. not (p x)) xs in
+      elim (nat_lt (position_or_len p xs) (length xs)) as (λ b. nat_lt (position_or_len p xs) (length xs) ≡ b → IsPlaced xs g (position_or_len p xs) (cond (list_any p xs) xs (xs ++ g ∷ []))) [
+        | true ↦ λ e.
+            let h : position_or_len p xs < length xs = grind (arith, nat_tests) in
+            inl (first_is h, ap (λ b. cond b xs (xs ++ g ∷ [])) (any_is p xs ∙ e))
+        | false ↦ λ e.
+            let h : length xs ≤ position_or_len p xs = grind (arith, nat_tests) in
+            inr (missing_is h, omega (arith, bound), ap (λ b. cond b xs (xs ++ g ∷ [])) (any_is p xs ∙ e))
+      ] refl
+
+  -- where none passes
+  pub missing_at : list_any p xs ≡ false → IsMissing xs g
+  missing_at e =
+      let f = sym (any_is p xs) ∙ e in
+      missing_is (grind (arith, nat_tests))
+
+-- a gate that has its place in the table is taken by its circuit
+pub taken_by : (old new : Circuit) (g : Gate) (k : ℕ) → new.inputs ≡ old.inputs → IsPlaced old.gates g k new.gates → TakesGate old g (Variable (old.inputs + k + 1) false) new
+taken_by old new g k inputs placed =
+    let same : new.gates ≡ old.gates → new ≡ old = λ e. (λ i. record { inputs = inputs i; gates = e i }) in
+    let more : new.gates ≡ old.gates ++ g ∷ [] → new ≡ record { inputs = old.inputs; gates = old.gates ++ g ∷ [] } = λ e. (λ i. record { inputs = inputs i; gates = e i }) in
+    ⊎_elim
+    (λ w. inl (k, w.0.0, w.0.1, w.0.2, refl, same w.1))
+    (λ w. inr (w.0, ap (λ (j : ℕ). Variable (old.inputs + j + 1) false) w.1, more w.2))
+    placed

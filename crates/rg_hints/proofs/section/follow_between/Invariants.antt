@@ -1,0 +1,5 @@
+use Rattle.rg_hints.specs.Verdict.{LinesFollow}
+use Rattle.rg_hints.proofs.section.follow_between.Given as goal
+
+abbrev pub invariant-loop-index : goal.invariant-loop-index
+invariant-loop-index g l = LinesFollow l.clauses.clauses l.lines l.from l.index

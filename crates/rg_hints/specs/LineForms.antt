@@ -1,0 +1,10 @@
+use Rattle.std.specs.Prelude.{ℕ, ℤ, List}
+use Rattle.rg_hints.specs.declared.read.LineForm.{LineForm}
+use Rattle.rg_hints.specs.declared.read.LineForm.TheVariants.{PassedOver, HintLine, Unreadable}
+use Rattle.rg_hints.specs.Reading.{Reading, passed_over, hint_line, unreadable}
+
+-- what a line says, with its literals and hints
+abbrev pub reading_as : LineForm → List ℤ → List ℕ → Reading
+reading_as PassedOver literals hints = passed_over
+reading_as (HintLine id) literals hints = hint_line id literals hints
+reading_as Unreadable literals hints = unreadable

@@ -1,0 +1,21 @@
+-- Lists of conditions that grow at the end.
+use Rattle.std.proofs.Common.{◌≡◌, ℕ, suc, ◌+◌, ◌<◌, List, [], ◌∷◌, ◌++◌, length, map, drop, get_or, sym, ap, ◌∙◌, append_assoc, add-one}
+use Rattle.std.proofs.lemmas.List.{map-append}
+use Rattle.std.proofs.Math.Seq.{drop-cons}
+
+-- what stands at a place, and what stands behind it
+pub here : {X : Type 0} (xs : List X) (i : ℕ) (x : X) → i < length xs → x ≡ get_or xs i x → drop i xs ≡ x ∷ drop (i + 1) xs
+here xs i x less at = drop-cons xs i x less ∙ ap (λ y. y ∷ drop (suc i) xs) (sym at) ∙ ap (λ j. x ∷ drop j xs) (sym (add-one i))
+
+-- one turn: what was added here goes from the rest to the front
+pub turn : {A B : Type 0} (g : A → B) (a b : List B) (one rest : List A) (whole : List B) → b ≡ a ++ map g one → a ++ map g (one ++ rest) ≡ whole → b ++ map g rest ≡ whole
+turn g a b one rest whole e h =
+    ap (λ l. l ++ map g rest) e ∙ append_assoc a (map g one) (map g rest) ∙ ap (λ l. a ++ l) (sym (map-append g one rest)) ∙ h
+
+-- four lists and a last one
+pub five : {A B : Type 0} (g : A → B) (p r x q e : List A) (a b c d f : List B) → a ≡ map g p → b ≡ a ++ map g r → c ≡ b ++ map g x → d ≡ c ++ map g q → f ≡ d ++ map g e → f ≡ map g (p ++ r ++ x ++ q ++ e)
+five g p r x q e a b c d f ha hb hc hd hf =
+    let two = hb ∙ ap (λ l. l ++ map g r) ha ∙ sym (map-append g p r) in
+    let three = hc ∙ ap (λ l. l ++ map g x) two ∙ sym (map-append g (p ++ r) x) in
+    let four = hd ∙ ap (λ l. l ++ map g q) three ∙ sym (map-append g ((p ++ r) ++ x) q) in
+    hf ∙ ap (λ l. l ++ map g e) four ∙ sym (map-append g (((p ++ r) ++ x) ++ q) e)

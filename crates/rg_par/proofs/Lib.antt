@@ -1,0 +1,4 @@
+pub mod Parallel
+pub mod Typed
+pub mod Joined
+pub mod Sound

@@ -1,0 +1,187 @@
+//! The conditions of the parallel rule.
+
+ghost use Rattle.std.specs.Prelude.{◌≡◌, ◌++◌, ◌≤◌, ◌==◌, if◌then◌else◌, [], ◌∷◌, map, length, OnOk, IfOk};
+ghost use Rattle.rg_words.specs.Layout.{widths_of};
+ghost use Rattle.rg_words.specs.declared.limits.TheConstants.{MOST_PARTS};
+ghost use Rattle.rg_tree.specs.View.{formula};
+ghost use Rattle.rg_tree.specs.ProgramView.{specification, part};
+ghost use Rattle.rg_tree.specs.ProgramTrees.{program as program_tree};
+ghost use Rattle.rg_tree.specs.Programs.{IsSatisfied};
+ghost use Rattle.rg_tree.specs.Conditions.{claim};
+ghost use Rattle.rg_tree.specs.Typing.{IsTyped};
+ghost use Rattle.rg_tree.specs.TypedPrograms.{IsTypedSpecification, AreTypedParts};
+ghost use Rattle.rg_tree.specs.Obligations.{obligation_claim, AllConditionsHold, allows as allows_of, reaches as reaches_of};
+ghost use Rattle.rg_par.specs.Parallel.{pre_obligations, rely_obligations, guar_obligations, other_obligations, cross_obligations, parallel_obligations, PartsSatisfy};
+
+use rg_tree::condition::Condition;
+use rg_tree::copy::copy_formula;
+use rg_tree::obligations::{allows, implies, reaches};
+use rg_tree::part::Part;
+use rg_tree::program::Program;
+use rg_tree::tree::Formula;
+use rg_words::Layout;
+use std::alloc::{AllocError, Global};
+
+/// The pre gives each part's pre.
+#[tactic(auto, using(crate::proofs::Typed::part_typed))]
+fn add_pres(
+    alloc: Global,
+    all: &mut Vec<Condition>,
+    layout: &Layout,
+    pre: &Formula,
+    parts: &[Part],
+) -> Result<(), AllocError>
+    requires pre { IsTyped (widths_of layout.now) (formula pre.now) }
+    requires parts { AreTypedParts layout.now (map part parts.now) }
+    ensures { OnOk result (map claim all.new.items ≡ map claim all.old.items ++ map (obligation_claim layout.now) (pre_obligations (formula pre.now) (map part parts.now))) }
+{
+    for part in parts {
+        all.push(implies(alloc, layout.copy()?, pre, &part.spec.pre)?)?;
+    }
+    Ok(())
+}
+
+/// The rely gives each part's rely.
+fn add_relies(
+    alloc: Global,
+    all: &mut Vec<Condition>,
+    layout: &Layout,
+    rely: &Formula,
+    parts: &[Part],
+) -> Result<(), AllocError>
+    requires rely { IsTyped (widths_of layout.now) (formula rely.now) }
+    requires parts { AreTypedParts layout.now (map part parts.now) }
+    ensures { OnOk result (map claim all.new.items ≡ map claim all.old.items ++ map (obligation_claim layout.now) (rely_obligations (formula rely.now) (map part parts.now))) }
+{
+    for part in parts {
+        all.push(allows(alloc, layout.copy()?, rely, &part.spec.rely)?)?;
+    }
+    Ok(())
+}
+
+/// Each part's guarantee gives the guarantee.
+fn add_guars(
+    alloc: Global,
+    all: &mut Vec<Condition>,
+    layout: &Layout,
+    guar: &Formula,
+    parts: &[Part],
+) -> Result<(), AllocError>
+    requires guar { IsTyped (widths_of layout.now) (formula guar.now) }
+    requires parts { AreTypedParts layout.now (map part parts.now) }
+    ensures { OnOk result (map claim all.new.items ≡ map claim all.old.items ++ map (obligation_claim layout.now) (guar_obligations (formula guar.now) (map part parts.now))) }
+{
+    for part in parts {
+        all.push(allows(alloc, layout.copy()?, &part.spec.guar, guar)?)?;
+    }
+    Ok(())
+}
+
+/// The guarantee of part `j` gives this rely, but for the rely's own part `i`.
+fn add_other(
+    alloc: Global,
+    all: &mut Vec<Condition>,
+    layout: &Layout,
+    i: usize,
+    rely: &Formula,
+    j: usize,
+    part: &Part,
+) -> Result<(), AllocError>
+    requires rely { IsTyped (widths_of layout.now) (formula rely.now) }
+    requires part { IsTypedSpecification layout.now (specification part.now.spec) }
+    ensures { OnOk result (map claim all.new.items ≡ map claim all.old.items ++ map (obligation_claim layout.now) (if i == j then [] else allows_of (formula part.now.spec.guar) (formula rely.now) ∷ [])) }
+{
+    if i != j {
+        all.push(allows(alloc, layout.copy()?, &part.spec.guar, rely)?)?;
+    }
+    Ok(())
+}
+
+/// The guarantees of all parts but part `i`, numbered from 1, give this rely.
+fn add_others(
+    alloc: Global,
+    all: &mut Vec<Condition>,
+    layout: &Layout,
+    i: usize,
+    rely: &Formula,
+    parts: &[Part],
+) -> Result<(), AllocError>
+    requires rely { IsTyped (widths_of layout.now) (formula rely.now) }
+    requires parts { AreTypedParts layout.now (map part parts.now) }
+    requires most { length parts.now ≤ MOST_PARTS }
+    ensures { OnOk result (map claim all.new.items ≡ map claim all.old.items ++ map (obligation_claim layout.now) (other_obligations i (formula rely.now) 1 (map part parts.now))) }
+{
+    for (j, part) in parts.iter().enumerate() {
+        add_other(alloc, all, layout, i, rely, j + 1, part)?;
+    }
+    Ok(())
+}
+
+/// For each part in order, the guarantees of all others give its rely.
+fn add_crosses(
+    alloc: Global,
+    all: &mut Vec<Condition>,
+    layout: &Layout,
+    parts: &[Part],
+) -> Result<(), AllocError>
+    requires parts { AreTypedParts layout.now (map part parts.now) }
+    requires most { length parts.now ≤ MOST_PARTS }
+    ensures { OnOk result (map claim all.new.items ≡ map claim all.old.items ++ map (obligation_claim layout.now) (cross_obligations (map part parts.now) 1 (map part parts.now))) }
+{
+    for (i, part) in parts.iter().enumerate() {
+        add_others(alloc, all, layout, i + 1, &part.spec.rely, parts)?;
+    }
+    Ok(())
+}
+
+/// Copies of the parts' posts.
+fn posts(alloc: Global, parts: &[Part]) -> Result<Vec<Formula>, AllocError>
+    ensures { IfOk result (λ fs. map formula fs.items ≡ map (λ p. p.spec.post) (map part parts.now)) }
+{
+    let mut all = Vec::new(alloc);
+    for part in parts {
+        all.push(copy_formula(alloc, &part.spec.post)?)?;
+    }
+    Ok(all)
+}
+
+/// The posts of the parts together give the post.
+#[tactic(auto, using(crate::proofs::Typed::posts_typed))]
+fn add_post(
+    alloc: Global,
+    all: &mut Vec<Condition>,
+    layout: &Layout,
+    post: &Formula,
+    parts: &[Part],
+) -> Result<(), AllocError>
+    requires post { IsTyped (widths_of layout.now) (formula post.now) }
+    requires parts { AreTypedParts layout.now (map part parts.now) }
+    ensures { OnOk result (map claim all.new.items ≡ map claim all.old.items ++ map (obligation_claim layout.now) (reaches_of (map (λ p. p.spec.post) (map part parts.now)) [] (formula post.now) ∷ [])) }
+{
+    let posts = posts(alloc, parts)?;
+    let post = copy_formula(alloc, post)?;
+    all.push(reaches(layout.copy()?, posts, Vec::new(alloc), post))?;
+    Ok(())
+}
+
+/// The conditions of the parallel rule for parts 1 to n, in this order: for each part, the pre gives its pre; for each part, the
+/// rely gives its rely; for each part and then each other one, the other's guarantee gives its rely; for each part, its guarantee
+/// gives the guarantee; last, the posts together give the post. Relies and guarantees are read with "or no change".
+///
+/// Refused only where memory was refused.
+pub fn conditions(alloc: Global, program: &Program) -> Result<Vec<Condition>, AllocError>
+    // Exactly the rule's list.
+    ensures list { IfOk result (λ all. map claim all.items ≡ map (obligation_claim program.now.layout) (parallel_obligations (specification program.now.spec) (map part program.now.parts.items))) }
+    // Where they are true and each part satisfies its own specification, the program satisfies its specification.
+    ensures sound { IfOk result (λ all. AllConditionsHold (map claim all.items) → PartsSatisfy (program_tree program.now) → IsSatisfied (program_tree program.now)) }
+{
+    let layout = &program.layout;
+    let parts = program.parts.as_slice();
+    let mut all = Vec::new(alloc);
+    add_pres(alloc, &mut all, layout, &program.spec.pre, parts)?;
+    add_relies(alloc, &mut all, layout, &program.spec.rely, parts)?;
+    add_crosses(alloc, &mut all, layout, parts)?;
+    add_guars(alloc, &mut all, layout, &program.spec.guar, parts)?;
+    add_post(alloc, &mut all, layout, &program.spec.post, parts)?;
+    Ok(all)
+}

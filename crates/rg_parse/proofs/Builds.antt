@@ -1,0 +1,54 @@
+-- The builder makes of each way to write a formula what it says.
+use Rattle.std.proofs.Common.{◌≡◌, Bool, true, false, cond, List, [], ◌∷◌, ◌++◌, refl, ap, ◌∙◌}
+use Rattle.rg_text.specs.Text.{Leaf}
+use Rattle.rg_text.specs.declared.kind.Terminal.TheVariants.{Colon, Show, Close, Compare, Operate, Join, Imply, Then, Else}
+use Rattle.rg_text.specs.declared.kind.Junction.{Junction}
+use Rattle.rg_parse.specs.Grammar as grammar
+use Rattle.rg_parse.specs.Grammar.{Lexeme, WordsText, ShowSpelling, one, more, marked, declaration, words, show, fixed, FormulaText, ChainText, ExpressionText, truth, negation, junction, conditional, comparison, pair, longer, numeral, word, next_word, inverse, operation, shift, choice, formula, chain, expression}
+use Rattle.rg_parse.specs.Syntax.{DeclaredWord, number}
+use Rattle.rg_parse.specs.Syntax as syntax
+use Rattle.rg_parse.specs.Frames.{Open, whole, finished, declaring, showing, finished_show, negated, inverted, first, another, second, comparing, operating, chosen, condition, consequent, alternative, after_next}
+use Rattle.rg_parse.specs.Build.{with_claim, with_term, with_name, with_number, steps, is_apart, claim_of, chain_of, term_of, declared_words}
+
+mutual
+  pub builds_claim : (f : FormulaText) (os : List Open) (r : List Lexeme) → steps os (formula f r) ≡ steps (with_claim os (claim_of f)) r
+  builds_claim (truth b) os r = refl
+  builds_claim (negation f) os r = builds_claim f (negated ∷ os) r
+  builds_claim (junction j c) os r = builds_chain c j os (fixed Close ∷ r)
+  builds_claim (conditional d f g) os r =
+      builds_claim f (first ∷ os) (fixed (Imply d) ∷ formula g (fixed Close ∷ r)) ∙ builds_claim g (second d (claim_of f) ∷ os) (fixed Close ∷ r)
+  builds_claim (comparison c a b) os r =
+      builds_term a (first ∷ os) (fixed (Compare c) ∷ expression b (fixed Close ∷ r)) refl ∙ builds_term b (comparing c (term_of a) ∷ os) (fixed Close ∷ r) refl
+
+  pub builds_chain : (c : ChainText) (j : Junction) (os : List Open) (r : List Lexeme) → steps (first ∷ os) (chain j c r) ≡ steps (after_next j (chain_of c j) ∷ os) r
+  builds_chain (pair f g) j os r =
+      builds_claim f (first ∷ os) (fixed (Join j) ∷ formula g r) ∙ builds_claim g (another j (claim_of f) ∷ os) r
+  builds_chain (longer c f) j os r =
+      builds_chain c j os (fixed (Join j) ∷ formula f r) ∙ builds_claim f (another j (chain_of c j) ∷ os) r
+
+  pub builds_term : (a : ExpressionText) (os : List Open) (r : List Lexeme) → is_apart os ≡ false → steps os (expression a r) ≡ steps (with_term os (term_of a)) r
+  builds_term (numeral text) os r h = ap (λ b. steps (cond b (with_number os text) (with_term os (number text))) r) h
+  builds_term (word text) os r h = ap (λ b. steps (cond b (with_name os text) (with_term os (syntax.word text))) r) h
+  builds_term (next_word text) os r h = refl
+  builds_term (inverse a) os r h = builds_term a (inverted ∷ os) r refl
+  builds_term (operation o a b) os r h =
+      builds_term a (first ∷ os) (fixed (Operate o) ∷ expression b (fixed Close ∷ r)) refl ∙ builds_term b (operating o (term_of a) ∷ os) (fixed Close ∷ r) refl
+  builds_term (shift s a text) os r h = builds_term a (first ∷ os) _ refl
+  builds_term (choice f a b) os r h =
+      builds_claim f (condition ∷ chosen ∷ os) (fixed Then ∷ expression a (fixed Else ∷ expression b (fixed Close ∷ r)))
+      ∙ builds_term a (consequent (claim_of f) ∷ chosen ∷ os) (fixed Else ∷ expression b (fixed Close ∷ r)) refl
+      ∙ builds_term b (alternative (claim_of f) (term_of a) ∷ chosen ∷ os) (fixed Close ∷ r) refl
+
+builds_declaration : (b : Bool) (n w : Leaf) (ws : List DeclaredWord) (os : List Open) (r : List Lexeme) → steps (declaring ws false ∷ os) (marked b (grammar.name n ∷ fixed Colon ∷ grammar.number w ∷ r)) ≡ steps (declaring (ws ++ record { fixed = b; name = n; width = w } ∷ []) false ∷ os) r
+builds_declaration true n w ws os r = refl
+builds_declaration false n w ws os r = refl
+
+builds_words : (ws : WordsText) (os : List Open) (r : List Lexeme) → steps (declaring [] false ∷ os) (words ws r) ≡ steps (declaring (declared_words ws) false ∷ os) r
+builds_words (one w) os r = builds_declaration w.fixed w.name w.width [] os r
+builds_words (more ws w) os r = builds_words ws os (declaration w r) ∙ builds_declaration w.fixed w.name w.width (declared_words ws) os r
+
+pub builds_formula : (f : FormulaText) → steps (whole ∷ []) (formula f []) ≡ finished (claim_of f) ∷ []
+builds_formula f = builds_claim f (whole ∷ []) []
+
+pub builds_show : (s : ShowSpelling) → steps (declaring [] false ∷ []) (show s []) ≡ finished_show (declared_words s.words) (claim_of s.formula) ∷ []
+builds_show s = builds_words s.words [] (fixed Show ∷ formula s.formula []) ∙ builds_claim s.formula (showing (declared_words s.words) ∷ []) []

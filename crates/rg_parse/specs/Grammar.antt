@@ -1,0 +1,127 @@
+-- The grammar: each way to write a text, and its tokens.
+use Rattle.std.specs.Prelude.{◌≡◌, ℕ, Bool, true, false, List, [], ◌∷◌, ◌++◌}
+use Rattle.rg_text.specs.Text.{Leaf, leaf_of}
+use Rattle.rg_text.specs.declared.token.Token.{Token}
+use Rattle.rg_text.specs.declared.kind.Kind.{Kind}
+use Rattle.rg_text.specs.declared.kind.Kind.TheVariants.{Name, Primed, Number, Fixed}
+use Rattle.rg_text.specs.declared.kind.Terminal.{Terminal}
+use Rattle.rg_text.specs.declared.kind.Terminal.TheVariants.{Open, Close, Colon, Words, Show, Section, Compare, Operate, ShiftBy, Join, Imply, Truth, Not, Inv, If, Then, Else}
+use Rattle.rg_words.specs.declared.operators.Comparison.{Comparison}
+use Rattle.rg_words.specs.declared.operators.Operator.{Operator}
+use Rattle.rg_words.specs.declared.operators.Shift.{Shift}
+use Rattle.rg_text.specs.declared.kind.Junction.{Junction}
+use Rattle.rg_text.specs.declared.kind.Conditional.{Conditional}
+use Rattle.rg_text.specs.declared.kind.Keyword.TheVariants as keywords
+use Rattle.rg_parse.specs.Syntax.{DeclaredWord}
+use Rattle.rg_parse.specs.declared.point.TextKind.{TextKind}
+use Rattle.rg_parse.specs.declared.point.TextKind.TheVariants as texts
+
+-- a token as the grammar sees it: a keyword or symbol, or a name or number with its text and line
+pub data Lexeme : Type 0 where
+  fixed : Terminal → Lexeme
+  name : Leaf → Lexeme
+  primed : Leaf → Lexeme
+  number : Leaf → Lexeme
+
+abbrev pub kind_of : Lexeme → Kind
+kind_of (fixed t) = Fixed t
+kind_of (name leaf) = Name
+kind_of (primed leaf) = Primed
+kind_of (number leaf) = Number
+
+abbrev pub lexeme_as : Kind → Leaf → Lexeme
+lexeme_as (Fixed t) leaf = fixed t
+lexeme_as Name leaf = name leaf
+lexeme_as Primed leaf = primed leaf
+lexeme_as Number leaf = number leaf
+
+-- a token of this source, as the grammar sees it
+abbrev pub lexeme_of : List ℕ → Token → Lexeme
+lexeme_of source t = lexeme_as t.kind (leaf_of source t)
+
+-- the ways to write a formula, a chain of formulas, and an expression
+mutual
+  pub data FormulaText : Type 0 where
+    truth : Bool → FormulaText
+    negation : FormulaText → FormulaText
+    junction : Junction → ChainText → FormulaText
+    conditional : Conditional → FormulaText → FormulaText → FormulaText
+    comparison : Comparison → ExpressionText → ExpressionText → FormulaText
+
+  pub data ChainText : Type 0 where
+    pair : FormulaText → FormulaText → ChainText
+    longer : ChainText → FormulaText → ChainText
+
+  pub data ExpressionText : Type 0 where
+    numeral : Leaf → ExpressionText
+    word : Leaf → ExpressionText
+    next_word : Leaf → ExpressionText
+    inverse : ExpressionText → ExpressionText
+    operation : Operator → ExpressionText → ExpressionText → ExpressionText
+    shift : Shift → ExpressionText → Leaf → ExpressionText
+    choice : FormulaText → ExpressionText → ExpressionText → ExpressionText
+
+-- its tokens, and then the rest
+abbrev mutual
+  pub formula : FormulaText → List Lexeme → List Lexeme
+  formula (truth b) rest = fixed (Truth b) ∷ rest
+  formula (negation f) rest = fixed Not ∷ formula f rest
+  formula (junction j c) rest = fixed Open ∷ chain j c (fixed Close ∷ rest)
+  formula (conditional d f g) rest = fixed Open ∷ formula f (fixed (Imply d) ∷ formula g (fixed Close ∷ rest))
+  formula (comparison c a b) rest = fixed Open ∷ expression a (fixed (Compare c) ∷ expression b (fixed Close ∷ rest))
+
+  pub chain : Junction → ChainText → List Lexeme → List Lexeme
+  chain j (pair f g) rest = formula f (fixed (Join j) ∷ formula g rest)
+  chain j (longer c f) rest = chain j c (fixed (Join j) ∷ formula f rest)
+
+  pub expression : ExpressionText → List Lexeme → List Lexeme
+  expression (numeral leaf) rest = number leaf ∷ rest
+  expression (word leaf) rest = name leaf ∷ rest
+  expression (next_word leaf) rest = primed leaf ∷ rest
+  expression (inverse a) rest = fixed Inv ∷ expression a rest
+  expression (operation o a b) rest = fixed Open ∷ expression a (fixed (Operate o) ∷ expression b (fixed Close ∷ rest))
+  expression (shift s a leaf) rest = fixed Open ∷ expression a (fixed (ShiftBy s) ∷ number leaf ∷ fixed Close ∷ rest)
+  expression (choice f a b) rest = fixed Open ∷ fixed If ∷ formula f (fixed Then ∷ expression a (fixed Else ∷ expression b (fixed Close ∷ rest)))
+
+-- the ways to write a declaration of words
+pub data WordsText : Type 0 where
+  one : DeclaredWord → WordsText
+  more : WordsText → DeclaredWord → WordsText
+
+-- the ways to write a formula that is shown over declared words
+pub record ShowSpelling : Type 0 where
+  pub words : WordsText
+  pub formula : FormulaText
+
+-- the keyword of a fixed word, and then the rest
+abbrev pub marked : Bool → List Lexeme → List Lexeme
+marked true rest = fixed (Section keywords.Fixed) ∷ rest
+marked false rest = rest
+
+abbrev pub declaration : DeclaredWord → List Lexeme → List Lexeme
+declaration w rest = marked w.fixed (name w.name ∷ fixed Colon ∷ number w.width ∷ rest)
+
+abbrev pub words : WordsText → List Lexeme → List Lexeme
+words (one w) rest = fixed Words ∷ declaration w rest
+words (more ws w) rest = words ws (declaration w rest)
+
+abbrev pub show : ShowSpelling → List Lexeme → List Lexeme
+show s rest = words s.words (fixed Show ∷ formula s.formula rest)
+
+-- the ways to write a text of this kind
+abbrev pub Spelling : TextKind → Type 0
+Spelling texts.Formula = FormulaText
+Spelling texts.Show = ShowSpelling
+
+-- its tokens, and then the rest
+abbrev pub spelled : (k : TextKind) → Spelling k → List Lexeme → List Lexeme
+spelled texts.Formula f rest = formula f rest
+spelled texts.Show s rest = show s rest
+
+-- the tokens spell a text of this kind
+abbrev pub IsText : TextKind → List Lexeme → Type 0
+IsText k tokens = (s : Spelling k) × (tokens ≡ spelled k s [])
+
+-- a text of this kind may begin with these tokens
+abbrev pub BeginsText : TextKind → List Lexeme → Type 0
+BeginsText k tokens = (s : Spelling k) × (rest : List Lexeme) × (spelled k s [] ≡ tokens ++ rest)

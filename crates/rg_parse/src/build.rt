@@ -1,0 +1,337 @@
+//! The tree of a formula, built token by token.
+
+ghost use Rattle.std.specs.Prelude.{◌≡◌, ℕ, List, [], ◌∷◌, ◌++◌, map, reverse, OnOk, IfOk, IsSomeAnd, option_map};
+ghost use Rattle.rg_parse.specs.Syntax.{claim, term, show_text};
+ghost use Rattle.rg_parse.specs.Frames.{open_of, piece};
+ghost use Rattle.rg_text.specs.Text.{leaf_of};
+ghost use Rattle.rg_parse.specs.Grammar.{FormulaText, ShowSpelling, formula, show, lexeme_of};
+ghost use Rattle.rg_parse.specs.Build.{with_claim, with_term, with_piece, close, on_if, between, on_fixed, on_name, on_number, step, steps, claim_of, shown_claim, whole_of, whole_show_of};
+
+use crate::syntax::{Declaration, Expr, Formula, ShowText};
+use rg_text::kind::{Conditional, Junction, Keyword, Kind, Terminal};
+use rg_text::token::Token;
+use rg_words::operators::{Comparison, Operator, Shift};
+use std::alloc::{AllocError, Global};
+
+/// A formula or an expression.
+#[derive(Debug, Drop)]
+pub enum Item {
+    Formula(Formula),
+    Expression(Expr),
+}
+
+/// An open part of the text, with what was read of it.
+#[derive(Debug, Drop)]
+pub enum Frame {
+    Whole,
+    Negated,
+    Inverted,
+    First,
+    Next(Junction, Formula),
+    Second(Conditional, Formula),
+    Compared(Comparison, Expr),
+    Operated(Operator, Expr),
+    Chosen,
+    Condition,
+    Consequent(Formula),
+    Alternative(Formula, Expr),
+    End(Formula),
+    AfterFormula(Formula),
+    AfterExpression(Expr),
+    AfterNext(Junction, Formula),
+    Counted(Shift, Expr),
+    Closing(Item),
+    AfterCondition(Formula),
+    AfterConsequent(Formula, Expr),
+    /// Words, and whether `fixed` stands before the next.
+    Declaring(Vec<Declaration>, bool),
+    Declared(Vec<Declaration>, bool, Token),
+    Showing(Vec<Declaration>),
+    ShowEnd(Vec<Declaration>, Formula),
+}
+
+/// Takes a whole formula into the parts around it.
+fn take_formula(alloc: Global, frames: &mut Vec<Frame>, formula: Formula) -> Result<(), AllocError>
+    ensures { (src : List ℕ) → OnOk result (map (open_of src) (reverse frames.new.items)
+        ≡ with_claim (map (open_of src) (reverse frames.old.items)) (claim src formula)) }
+{
+    match frames.pop() {
+        None => {}
+        Some(Frame::Whole) => frames.push(Frame::End(formula))?,
+        Some(Frame::Negated) => {
+            let negation = Formula::Not(Box::new(alloc, formula)?);
+            take_formula(alloc, frames, negation)?;
+        }
+        Some(Frame::First) => frames.push(Frame::AfterFormula(formula))?,
+        Some(Frame::Next(junction, left)) => {
+            let left = Box::new(alloc, left)?;
+            let chain = Formula::Joined(junction, left, Box::new(alloc, formula)?);
+            frames.push(Frame::AfterNext(junction, chain))?;
+        }
+        Some(Frame::Second(conditional, left)) => {
+            let left = Box::new(alloc, left)?;
+            let whole = Formula::Implied(conditional, left, Box::new(alloc, formula)?);
+            frames.push(Frame::Closing(Item::Formula(whole)))?;
+        }
+        Some(Frame::Condition) => frames.push(Frame::AfterCondition(formula))?,
+        Some(Frame::Showing(words)) => frames.push(Frame::ShowEnd(words, formula))?,
+        Some(other) => frames.push(other)?,
+    }
+    Ok(())
+}
+
+/// Takes a whole expression into the parts around it.
+fn take_expression(
+    alloc: Global,
+    frames: &mut Vec<Frame>,
+    expression: Expr,
+) -> Result<(), AllocError>
+    ensures { (src : List ℕ) → OnOk result (map (open_of src) (reverse frames.new.items)
+        ≡ with_term (map (open_of src) (reverse frames.old.items)) (term src expression)) }
+{
+    match frames.pop() {
+        None => {}
+        Some(Frame::Inverted) => {
+            let inverse = Expr::Inverse(Box::new(alloc, expression)?);
+            take_expression(alloc, frames, inverse)?;
+        }
+        Some(Frame::First) => frames.push(Frame::AfterExpression(expression))?,
+        Some(Frame::Compared(comparison, left)) => {
+            let whole = Formula::Compared(comparison, left, expression);
+            frames.push(Frame::Closing(Item::Formula(whole)))?;
+        }
+        Some(Frame::Operated(operator, left)) => {
+            let left = Box::new(alloc, left)?;
+            let whole = Expr::Binary(operator, left, Box::new(alloc, expression)?);
+            frames.push(Frame::Closing(Item::Expression(whole)))?;
+        }
+        Some(Frame::Chosen) => frames.push(Frame::Closing(Item::Expression(expression)))?,
+        Some(Frame::Consequent(formula)) => {
+            frames.push(Frame::AfterConsequent(formula, expression))?;
+        }
+        Some(Frame::Alternative(formula, first)) => {
+            let formula = Box::new(alloc, formula)?;
+            let first = Box::new(alloc, first)?;
+            let choice = Expr::If(formula, first, Box::new(alloc, expression)?);
+            take_expression(alloc, frames, choice)?;
+        }
+        Some(other) => frames.push(other)?,
+    }
+    Ok(())
+}
+
+/// Takes a closing parenthesis.
+fn take_close(alloc: Global, frames: &mut Vec<Frame>) -> Result<(), AllocError>
+    ensures { (src : List ℕ) → OnOk result (map (open_of src) (reverse frames.new.items)
+        ≡ close (map (open_of src) (reverse frames.old.items))) }
+{
+    match frames.pop() {
+        None => {}
+        Some(Frame::AfterNext(_, formula)) => take_formula(alloc, frames, formula)?,
+        Some(Frame::Closing(Item::Formula(formula))) => take_formula(alloc, frames, formula)?,
+        Some(Frame::Closing(Item::Expression(expression))) => {
+            take_expression(alloc, frames, expression)?;
+        }
+        Some(other) => frames.push(other)?,
+    }
+    Ok(())
+}
+
+/// Takes the `if` of an expression.
+fn take_if(frames: &mut Vec<Frame>) -> Result<(), AllocError>
+    ensures { (src : List ℕ) → OnOk result (map (open_of src) (reverse frames.new.items)
+        ≡ on_if (map (open_of src) (reverse frames.old.items))) }
+{
+    match frames.pop() {
+        None => {}
+        Some(Frame::First) => {
+            frames.push(Frame::Chosen)?;
+            frames.push(Frame::Condition)?;
+        }
+        Some(other) => frames.push(other)?,
+    }
+    Ok(())
+}
+
+/// Takes a token that stands after a part of an item, other than a parenthesis or an `if`.
+fn take_between(frames: &mut Vec<Frame>, terminal: Terminal) -> Result<(), AllocError>
+    ensures { (src : List ℕ) → OnOk result (map (open_of src) (reverse frames.new.items)
+        ≡ between terminal (map (open_of src) (reverse frames.old.items))) }
+{
+    match (frames.pop(), terminal) {
+        (None, _) => {}
+        (Some(Frame::AfterFormula(f)), Terminal::Join(junction)) => {
+            frames.push(Frame::Next(junction, f))?;
+        }
+        (Some(Frame::AfterNext(junction, f)), Terminal::Join(_)) => {
+            frames.push(Frame::Next(junction, f))?;
+        }
+        (Some(Frame::AfterFormula(f)), Terminal::Imply(conditional)) => {
+            frames.push(Frame::Second(conditional, f))?;
+        }
+        (Some(Frame::AfterExpression(a)), Terminal::Compare(comparison)) => {
+            frames.push(Frame::Compared(comparison, a))?;
+        }
+        (Some(Frame::AfterExpression(a)), Terminal::Operate(operator)) => {
+            frames.push(Frame::Operated(operator, a))?;
+        }
+        (Some(Frame::AfterExpression(a)), Terminal::ShiftBy(shift)) => {
+            frames.push(Frame::Counted(shift, a))?;
+        }
+        (Some(Frame::AfterCondition(f)), Terminal::Then) => frames.push(Frame::Consequent(f))?,
+        (Some(Frame::AfterConsequent(f, a)), Terminal::Else) => {
+            frames.push(Frame::Alternative(f, a))?;
+        }
+        (Some(Frame::Declaring(words, _)), Terminal::Section(Keyword::Fixed)) => {
+            frames.push(Frame::Declaring(words, true))?;
+        }
+        (Some(Frame::Declaring(words, _)), Terminal::Show) => frames.push(Frame::Showing(words))?,
+        (Some(other), _) => frames.push(other)?,
+    }
+    Ok(())
+}
+
+/// Takes a keyword or a symbol.
+fn take_terminal(
+    alloc: Global,
+    frames: &mut Vec<Frame>,
+    terminal: Terminal,
+) -> Result<(), AllocError>
+    ensures { (src : List ℕ) → OnOk result (map (open_of src) (reverse frames.new.items)
+        ≡ on_fixed terminal (map (open_of src) (reverse frames.old.items))) }
+{
+    match terminal {
+        Terminal::Open => frames.push(Frame::First)?,
+        Terminal::Close => take_close(alloc, frames)?,
+        Terminal::Not => frames.push(Frame::Negated)?,
+        Terminal::Inv => frames.push(Frame::Inverted)?,
+        Terminal::If => take_if(frames)?,
+        Terminal::Truth(truth) => take_formula(alloc, frames, Formula::Truth(truth))?,
+        other => take_between(frames, other)?,
+    }
+    Ok(())
+}
+
+/// Takes a name, which is an expression or declares a word.
+fn take_name(alloc: Global, frames: &mut Vec<Frame>, token: Token) -> Result<(), AllocError>
+    ensures { (src : List ℕ) → OnOk result (map (open_of src) (reverse frames.new.items)
+        ≡ on_name (map (open_of src) (reverse frames.old.items)) (leaf_of src token)) }
+{
+    match frames.pop() {
+        None => {}
+        Some(Frame::Declaring(words, fixed)) => {
+            frames.push(Frame::Declared(words, fixed, token))?;
+        }
+        Some(other) => {
+            frames.push(other)?;
+            take_expression(alloc, frames, Expr::Word(token))?;
+        }
+    }
+    Ok(())
+}
+
+/// Takes a number, which is an expression, counts the bits of a shift or is the width of a word.
+fn take_number(alloc: Global, frames: &mut Vec<Frame>, token: Token) -> Result<(), AllocError>
+    ensures { (src : List ℕ) → OnOk result (map (open_of src) (reverse frames.new.items)
+        ≡ on_number (map (open_of src) (reverse frames.old.items)) (leaf_of src token)) }
+{
+    match frames.pop() {
+        None => {}
+        Some(Frame::Counted(shift, value)) => {
+            let whole = Expr::Shifted(shift, Box::new(alloc, value)?, token);
+            frames.push(Frame::Closing(Item::Expression(whole)))?;
+        }
+        Some(Frame::Declared(words, fixed, name)) => {
+            let mut words = words;
+            words.push(Declaration {
+                fixed,
+                name,
+                width: token,
+            })?;
+            frames.push(Frame::Declaring(words, false))?;
+        }
+        Some(other) => {
+            frames.push(other)?;
+            take_expression(alloc, frames, Expr::Number(token))?;
+        }
+    }
+    Ok(())
+}
+
+/// Takes one token.
+fn take_token(alloc: Global, frames: &mut Vec<Frame>, token: Token) -> Result<(), AllocError>
+    ensures { (src : List ℕ) → OnOk result (map (open_of src) (reverse frames.new.items)
+        ≡ step (map (open_of src) (reverse frames.old.items)) (lexeme_of src token)) }
+{
+    match token.kind {
+        Kind::Name => take_name(alloc, frames, token)?,
+        Kind::Primed => take_expression(alloc, frames, Expr::NextWord(token))?,
+        Kind::Number => take_number(alloc, frames, token)?,
+        Kind::Fixed(terminal) => take_terminal(alloc, frames, terminal)?,
+    }
+    Ok(())
+}
+
+/// The open parts of a text after all its tokens, where this one stands before them.
+fn read(alloc: Global, first: Frame, tokens: &[Token]) -> Result<Vec<Frame>, AllocError>
+    ensures { (src : List ℕ) → IfOk result (λ frames. map (open_of src) (reverse frames.items)
+        ≡ steps (open_of src first ∷ []) (map (lexeme_of src) tokens.now)) }
+{
+    let mut frames = Vec::new(alloc);
+    frames.push(first)?;
+    for token in tokens {
+        take_token(alloc, &mut frames, *token)?;
+    }
+    Ok(frames)
+}
+
+/// The tree of a formula, where the tokens spell one.
+pub fn build_formula(alloc: Global, tokens: &[Token]) -> Result<Option<Formula>, AllocError>
+    ensures { (src : List ℕ) (f : FormulaText) → map (lexeme_of src) tokens.now ≡ formula f []
+        → IfOk result (λ built. IsSomeAnd built (λ r. claim src r ≡ claim_of f)) }
+{
+    let mut frames = read(alloc, Frame::Whole, tokens)?;
+    Ok(take_whole(&mut frames))
+}
+
+/// The words and the tree of a text to show, where the tokens spell one.
+pub fn build_show(alloc: Global, tokens: &[Token]) -> Result<Option<ShowText>, AllocError>
+    ensures { (src : List ℕ) (s : ShowSpelling) → map (lexeme_of src) tokens.now ≡ show s []
+        → IfOk result (λ built. IsSomeAnd built (λ r. show_text src r ≡ shown_claim s)) }
+{
+    let mut frames = read(alloc, Frame::Declaring(Vec::new(alloc), false), tokens)?;
+    Ok(take_show(&mut frames))
+}
+
+/// The formula, where nothing else is open.
+fn take_whole(frames: &mut Vec<Frame>) -> Option<Formula>
+    ensures { (src : List ℕ) → option_map (claim src) result
+        ≡ whole_of (map (open_of src) (reverse frames.old.items)) }
+{
+    match frames.pop() {
+        None => None,
+        Some(Frame::End(formula)) => Some(formula),
+        Some(other) => {
+            discard(other);
+            None
+        }
+    }
+}
+
+/// The words and the formula, where nothing else is open.
+fn take_show(frames: &mut Vec<Frame>) -> Option<ShowText>
+    ensures { (src : List ℕ) → option_map (show_text src) result
+        ≡ whole_show_of (map (open_of src) (reverse frames.old.items)) }
+{
+    match frames.pop() {
+        None => None,
+        Some(Frame::ShowEnd(words, formula)) => Some(ShowText { words, formula }),
+        Some(other) => {
+            discard(other);
+            None
+        }
+    }
+}
+
+/// Lets a part go.
+fn discard(_frame: Frame) {}

@@ -1,0 +1,125 @@
+//! The trees that tokens spell, or the refusal of the first fault of their shape.
+
+ghost use Rattle.std.specs.Prelude.{◌≡◌, ◌-◌, ℕ, List, map, length, IfOk, IfErr, IsOk};
+ghost use Rattle.rg_words.specs.Refusals.{no_memory};
+ghost use Rattle.rg_parse.specs.Grammar.{lexeme_of};
+ghost use Rattle.rg_parse.specs.Limits.{IsTextWithin};
+ghost use Rattle.rg_parse.specs.Parse.{ParseFormulaIs, ParseShowIs, IsShapeRefusal, OneFormula, OneShow, refusal_of, unexpected_in, line_at, last_line};
+
+use crate::build::{build_formula, build_show};
+use crate::point::TextKind;
+use crate::shape::{ShapeFault, shape};
+use crate::syntax::{Formula, ShowText};
+use rg_text::token::Token;
+use rg_words::{Place, Refusal, RefusalNumber, SourceFile};
+use std::alloc::Global;
+
+/// The formula that the tokens of a file spell.
+///
+/// # Errors
+///
+/// The first token, in their order, that is
+///
+/// - `Unexpected` (in a derivation `UnexpectedInDerivation`): the tokens up to it begin no formula;
+/// - `Depth`: an opener inside 200 others, or the connective before a 65th operand of a chain;
+///
+/// at its line. Then `Unfinished`, at the line of the last token or 1, where the tokens end too
+/// early. `Memory` where memory is refused.
+pub fn parse_formula(alloc: Global, file: SourceFile, tokens: &[Token]) -> Result<Formula, Refusal>
+    ensures answers { (src : List ℕ) → ParseFormulaIs file src tokens.now result }
+    ensures accepts { (src : List ℕ) → IsTextWithin TextKind.Formula (map (lexeme_of src) tokens.now) → IfErr result (λ e. e ≡ no_memory) }
+{
+    check_shape(alloc, TextKind::Formula, file, tokens)?;
+    match build_formula(alloc, tokens)? {
+        Some(formula) => Ok(formula),
+        None => unreachable!(),
+    }
+}
+
+/// The declared words and the formula that the tokens of a file spell.
+///
+/// # Errors
+///
+/// The first token, in their order, that is
+///
+/// - `Unexpected` (in a derivation `UnexpectedInDerivation`): the tokens up to it begin no such
+///   text;
+/// - `Depth`: an opener inside 200 others, or the connective before a 65th operand of a chain;
+/// - `Limit`: the first token of a 65th word;
+///
+/// at its line. Then `Unfinished`, at the line of the last token or 1, where the tokens end too
+/// early. `Memory` where memory is refused.
+pub fn parse_show(alloc: Global, file: SourceFile, tokens: &[Token]) -> Result<ShowText, Refusal>
+    ensures answers { (src : List ℕ) → ParseShowIs file src tokens.now result }
+    ensures accepts { (src : List ℕ) → IsTextWithin TextKind.Show (map (lexeme_of src) tokens.now) → IfErr result (λ e. e ≡ no_memory) }
+{
+    check_shape(alloc, TextKind::Show, file, tokens)?;
+    match build_show(alloc, tokens)? {
+        Some(text) => Ok(text),
+        None => unreachable!(),
+    }
+}
+
+/// The same tokens say one thing: two spellings of them have one tree.
+pub fn one_tree()
+    ensures formula { OneFormula }
+    ensures show { OneShow }
+{}
+
+/// Refuses the first fault of shape.
+fn check_shape(
+    alloc: Global,
+    text: TextKind,
+    file: SourceFile,
+    tokens: &[Token],
+) -> Result<(), Refusal>
+    ensures within { (src : List ℕ) → IfOk result (λ _. IsTextWithin text (map (lexeme_of src) tokens.now)) }
+    ensures refused { (src : List ℕ) → IfErr result (IsShapeRefusal text file src tokens.now) }
+    ensures accepts { (src : List ℕ) → IsTextWithin text (map (lexeme_of src) tokens.now) → IfErr result (λ e. e ≡ no_memory) }
+{
+    match shape(alloc, text, tokens) {
+        Ok(()) => Ok(()),
+        Err(fault) => Err(refusal(file, tokens, fault)),
+    }
+}
+
+/// The refusal that tells of a fault of shape.
+fn refusal(file: SourceFile, tokens: &[Token], fault: ShapeFault) -> Refusal
+    ensures { result ≡ refusal_of file tokens.now fault }
+{
+    let (number, line) = match fault {
+        ShapeFault::Memory => return Refusal::new(RefusalNumber::Memory),
+        ShapeFault::Unexpected(place) => (unexpected_in(file), line_at(tokens, place)),
+        ShapeFault::TooDeep(place) => (RefusalNumber::Depth, line_at(tokens, place)),
+        ShapeFault::TooMany(place) => (RefusalNumber::Limit, line_at(tokens, place)),
+        ShapeFault::Unfinished => (RefusalNumber::Unfinished, last_line(tokens)),
+    };
+    Refusal::at(number, file, Place::Line(line))
+}
+
+/// The number of an unexpected token in this file.
+fn unexpected_in(file: SourceFile) -> RefusalNumber
+    ensures { result ≡ unexpected_in file }
+{
+    match file {
+        SourceFile::Derivation => RefusalNumber::UnexpectedInDerivation,
+        _ => RefusalNumber::Unexpected,
+    }
+}
+
+/// The line of a token, and 1 where there is none.
+fn line_at(tokens: &[Token], place: usize) -> u64
+    ensures { result ≡ line_at tokens.now place }
+{
+    match tokens.get(place) {
+        Some(token) => u64::from(token.line),
+        None => 1,
+    }
+}
+
+/// The line of the last token, and 1 where there is none.
+fn last_line(tokens: &[Token]) -> u64
+    ensures { result ≡ last_line tokens.now }
+{
+    line_at(tokens, tokens.len().saturating_sub(1))
+}

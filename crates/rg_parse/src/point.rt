@@ -1,0 +1,425 @@
+//! Where a parse stands: what has been read of each open pair of parentheses.
+
+ghost use Rattle.std.specs.Prelude.{◌≡◌, ◌∷◌, []};
+ghost use Rattle.rg_parse.specs.Machine.{has, start, takes, is_prefix, resume, turn, at_compare, at_operate, at_shift, at_join, at_imply, at_close, at_if, at_then, at_else, at_number, at_name, at_colon, at_words, at_show, at_section, operand_of, start_of, is_opener, is_join, begins_word, has_operand_left, has_room_at};
+
+use rg_text::kind::{Junction, Keyword, Kind, Terminal};
+use rg_words::limits::{MOST_OPERANDS, MOST_WORDS};
+
+/// A kind of text.
+#[derive(Clone, Copy, Debug, PartialEq, Eq)]
+pub enum TextKind {
+    /// A formula alone.
+    Formula,
+    /// Declared words, and a formula to show.
+    Show,
+}
+
+/// A formula or an expression.
+#[derive(Clone, Copy, Debug, PartialEq, Eq)]
+pub enum Sort {
+    Formula,
+    Expression,
+}
+
+/// Some of the two sorts.
+#[derive(Clone, Copy, Debug, PartialEq, Eq)]
+pub struct Sorts {
+    pub formula: bool,
+    pub expression: bool,
+}
+
+/// A place between two tokens, as seen from one opener.
+#[derive(Clone, Copy, Debug, PartialEq, Eq)]
+pub enum Point {
+    // An item is wanted.
+    Whole,
+    Negated,
+    Inverted,
+    First(Sorts),
+    Next(Junction, u8),
+    Second,
+    Right(Sort),
+    Chosen,
+    Condition,
+    Consequent,
+    Alternative,
+    // A token is wanted, or none.
+    End,
+    AfterFormula,
+    AfterExpression(Sorts),
+    AfterNext(Junction, u8),
+    Count,
+    Closing(Sort),
+    AfterCondition,
+    AfterConsequent,
+    // Declared words; each counts them with the one that is being read.
+    ShowStart,
+    FirstWord,
+    FixedWord(u8),
+    NamedWord(u8),
+    WordWidth(u8),
+    AfterWord(u8),
+}
+
+/// How a token may begin an item.
+#[derive(Clone, Copy, Debug, PartialEq, Eq)]
+pub enum Start {
+    Leaf(Sort),
+    Prefix(Sort),
+    Opener,
+    Other,
+}
+
+/// What a token does to the place where it stands.
+#[derive(Clone, Copy, Debug, PartialEq, Eq)]
+pub enum Turn {
+    On(Point),
+    Inside(Point, Point),
+    Closed(Sort),
+}
+
+impl TextKind {
+    /// The place before a text of this kind.
+    pub fn start(self) -> Point
+        ensures { result ∷ [] ≡ start self }
+    {
+        match self {
+            TextKind::Formula => Point::Whole,
+            TextKind::Show => Point::ShowStart,
+        }
+    }
+}
+
+impl Sorts {
+    pub const NONE: Sorts = Sorts {
+        formula: false,
+        expression: false,
+    };
+
+    pub const FORMULA: Sorts = Sorts {
+        formula: true,
+        expression: false,
+    };
+
+    pub const EXPRESSION: Sorts = Sorts {
+        formula: false,
+        expression: true,
+    };
+
+    /// Whether the sort is one of these.
+    pub fn has(self, sort: Sort) -> bool
+        ensures { result ≡ has self sort }
+    {
+        match sort {
+            Sort::Formula => self.formula,
+            Sort::Expression => self.expression,
+        }
+    }
+}
+
+impl Point {
+    /// The items that may stand here.
+    pub fn takes(self) -> Sorts
+        ensures { result ≡ takes self }
+    {
+        match self {
+            Point::Whole | Point::Negated | Point::Next(..) | Point::Second | Point::Condition => {
+                Sorts::FORMULA
+            }
+            Point::Inverted
+            | Point::Right(_)
+            | Point::Chosen
+            | Point::Consequent
+            | Point::Alternative => Sorts::EXPRESSION,
+            Point::First(sorts) => Sorts {
+                formula: sorts.formula,
+                expression: true,
+            },
+            _ => Sorts::NONE,
+        }
+    }
+
+    /// Whether the item here ends with its operand.
+    pub fn is_prefix(self) -> bool
+        ensures { result ≡ is_prefix self }
+    {
+        matches!(self, Point::Negated | Point::Inverted | Point::Alternative)
+    }
+
+    /// The place after an item of this sort.
+    pub fn resume(self, sort: Sort) -> Point
+        ensures { result ≡ resume self sort }
+    {
+        match self {
+            Point::First(sorts) => match sort {
+                Sort::Formula => Point::AfterFormula,
+                Sort::Expression => Point::AfterExpression(sorts),
+            },
+            Point::Next(junction, operands) => {
+                Point::AfterNext(junction, operands.saturating_add(1))
+            }
+            Point::Second => Point::Closing(Sort::Formula),
+            Point::Right(result_sort) => Point::Closing(result_sort),
+            Point::Chosen => Point::Closing(Sort::Expression),
+            Point::Condition => Point::AfterCondition,
+            Point::Consequent => Point::AfterConsequent,
+            _ => Point::End,
+        }
+    }
+
+    /// Whether a chain may go on here.
+    pub fn has_operand_left(self) -> bool
+        ensures { result ≡ has_operand_left self }
+    {
+        match self {
+            Point::AfterNext(_, operands) => usize::from(operands) < MOST_OPERANDS,
+            _ => true,
+        }
+    }
+
+    /// Whether the list that is read here has room for what the token begins.
+    pub fn has_room(self, kind: Kind) -> bool
+        ensures { result ≡ has_room_at self kind }
+    {
+        match self {
+            Point::AfterWord(words) if begins_word(kind) => usize::from(words) < MOST_WORDS,
+            _ => true,
+        }
+    }
+
+    /// Where a token leads that begins no item.
+    pub fn turn(self, kind: Kind) -> Option<Turn>
+        ensures { result ≡ turn self kind }
+    {
+        match kind {
+            Kind::Name => self.at_name(),
+            Kind::Primed => None,
+            Kind::Number => self.at_number(),
+            Kind::Fixed(terminal) => self.at_terminal(terminal),
+        }
+    }
+
+    fn at_terminal(self, terminal: Terminal) -> Option<Turn>
+        ensures { result ≡ turn self (Kind.Fixed terminal) }
+    {
+        match terminal {
+            Terminal::Compare(_) => self.at_compare(),
+            Terminal::Operate(_) => self.at_operate(),
+            Terminal::ShiftBy(_) => self.at_shift(),
+            Terminal::Join(junction) => self.at_join(junction),
+            Terminal::Imply(_) => self.at_imply(),
+            Terminal::Close => self.at_close(),
+            Terminal::If => self.at_if(),
+            Terminal::Then => self.at_then(),
+            Terminal::Else => self.at_else(),
+            Terminal::Colon => self.at_colon(),
+            Terminal::Words => self.at_words(),
+            Terminal::Show => self.at_show(),
+            Terminal::Section(keyword) => self.at_section(keyword),
+            _ => None,
+        }
+    }
+
+    fn at_compare(self) -> Option<Turn>
+        ensures { result ≡ at_compare self }
+    {
+        match self {
+            Point::AfterExpression(sorts) if sorts.formula => {
+                Some(Turn::On(Point::Right(Sort::Formula)))
+            }
+            _ => None,
+        }
+    }
+
+    fn at_operate(self) -> Option<Turn>
+        ensures { result ≡ at_operate self }
+    {
+        match self {
+            Point::AfterExpression(sorts) if sorts.expression => {
+                Some(Turn::On(Point::Right(Sort::Expression)))
+            }
+            _ => None,
+        }
+    }
+
+    fn at_shift(self) -> Option<Turn>
+        ensures { result ≡ at_shift self }
+    {
+        match self {
+            Point::AfterExpression(sorts) if sorts.expression => Some(Turn::On(Point::Count)),
+            _ => None,
+        }
+    }
+
+    fn at_join(self, junction: Junction) -> Option<Turn>
+        ensures { result ≡ at_join self junction }
+    {
+        match self {
+            Point::AfterFormula => Some(Turn::On(Point::Next(junction, 1))),
+            Point::AfterNext(chain, operands) if chain == junction => {
+                Some(Turn::On(Point::Next(chain, operands)))
+            }
+            _ => None,
+        }
+    }
+
+    fn at_imply(self) -> Option<Turn>
+        ensures { result ≡ at_imply self }
+    {
+        match self {
+            Point::AfterFormula => Some(Turn::On(Point::Second)),
+            _ => None,
+        }
+    }
+
+    fn at_close(self) -> Option<Turn>
+        ensures { result ≡ at_close self }
+    {
+        match self {
+            Point::AfterNext(..) => Some(Turn::Closed(Sort::Formula)),
+            Point::Closing(sort) => Some(Turn::Closed(sort)),
+            _ => None,
+        }
+    }
+
+    fn at_if(self) -> Option<Turn>
+        ensures { result ≡ at_if self }
+    {
+        match self {
+            Point::First(sorts) if sorts.expression => {
+                Some(Turn::Inside(Point::Condition, Point::Chosen))
+            }
+            _ => None,
+        }
+    }
+
+    fn at_then(self) -> Option<Turn>
+        ensures { result ≡ at_then self }
+    {
+        match self {
+            Point::AfterCondition => Some(Turn::On(Point::Consequent)),
+            _ => None,
+        }
+    }
+
+    fn at_else(self) -> Option<Turn>
+        ensures { result ≡ at_else self }
+    {
+        match self {
+            Point::AfterConsequent => Some(Turn::On(Point::Alternative)),
+            _ => None,
+        }
+    }
+
+    fn at_number(self) -> Option<Turn>
+        ensures { result ≡ at_number self }
+    {
+        match self {
+            Point::Count => Some(Turn::On(Point::Closing(Sort::Expression))),
+            Point::WordWidth(words) => Some(Turn::On(Point::AfterWord(words))),
+            _ => None,
+        }
+    }
+
+    fn at_name(self) -> Option<Turn>
+        ensures { result ≡ at_name self }
+    {
+        match self {
+            Point::FirstWord => Some(Turn::On(Point::NamedWord(1))),
+            Point::FixedWord(words) => Some(Turn::On(Point::NamedWord(words))),
+            Point::AfterWord(words) => Some(Turn::On(Point::NamedWord(words.saturating_add(1)))),
+            _ => None,
+        }
+    }
+
+    fn at_colon(self) -> Option<Turn>
+        ensures { result ≡ at_colon self }
+    {
+        match self {
+            Point::NamedWord(words) => Some(Turn::On(Point::WordWidth(words))),
+            _ => None,
+        }
+    }
+
+    fn at_words(self) -> Option<Turn>
+        ensures { result ≡ at_words self }
+    {
+        match self {
+            Point::ShowStart => Some(Turn::On(Point::FirstWord)),
+            _ => None,
+        }
+    }
+
+    fn at_show(self) -> Option<Turn>
+        ensures { result ≡ at_show self }
+    {
+        match self {
+            Point::AfterWord(_) => Some(Turn::On(Point::Whole)),
+            _ => None,
+        }
+    }
+
+    fn at_section(self, keyword: Keyword) -> Option<Turn>
+        ensures { result ≡ at_section self keyword }
+    {
+        match (self, keyword) {
+            (Point::FirstWord, Keyword::Fixed) => Some(Turn::On(Point::FixedWord(1))),
+            (Point::AfterWord(words), Keyword::Fixed) => {
+                Some(Turn::On(Point::FixedWord(words.saturating_add(1))))
+            }
+            _ => None,
+        }
+    }
+}
+
+/// The place behind a prefix operator.
+pub fn operand_of(sort: Sort) -> Point
+    ensures { result ≡ operand_of sort }
+{
+    match sort {
+        Sort::Formula => Point::Negated,
+        Sort::Expression => Point::Inverted,
+    }
+}
+
+/// How the token may begin an item.
+pub fn start_of(kind: Kind) -> Start
+    ensures { result ≡ start_of kind }
+{
+    match kind {
+        Kind::Name | Kind::Primed | Kind::Number => Start::Leaf(Sort::Expression),
+        Kind::Fixed(Terminal::Truth(_)) => Start::Leaf(Sort::Formula),
+        Kind::Fixed(Terminal::Not) => Start::Prefix(Sort::Formula),
+        Kind::Fixed(Terminal::Inv) => Start::Prefix(Sort::Expression),
+        Kind::Fixed(Terminal::Open) => Start::Opener,
+        Kind::Fixed(_) => Start::Other,
+    }
+}
+
+/// Whether the token opens what ends only with its operands.
+pub fn is_opener(kind: Kind) -> bool
+    ensures { result ≡ is_opener kind }
+{
+    matches!(
+        kind,
+        Kind::Fixed(Terminal::Open | Terminal::Not | Terminal::Inv | Terminal::If)
+    )
+}
+
+/// Whether the token begins the declaration of a word.
+pub fn begins_word(kind: Kind) -> bool
+    ensures { result ≡ begins_word kind }
+{
+    matches!(
+        kind,
+        Kind::Name | Kind::Fixed(Terminal::Section(Keyword::Fixed))
+    )
+}
+
+/// Whether the token goes on with a chain.
+pub fn is_join(kind: Kind) -> bool
+    ensures { result ≡ is_join kind }
+{
+    matches!(kind, Kind::Fixed(Terminal::Join(_)))
+}

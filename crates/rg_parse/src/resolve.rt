@@ -1,0 +1,108 @@
+//! The pass of meaning: from a text whose shape is known to typed trees, or the first fault of its leaves.
+
+ghost use Rattle.std.specs.Prelude.{◌≡◌, ◌≤◌, false, [], length, map, All, IsTrue, IfOk, IfErr, ◌⊎◌};
+ghost use Rattle.rg_words.specs.Names.{IsName};
+ghost use Rattle.rg_words.specs.Layout.{IsLayout, widths_of};
+ghost use Rattle.rg_words.specs.Refusals.{no_memory};
+ghost use Rattle.rg_text.specs.Text.{text_of};
+ghost use Rattle.rg_tree.specs.Trees.{Proposition};
+ghost use Rattle.rg_tree.specs.View.{formula as view};
+ghost use Rattle.rg_tree.specs.Typing.{IsTyped};
+ghost use Rattle.rg_tree.specs.Fits.{FormulaFits};
+ghost use Rattle.rg_tree.specs.Primes.{speaks_of_two};
+ghost use Rattle.rg_parse.specs.Syntax.{claim, declared_word};
+ghost use Rattle.rg_parse.specs.ResolveFaults.{claim_faults, IsRefusal};
+ghost use Rattle.rg_parse.specs.ResolveTyping.{ClaimStandsFor, OneTree, FaultlessStand};
+ghost use Rattle.rg_parse.specs.ResolveWords.{words_of, shown_faults};
+
+mod formula;
+mod group;
+pub(crate) mod leaf;
+mod scope;
+
+use crate::declare::declare;
+use crate::syntax;
+use crate::syntax::Declaration;
+use formula::formula_tree;
+use rg_tree::tree::Formula;
+use rg_tree::typing::typed_trees_fit;
+use rg_words::limits::MOST_WORDS;
+use rg_words::{Layout, Refusal, SourceFile};
+use scope::Scope;
+use std::alloc::Global;
+
+/// The typed tree of a formula over the declared words, whose tokens are of the source.
+///
+/// Refused at the least leaf that is at fault, by its least number, at the line of its token: 3 a word that isn't
+/// declared, 6 a number too large for its group or a shift count above 63, 7 a word of another width than its group's,
+/// 8 the first number of a group without a word, 9 a primed word where `one_state`. 99 where memory was refused.
+pub fn resolve_formula(
+    alloc: Global,
+    layout: &Layout,
+    file: SourceFile,
+    source: &[u8],
+    one_state: bool,
+    written: &syntax::Formula,
+) -> Result<Formula, Refusal>
+    // Ok with the tree that the formula stands for, exactly where there is one and memory was enough.
+    ensures stands { IfOk result (λ f. ClaimStandsFor layout.now one_state (claim source.now written.now) (view f)) }
+    ensures refused { IfErr result (λ refusal. (refusal ≡ no_memory)
+        ⊎ ((p : Proposition) → ClaimStandsFor layout.now one_state (claim source.now written.now) p → ⊥)) }
+    // The first fault in the order of the text.
+    ensures faultless { IfOk result (λ _. claim_faults layout.now one_state (claim source.now written.now) ≡ []) }
+    ensures fault { IfErr result (λ refusal. IsRefusal file (claim_faults layout.now one_state (claim source.now written.now)) refusal) }
+    ensures typed { IfOk result (λ f. IsTyped (widths_of layout.now) (view f)) }
+    ensures fits { IfOk result (λ f. FormulaFits (view f) (length layout.now)) }
+    ensures primes { IsTrue one_state → IfOk result (λ f. speaks_of_two (view f) ≡ false) }
+{
+    let scope = Scope {
+        alloc,
+        layout,
+        file,
+        source,
+        one_state,
+    };
+    let tree = formula_tree(&scope, written)?;
+    // Typed trees over the words of a layout fit them.
+    let _count = layout.len();
+    typed_trees_fit();
+    Ok(tree)
+}
+
+/// The declared words and the typed tree of a formula over them that may speak of two states.
+///
+/// Refused at the least token that is at fault: those of the declarations, as `declare` refuses them, come before the
+/// leaves of the formula, as `resolve_formula` refuses them. 99 where memory was refused.
+#[tactic(auto, using(crate::proofs::ResolveRefusals::refusals))]
+pub fn resolve_shown(
+    alloc: Global,
+    file: SourceFile,
+    source: &[u8],
+    declarations: &[Declaration],
+    written: &syntax::Formula,
+) -> Result<(Layout, Formula), Refusal>
+    requires names { All (λ d. IsName (text_of source.now d.name)) declarations.now }
+    requires count { length declarations.now ≤ MOST_WORDS }
+    ensures words { IfOk result (λ r. r.0 ≡ words_of (map (declared_word source.now) declarations.now)) }
+    ensures stands { IfOk result (λ r. ClaimStandsFor r.0 false (claim source.now written.now) (view r.1)) }
+    ensures refused { IfErr result (λ refusal. (refusal ≡ no_memory)
+        ⊎ (IsLayout (words_of (map (declared_word source.now) declarations.now))
+        → (p : Proposition)
+        → ClaimStandsFor (words_of (map (declared_word source.now) declarations.now)) false (claim source.now written.now) p
+        → ⊥)) }
+    ensures faultless { IfOk result (λ _. shown_faults (map (declared_word source.now) declarations.now) (claim source.now written.now) ≡ []) }
+    ensures fault { IfErr result (λ refusal. IsRefusal file (shown_faults (map (declared_word source.now) declarations.now) (claim source.now written.now)) refusal) }
+    ensures typed { IfOk result (λ r. IsTyped (widths_of r.0) (view r.1)) }
+    ensures fits { IfOk result (λ r. FormulaFits (view r.1) (length r.0)) }
+{
+    let layout = declare(alloc, file, source, declarations)?;
+    let tree = resolve_formula(alloc, &layout, file, source, false, written)?;
+    Ok((layout, tree))
+}
+
+/// A formula stands for one typed tree at most, and for one exactly where none of its leaves is at fault.
+#[tactic(auto, using(crate::proofs::ResolveStands::one_tree, crate::proofs::ResolveStands::faultless_stand))]
+pub fn formulas_stand_for_one_tree()
+    ensures one_tree { OneTree }
+    ensures faultless { FaultlessStand }
+{}

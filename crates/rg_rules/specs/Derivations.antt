@@ -1,0 +1,133 @@
+-- Derivations: which lines fit, what each rule asks, and what it promises.
+use Rattle.std.specs.Prelude.{◌≡◌, ℕ, ◌+◌, ◌<◌, List, [], ◌∷◌, ◌++◌, Option, Some, None, length}
+use Rattle.rg_words.specs.Layout.{Word}
+use Rattle.rg_words.specs.declared.operators.Connective.TheVariants.{And}
+use Rattle.rg_tree.specs.Trees.{Proposition, Assignment, negation, connected}
+use Rattle.rg_tree.specs.Statements.{Statement, skip, assign, await, sequence, branch, loop, Items, one, more, Specification, PartTree}
+use Rattle.rg_tree.specs.Numbering.{statements, statements_of_parts}
+use Rattle.rg_tree.specs.Programs.{nth}
+use Rattle.rg_tree.specs.Satisfaction.{StatementSatisfies}
+use Rattle.rg_tree.specs.Obligations.{Obligation, reaches, makes, keeps, allows, AllMet}
+use Rattle.rg_rules.specs.declared.derivation.Rule.{Rule}
+use Rattle.rg_rules.specs.declared.derivation.Rule.TheVariants.{Basic, Atomic, Seq, If, Loop, Conseq}
+
+-- a line, whose premises are numbers of lines, from 1
+pub record LineTree : Type 0 where
+  pub rule : Rule
+  pub number : ℕ
+  pub premises : List ℕ
+  pub spec : Specification
+
+-- of a line whose statement makes one step, the assignments, where the given formulas hold
+abbrev pub step_obligations : Specification → List Proposition → List Assignment → List Obligation
+step_obligations l given act = reaches given act l.post ∷ makes given act l.guar ∷ keeps l.pre l.rely ∷ keeps l.post l.rely ∷ []
+
+abbrev pub choice_obligations : Specification → List Obligation
+choice_obligations l = keeps l.pre l.rely ∷ []
+
+abbrev pub loop_obligations : Specification → Proposition → List Obligation
+loop_obligations l b = keeps l.pre l.rely ∷ reaches (l.pre ∷ negation b ∷ []) [] l.post ∷ keeps l.post l.rely ∷ []
+
+-- of a line that follows from another of the same statement
+abbrev pub conseq_obligations : Specification → Specification → List Obligation
+conseq_obligations l from = reaches (l.pre ∷ []) [] from.pre ∷ allows l.rely from.rely ∷ allows from.guar l.guar ∷ reaches (from.post ∷ []) [] l.post ∷ []
+
+-- line i comes before line k, is of statement n, and has these formulas
+pub record IsPremise (lines : List LineTree) (k i n : ℕ) (spec : Specification) : Type 0 where
+  pub line : LineTree
+  pub earlier : i < k
+  pub found : nth lines i ≡ Some line
+  pub same_number : line.number ≡ n
+  pub same_spec : line.spec ≡ spec
+
+-- one premise for each item, each post the next pre
+abbrev pub ItemsFit : List LineTree → ℕ → ℕ → Specification → Items → List ℕ → Type 0
+ItemsFit lines k n spec (one s) (i ∷ []) = IsPremise lines k i n spec
+ItemsFit lines k n spec (more s items) (i ∷ is) =
+    (mid : Proposition) × IsPremise lines k i n (record spec { post = mid }) × ItemsFit lines k (n + length (statements s)) (record spec { pre = mid }) items is
+ItemsFit lines k n spec (one s) [] = ⊥
+ItemsFit lines k n spec (one s) (i ∷ j ∷ is) = ⊥
+ItemsFit lines k n spec (more s items) [] = ⊥
+
+-- the premises of an `if`: its blocks, from the pre with the test and without it
+abbrev pub ChoiceFits : List LineTree → ℕ → ℕ → Specification → Proposition → Statement → List ℕ → Type 0
+ChoiceFits lines k n spec b s [] = ⊥
+ChoiceFits lines k n spec b s (i ∷ []) = ⊥
+ChoiceFits lines k n spec b s (i ∷ j ∷ []) =
+    IsPremise lines k i (n + 1) (record spec { pre = connected And spec.pre b }) × IsPremise lines k j (n + 1 + length (statements s)) (record spec { pre = connected And spec.pre (negation b) })
+ChoiceFits lines k n spec b s (i ∷ j ∷ h ∷ is) = ⊥
+
+abbrev pub LoopFits : List LineTree → ℕ → ℕ → Specification → Proposition → List ℕ → Type 0
+LoopFits lines k n spec b [] = ⊥
+LoopFits lines k n spec b (i ∷ []) = IsPremise lines k i (n + 1) (record spec { pre = connected And spec.pre b; post = spec.pre })
+LoopFits lines k n spec b (i ∷ j ∷ is) = ⊥
+
+abbrev pub ConseqFits : List LineTree → ℕ → ℕ → List ℕ → Type 0
+ConseqFits lines k n [] = ⊥
+ConseqFits lines k n (i ∷ []) = (from : Specification) × IsPremise lines k i n from
+ConseqFits lines k n (i ∷ j ∷ is) = ⊥
+
+-- line k, of this rule and of statement s with number n
+abbrev pub RuleFits : List LineTree → ℕ → ℕ → Specification → List ℕ → Rule → Statement → Type 0
+RuleFits lines k n spec is Basic (skip row) = is ≡ []
+RuleFits lines k n spec is Basic (assign row a) = is ≡ []
+RuleFits lines k n spec is Atomic (await row b as') = is ≡ []
+RuleFits lines k n spec is Seq (sequence row s items) = ItemsFit lines k (n + 1) spec (more s items) is
+RuleFits lines k n spec is If (branch row b s t) = ChoiceFits lines k n spec b s is
+RuleFits lines k n spec is Loop (loop row b s) = LoopFits lines k n spec b is
+RuleFits lines k n spec is Conseq s = ConseqFits lines k n is
+RuleFits lines k n spec is _ _ = ⊥
+
+abbrev pub LineFits : List Statement → List LineTree → ℕ → LineTree → Type 0
+LineFits all lines k line =
+    (s : Statement) × (nth all line.number ≡ Some s) × RuleFits lines k line.number line.spec line.premises line.rule s
+
+-- each line fits, in a program with these statements
+abbrev pub DerivationFits : List Statement → List LineTree → Type 0
+DerivationFits all lines = (k : ℕ) (line : LineTree) → nth lines k ≡ Some line → LineFits all lines k line
+
+-- the formulas of the first premise
+abbrev pub spec_of : Option LineTree → Option Specification
+spec_of None = None
+spec_of (Some line) = Some line.spec
+
+abbrev pub first_spec : List LineTree → List ℕ → Option Specification
+first_spec lines [] = None
+first_spec lines (i ∷ is) = spec_of (nth lines i)
+
+abbrev pub obligations_from : Specification → Option Specification → List Obligation
+obligations_from spec None = []
+obligations_from spec (Some from) = conseq_obligations spec from
+
+-- the conditions of a line
+abbrev pub rule_obligations : List LineTree → Specification → List ℕ → Rule → Statement → List Obligation
+rule_obligations lines spec is Basic (assign row a) = step_obligations spec (spec.pre ∷ []) (a ∷ [])
+rule_obligations lines spec is Basic _ = step_obligations spec (spec.pre ∷ []) []
+rule_obligations lines spec is Atomic (await row b as') = step_obligations spec (spec.pre ∷ b ∷ []) as'
+rule_obligations lines spec is If _ = choice_obligations spec
+rule_obligations lines spec is Loop (loop row b s) = loop_obligations spec b
+rule_obligations lines spec is Conseq _ = obligations_from spec (first_spec lines is)
+rule_obligations lines spec is _ _ = []
+
+abbrev pub obligations_at : List LineTree → LineTree → Option Statement → List Obligation
+obligations_at lines line None = []
+obligations_at lines line (Some s) = rule_obligations lines line.spec line.premises line.rule s
+
+abbrev pub line_obligations : List Statement → List LineTree → LineTree → List Obligation
+line_obligations all lines line = obligations_at lines line (nth all line.number)
+
+-- the conditions of some of the lines, one line after another
+abbrev pub obligations_of : List Statement → List LineTree → List LineTree → List Obligation
+obligations_of all lines [] = []
+obligations_of all lines (line ∷ rest) = line_obligations all lines line ++ obligations_of all lines rest
+
+-- each line says the truth of its statement
+abbrev pub LinesHold : List Word → List PartTree → List LineTree → Type 0
+LinesHold words parts lines =
+    (k : ℕ) (line : LineTree) (s : Statement) → nth lines k ≡ Some line → nth (statements_of_parts parts) line.number ≡ Some s → StatementSatisfies words line.spec s
+
+-- where the lines fit and their conditions are met, each line says the truth
+abbrev pub RulesAreSound : Type 0
+RulesAreSound =
+    (words : List Word) (parts : List PartTree) (lines : List LineTree) → DerivationFits (statements_of_parts parts) lines
+    → AllMet words (obligations_of (statements_of_parts parts) lines lines) → LinesHold words parts lines

@@ -1,0 +1,12 @@
+pub mod Widths
+pub mod Guards
+pub mod Joins
+pub mod Joined
+pub mod Follows
+pub mod Beginnings
+pub mod Numbers
+pub mod Steps
+pub mod Asked
+pub mod Texts
+pub mod Truths
+pub mod Stands

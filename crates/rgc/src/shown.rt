@@ -1,0 +1,82 @@
+//! Formulas to show: their clauses, and whether hint lines prove them.
+
+ghost use Rattle.std.specs.Prelude.{◌≡◌, ◌≤◌, List, IfOk, IfErr, OnOk};
+ghost use Rattle.rg_words.specs.declared.limits.TheConstants.{MOST_VARIABLES};
+ghost use Rattle.rg_words.specs.Layout.{Word};
+ghost use Rattle.rg_words.specs.Refusals.{no_memory};
+ghost use Rattle.rg_tree.specs.Trees.{Proposition};
+ghost use Rattle.rg_clauses.specs.Formula.{IsUnsatisfiable};
+ghost use Rattle.rg_parse.specs.Shown.{SpellsShow};
+ghost use Rattle.rgc.specs.Valid.{clauses_shown, HasClauses, ShownHolds, IsClausesRefusal, IsProved, IsValidRefusal};
+
+use rg_clauses::Clauses;
+use rg_hints::{Lines, check};
+use rg_parse::show::{one_meaning, show};
+use rg_tree::condition::Condition;
+use rg_words::limits::MOST_PROOF_BYTES;
+use rg_words::{Place, Refusal, RefusalNumber, SourceFile};
+use std::alloc::Global;
+
+/// The clauses of the formula that a text `words .. show ..` spells: they can be satisfied exactly where it fails for some pair
+/// of states that agree on the fixed words.
+///
+/// # Errors
+///
+/// The first fault of the text, as `rg_parse::show::show` tells it; then `Limit` at condition 1 where the formula has too many
+/// variables. `Memory` where memory is refused.
+pub fn clauses(alloc: Global, text: &[u8]) -> Result<Clauses, Refusal>
+    ensures clauses { IfOk result (λ c. HasClauses text.now c) }
+    ensures holds { IfOk result (λ c. IsUnsatisfiable c.clauses → ShownHolds text.now) }
+    ensures refused { IfErr result (IsClausesRefusal text.now) }
+    ensures accepts { (words : List Word) (f : Proposition) → SpellsShow text.now words f → (clauses_shown words f).variables ≤ MOST_VARIABLES
+        → IfErr result (λ e. e ≡ no_memory) }
+{
+    // The text spells one formula.
+    one_meaning();
+    let (layout, formula) = match show(alloc, text) {
+        Ok(shown) => shown,
+        Err(refusal) => return Err(refusal),
+    };
+    let condition = Condition::show(alloc, layout, formula);
+    match Clauses::of(alloc, &condition, SourceFile::Text, 1) {
+        Ok(clauses) => Ok(clauses),
+        Err(refusal) => Err(refusal),
+    }
+}
+
+/// Whether the hint lines prove the formula that the text spells. After Ok it is true in every state; where it speaks of two
+/// states, in every pair of states that agree on the fixed words.
+///
+/// # Errors
+///
+/// The first fault: of the text and its condition, as `clauses` tells it; then in file `proofs` `Limit` at line 1 (too many
+/// bytes), then `Unreadable` or `IdOrder` at the first faulty line, then `HintNotEarlier`, `HintNotUnit` or `NoConflict` at the
+/// least line that doesn't follow, then `NoEmptyClause` at condition 1. `Memory` where memory is refused.
+pub fn valid(alloc: Global, text: &[u8], proofs: &[u8]) -> Result<(), Refusal>
+    ensures proved { OnOk result (IsProved text.now proofs.now) }
+    ensures holds { OnOk result (ShownHolds text.now) }
+    ensures refused { IfErr result (IsValidRefusal text.now proofs.now) }
+    ensures accepts { IsProved text.now proofs.now → IfErr result (λ e. e ≡ no_memory) }
+{
+    // The text spells one formula, so it has one list of clauses.
+    one_meaning();
+    let clauses = match clauses(alloc, text) {
+        Ok(clauses) => clauses,
+        Err(refusal) => return Err(refusal),
+    };
+    if proofs.len() > MOST_PROOF_BYTES {
+        return Err(Refusal::at(
+            RefusalNumber::Limit,
+            SourceFile::Proofs,
+            Place::Line(1),
+        ));
+    }
+    let lines = match Lines::read(alloc, proofs, 1, clauses.len()) {
+        Ok(lines) => lines,
+        Err(refusal) => return Err(refusal),
+    };
+    match check(alloc, 1, &clauses, &lines) {
+        Ok(()) => Ok(()),
+        Err(refusal) => Err(refusal),
+    }
+}
