@@ -3,11 +3,13 @@
 
 mod app;
 mod command;
+mod commands;
 mod fields;
 mod line;
 mod shown;
 
 pub use command::Command;
+pub use commands::{Files, perform};
 pub use fields::FieldFault;
 pub use line::{Line, LineFault};
 pub use shown::{clauses, valid};

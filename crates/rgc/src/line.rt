@@ -24,7 +24,8 @@ pub enum LineFault {
 /// A command line.
 #[derive(Clone, Copy)]
 pub struct Line<'a> {
-    command: Command<'a>,
+    /// What the program is asked to do.
+    pub command: Command<'a>,
 }
 
 impl<'a> Line<'a> {
@@ -53,12 +54,5 @@ impl<'a> Line<'a> {
             Ok(command) => Ok(Line { command }),
             Err(fault) => Err(LineFault::Fields(fault)),
         }
-    }
-
-    /// What the program is asked to do.
-    pub fn command(&self) -> Command<'a>
-        ensures { result ≡ self.now.command }
-    {
-        self.command
     }
 }

@@ -1,0 +1,126 @@
+//! One command over files in memory, with writers for its output and its faults.
+
+ghost use Rattle.std.specs.Prelude.{◌≡◌, ◌-◌, ◌^◌, ◌<◌, ◌≤◌, OnOk};
+ghost use Rattle.rgc.specs.Done.{HasPrintedHolds, HasPrintedClauses, IsDone};
+
+use crate::command::Command;
+use crate::line::Line;
+use crate::shown::{clauses, valid};
+use rg_words::{Out, Refusal, RefusalNumber, write_all};
+use std::alloc::Global;
+
+/// The bytes of the files that a command names; none where it isn't named or can't be read.
+#[derive(Clone, Copy)]
+pub struct Files<'a> {
+    pub text: Option<&'a [u8]>,
+    pub proofs: Option<&'a [u8]>,
+}
+
+/// Why a command isn't done.
+enum Stop {
+    /// A file can't be read; its name in the fault line.
+    Device(&'static str),
+    Refused(Refusal),
+}
+
+/// Prints `holds` where the hint lines prove the formula.
+fn print_valid<W: Out>(
+    alloc: Global,
+    text: &[u8],
+    proofs: &[u8],
+    out: &mut W,
+) -> Result<(), Refusal>
+    requires { W.failures out.old < 2 ^ 64 - 1 }
+    ensures { OnOk result (HasPrintedHolds text.now proofs.now (W.contents out.old) (W.contents out.new)) }
+{
+    valid(alloc, text, proofs)?;
+    write_all(out, b"holds\n")?;
+    Ok(())
+}
+
+/// Prints the clauses of the formula.
+fn print_clauses<W: Out>(alloc: Global, text: &[u8], out: &mut W) -> Result<(), Refusal>
+    requires { W.failures out.old < 2 ^ 64 - 1 }
+    ensures { OnOk result (HasPrintedClauses text.now (W.contents out.old) (W.contents out.new)) }
+{
+    let clauses = clauses(alloc, text)?;
+    clauses.write_cnf(out)?;
+    Ok(())
+}
+
+/// Does the command, or says why not.
+fn carry_out<W: Out>(
+    alloc: Global,
+    command: Command<'_>,
+    files: &Files<'_>,
+    out: &mut W,
+) -> Result<(), Stop>
+    requires { W.failures out.old < 2 ^ 64 - 1 }
+    ensures { OnOk result (IsDone command.entry files.now.text files.now.proofs (W.contents out.old) (W.contents out.new)) }
+{
+    let Some(text) = files.text else {
+        return Err(Stop::Device("text"));
+    };
+    let done = match command {
+        Command::Valid { .. } => {
+            let Some(proofs) = files.proofs else {
+                return Err(Stop::Device("proofs"));
+            };
+            print_valid(alloc, text, proofs, out)
+        }
+        Command::Clauses { .. } => print_clauses(alloc, text, out),
+    };
+    match done {
+        Ok(()) => Ok(()),
+        Err(refusal) => Err(Stop::Refused(refusal)),
+    }
+}
+
+/// Tells a refusal in a line of its own; the status. A failing write is passed over.
+fn tell_refusal<F: Out>(alloc: Global, refusal: Refusal, faults: &mut F) -> u8
+    requires { F.failures faults.old < 2 ^ 64 - 1 }
+    ensures low { 1 ≤ result }
+    ensures high { result ≤ 3 }
+{
+    let Ok(text) = format!(in alloc; "{refusal}\n") else {
+        let _ = write_all(faults, b"refused 99\n");
+        return 3;
+    };
+    let _ = write_all(faults, text.as_bytes());
+    match refusal.number {
+        RefusalNumber::Write | RefusalNumber::Memory => 3,
+        _ => 1,
+    }
+}
+
+/// Tells that a file can't be read; the status. A failing write is passed over.
+fn tell_device<F: Out>(alloc: Global, file: &str, faults: &mut F) -> u8
+    requires { F.failures faults.old < 2 ^ 64 - 1 }
+    ensures { result ≡ 3 }
+{
+    if let Ok(text) = format!(in alloc; "device {file}\n") {
+        let _ = write_all(faults, text.as_bytes());
+    }
+    3
+}
+
+/// Does the command over the bytes of its files, and answers the program's status: 0 done, 1 refused, 3 where a file can't be read,
+/// where the output can't be written, or where memory is refused. A refusal is one line on `faults`.
+pub fn perform<W: Out, F: Out>(
+    alloc: Global,
+    line: &Line<'_>,
+    files: &Files<'_>,
+    out: &mut W,
+    faults: &mut F,
+) -> u8
+    requires out { W.failures out.old < 2 ^ 64 - 1 }
+    requires faults { F.failures faults.old < 2 ^ 64 - 1 }
+    ensures status { result ≤ 3 }
+    ensures done { result ≡ 0 → IsDone line.now.command files.now.text files.now.proofs (W.contents out.old) (W.contents out.new) }
+{
+    match carry_out(alloc, line.command, files, out) {
+        Ok(()) => 0,
+        Err(Stop::Device(file)) => tell_device(alloc, file, faults),
+        Err(Stop::Refused(refusal)) => tell_refusal(alloc, refusal, faults),
+    }
+}
