@@ -31,7 +31,8 @@ fn print_valid<W: Out>(
     out: &mut W,
 ) -> Result<(), Refusal>
     requires { W.failures out.old < 2 ^ 64 - 1 }
-    ensures { OnOk result (HasPrintedHolds text.now proofs.now (W.contents out.old) (W.contents out.new)) }
+    ensures printed { OnOk result (HasPrintedHolds text.now proofs.now (W.contents out.old) (W.contents out.new)) }
+    ensures failures { OnOk result (W.failures out.new ≡ W.failures out.old) }
 {
     valid(alloc, text, proofs)?;
     write_all(out, b"holds\n")?;
@@ -41,7 +42,8 @@ fn print_valid<W: Out>(
 /// Prints the clauses of the formula.
 fn print_clauses<W: Out>(alloc: Global, text: &[u8], out: &mut W) -> Result<(), Refusal>
     requires { W.failures out.old < 2 ^ 64 - 1 }
-    ensures { OnOk result (HasPrintedClauses text.now (W.contents out.old) (W.contents out.new)) }
+    ensures printed { OnOk result (HasPrintedClauses text.now (W.contents out.old) (W.contents out.new)) }
+    ensures failures { OnOk result (W.failures out.new ≡ W.failures out.old) }
 {
     let clauses = clauses(alloc, text)?;
     clauses.write_cnf(out)?;
@@ -56,7 +58,8 @@ fn carry_out<W: Out>(
     out: &mut W,
 ) -> Result<(), Stop>
     requires { W.failures out.old < 2 ^ 64 - 1 }
-    ensures { OnOk result (IsDone command.entry files.now.text files.now.proofs (W.contents out.old) (W.contents out.new)) }
+    ensures done { OnOk result (IsDone command.entry files.now.text files.now.proofs (W.contents out.old) (W.contents out.new)) }
+    ensures failures { OnOk result (W.failures out.new ≡ W.failures out.old) }
 {
     let Some(text) = files.text else {
         return Err(Stop::Device("text"));
@@ -116,6 +119,7 @@ pub fn perform<W: Out, F: Out>(
     requires out { W.failures out.old < 2 ^ 64 - 1 }
     requires faults { F.failures faults.old < 2 ^ 64 - 1 }
     ensures status { result ≤ 3 }
+    ensures failures { result ≡ 0 → W.failures out.new ≡ W.failures out.old }
     ensures done { result ≡ 0 → IsDone line.now.command files.now.text files.now.proofs (W.contents out.old) (W.contents out.new) }
 {
     match carry_out(alloc, line.command, files, out) {

@@ -65,11 +65,7 @@ pub fn valid(alloc: Global, text: &[u8], proofs: &[u8]) -> Result<(), Refusal>
         Err(refusal) => return Err(refusal),
     };
     if proofs.len() > MOST_PROOF_BYTES {
-        return Err(Refusal::at(
-            RefusalNumber::Limit,
-            SourceFile::Proofs,
-            Place::Line(1),
-        ));
+        return Err(Refusal::at(RefusalNumber::Limit, SourceFile::Proofs, Place::Line(1)));
     }
     let lines = match Lines::read(alloc, proofs, 1, clauses.len()) {
         Ok(lines) => lines,
