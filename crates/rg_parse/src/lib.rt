@@ -6,3 +6,5 @@ pub mod parse;
 pub mod point;
 pub mod shape;
 pub mod syntax;
+#[cfg(test)]
+mod tests;
