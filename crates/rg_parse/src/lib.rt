@@ -3,8 +3,10 @@
 
 pub mod build;
 pub mod parse;
-pub mod point;
+mod point;
 pub mod shape;
 pub mod syntax;
 #[cfg(test)]
 mod tests;
+
+pub use point::TextKind;

@@ -1,4 +1,4 @@
-//! Where a parse stands: what has been read of each open pair of parentheses.
+//! Where a parse stands: what has been read of each open part of the text.
 
 ghost use Rattle.std.specs.Prelude.{◌≡◌, ◌∷◌, []};
 ghost use Rattle.rg_parse.specs.Machine.{has, start, takes, is_prefix, resume, turn, at_compare, at_operate, at_shift, at_join, at_imply, at_close, at_if, at_then, at_else, at_number, at_name, at_colon, at_words, at_show, at_section, operand_of, start_of, is_opener, is_join, begins_word, has_operand_left, has_room_at};
