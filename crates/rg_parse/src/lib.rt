@@ -1,7 +1,7 @@
 //! The parser: from tokens to typed trees, or the first fault.
 #![tactic(auto)]
 
-pub mod build;
+mod build;
 pub mod parse;
 mod point;
 pub mod shape;
