@@ -20,7 +20,8 @@ pub enum Item {
     Expression(Expr),
 }
 
-/// An open part of the text, with what was read of it.
+/// An open part of the text, with what was read of it. Each stands where the `Point` of its name
+/// does.
 #[derive(Debug, Drop)]
 pub enum Frame {
     Whole,
@@ -43,9 +44,11 @@ pub enum Frame {
     Closing(Item),
     AfterCondition(Formula),
     AfterConsequent(Formula, Expr),
-    /// Words, and whether `fixed` stands before the next.
+    /// Declared words, and whether `fixed` stands before the next.
     Declaring(Vec<Declaration>, bool),
+    /// The same, and the name of the next.
     Declared(Vec<Declaration>, bool, Token),
+    /// After `show`.
     Showing(Vec<Declaration>),
     ShowEnd(Vec<Declaration>, Formula),
 }

@@ -9,3 +9,6 @@ pub mod resolve;
 pub mod shape;
 pub mod show;
 pub mod syntax;
+
+#[cfg(test)]
+mod tests;

@@ -1,4 +1,4 @@
-//! Where a parse stands: what has been read of each open pair of parentheses.
+//! Where a parse stands: what has been read of each open part of the text.
 
 ghost use Rattle.std.specs.Prelude.{◌≡◌, ◌∷◌, []};
 ghost use Rattle.rg_parse.specs.Machine.{has, start, takes, is_prefix, resume, turn, at_compare, at_operate, at_shift, at_join, at_imply, at_close, at_if, at_then, at_else, at_number, at_name, at_colon, at_words, at_show, at_section, operand_of, start_of, is_opener, is_join, begins_word, has_operand_left, has_room_at};
@@ -29,53 +29,84 @@ pub struct Sorts {
     pub expression: bool,
 }
 
-/// A place between two tokens, as seen from one opener.
+/// A place between two tokens, as seen from one open part of the text.
+///
+/// The places of a parse are a stack, with one place for each open opener and one below them all.
 #[derive(Clone, Copy, Debug, PartialEq, Eq)]
 pub enum Point {
-    // An item is wanted.
+    /// A formula is wanted, after which the text ends.
     Whole,
+    /// After `not`.
     Negated,
+    /// After `inv`.
     Inverted,
+    /// After `(`, where the pair of parentheses may give these sorts.
     First(Sorts),
+    /// After a connective of a chain that has so many operands already.
     Next(Junction, u8),
+    /// After `implies` or `iff`.
     Second,
+    /// After a comparison or an operator, whose pair of parentheses gives this sort.
     Right(Sort),
+    /// An `if` is open inside this pair of parentheses.
     Chosen,
+    /// After `if`.
     Condition,
+    /// After `then`.
     Consequent,
+    /// After `else`.
     Alternative,
-    // A token is wanted, or none.
+    /// The text may end, and nothing may follow.
     End,
+    /// After a first formula in parentheses.
     AfterFormula,
+    /// After a first expression in parentheses that may give these sorts.
     AfterExpression(Sorts),
+    /// After an operand of a chain that has so many with it.
     AfterNext(Junction, u8),
+    /// After `shl` or `shr`.
     Count,
+    /// Before the `)` of a pair that gives this sort.
     Closing(Sort),
+    /// Before `then`.
     AfterCondition,
+    /// Before `else`.
     AfterConsequent,
-    // Declared words; each counts them with the one that is being read.
+    /// Before `words`.
     ShowStart,
+    /// After `words`.
     FirstWord,
+    /// After `fixed`, in the declaration of the word of this number, from 1.
     FixedWord(u8),
+    /// After the name of the word of this number.
     NamedWord(u8),
+    /// After the colon of the word of this number.
     WordWidth(u8),
+    /// After so many words.
     AfterWord(u8),
 }
 
 /// How a token may begin an item.
 #[derive(Clone, Copy, Debug, PartialEq, Eq)]
 pub enum Start {
+    /// It is an item of this sort.
     Leaf(Sort),
+    /// It stands before its operand, and both are of this sort.
     Prefix(Sort),
+    /// It is `(`.
     Opener,
+    /// It begins none.
     Other,
 }
 
 /// What a token does to the place where it stands.
 #[derive(Clone, Copy, Debug, PartialEq, Eq)]
 pub enum Turn {
+    /// This place follows.
     On(Point),
+    /// The first follows, inside the second.
     Inside(Point, Point),
+    /// An item of this sort is complete.
     Closed(Sort),
 }
 

@@ -4,7 +4,7 @@ ghost use Rattle.std.specs.Prelude.{◌≡◌, ℕ, List, [], ◌∷◌, map, re
 ghost use Rattle.rg_parse.specs.Grammar.{lexeme_of};
 ghost use Rattle.rg_parse.specs.Machine.{complete, after_turn, next, is_shallow, has_room, is_at_end};
 ghost use Rattle.rg_parse.specs.Limits.{IsTextWithin};
-ghost use Rattle.rg_parse.specs.Shape.{ShapeIs};
+ghost use Rattle.rg_parse.specs.Shape.{ShapeIs, OneFault, NoFaultWithin};
 ghost use Rattle.rg_parse.specs.declared.shape.ShapeFault.TheVariants.{Memory};
 
 use crate::point::{Point, Sort, Start, TextKind, Turn, is_join, is_opener, operand_of, start_of};
@@ -178,3 +178,10 @@ pub fn shape(alloc: Global, text: TextKind, tokens: &[Token]) -> Result<(), Shap
     }
     Ok(())
 }
+
+/// The same tokens have one answer: a text within the limits has no fault, and other tokens have
+/// one first fault.
+pub fn one_answer()
+    ensures one_fault { OneFault }
+    ensures no_fault { NoFaultWithin }
+{}

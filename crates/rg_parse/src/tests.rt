@@ -1,0 +1,324 @@
+//! Rows of shapes and trees, with the expected answers written by hand.
+
+use crate::parse::{parse_formula, parse_show};
+use crate::syntax::{Expr, Formula, ShowText};
+use rg_text::Tokens;
+use rg_text::kind::{Conditional, Junction};
+use rg_words::operators::{Comparison, Operator, Shift};
+use rg_words::{Place, Refusal, RefusalNumber, SourceFile};
+use std::alloc::{AllocError, Global};
+use std::test::Fail;
+
+/// The text with each space turned into a line's end: a token's line is then its number, from 1.
+fn on_lines(alloc: Global, text: &[u8]) -> Result<Vec<u8>, AllocError> {
+    text.iter()
+        .map(|byte| if *byte == b' ' { b'\n' } else { *byte })
+        .collect(alloc)
+}
+
+fn formula(alloc: Global, text: &[u8]) -> Result<Formula, Refusal> {
+    let source = on_lines(alloc, text)?;
+    let tokens = Tokens::read(alloc, &source, SourceFile::Text)?;
+    parse_formula(alloc, SourceFile::Text, tokens.as_slice())
+}
+
+fn show(alloc: Global, text: &[u8]) -> Result<ShowText, Refusal> {
+    let source = on_lines(alloc, text)?;
+    let tokens = Tokens::read(alloc, &source, SourceFile::Text)?;
+    parse_show(alloc, SourceFile::Text, tokens.as_slice())
+}
+
+/// What is refused; `Err` for want of memory.
+fn refusal<T: Drop>(read: Result<T, Refusal>) -> Result<Option<Refusal>, Refusal> {
+    match read {
+        Ok(_) => Ok(None),
+        Err(refusal) if refusal.number == RefusalNumber::Memory => Err(refusal),
+        Err(refusal) => Ok(Some(refusal)),
+    }
+}
+
+/// A refusal of the token of this number.
+fn at(number: RefusalNumber, token: u64) -> Option<Refusal> {
+    Some(Refusal::at(number, SourceFile::Text, Place::Line(token)))
+}
+
+#[test]
+fn shapes_of_formulas(rt: HostRuntime) -> Result<(), Fail> {
+    use RefusalNumber::{Unexpected, Unfinished};
+    let rows: [(&[u8], Option<Refusal>); 24] = [
+        (b"true", None),
+        (b"not ( x != 1 )", None),
+        (b"( ( x + 1 ) = inv y' )", None),
+        (b"( true and false and true )", None),
+        (b"( ( if ( x = 1 ) then 2 else ( y shl 3 ) ) <= 4 )", None),
+        (b"( x )", at(Unexpected, 3)),
+        (b"( true = 1 )", at(Unexpected, 3)),
+        (b"( true and false or true )", at(Unexpected, 5)),
+        (b"( true implies true implies true )", at(Unexpected, 5)),
+        (b"( true and true implies true )", at(Unexpected, 5)),
+        (b"( ( x + 1 ) )", at(Unexpected, 7)),
+        (b"( if", at(Unexpected, 2)),
+        (b"( x +", at(Unexpected, 3)),
+        (b"( x shl", at(Unexpected, 3)),
+        (b"( ( if", at(Unfinished, 3)),
+        (b"( ( x", at(Unfinished, 3)),
+        (b"( ( x shl y", at(Unexpected, 5)),
+        (b"( ( x = 1 ) = 1", at(Unexpected, 7)),
+        (b"x", at(Unexpected, 1)),
+        (b"true true", at(Unexpected, 2)),
+        (b"", at(Unfinished, 1)),
+        (b"not", at(Unfinished, 1)),
+        (b"( ( if true then 1 )", at(Unexpected, 7)),
+        (b"( x = 1", at(Unfinished, 4)),
+    ];
+    for (text, expected) in rows {
+        let found = refusal(formula(rt.alloc(), text))?;
+        assert_eq!(rt; found, expected);
+    }
+    Ok(())
+}
+
+#[test]
+fn shapes_of_shown_texts(rt: HostRuntime) -> Result<(), Fail> {
+    use RefusalNumber::{Unexpected, Unfinished};
+    let rows: [(&[u8], Option<Refusal>); 17] = [
+        (b"words x : 1 show true", None),
+        (
+            b"words fixed x : 65 y : 0 fixed x : 1 show ( y = x' )",
+            None,
+        ),
+        (b"", at(Unfinished, 1)),
+        (b"show true", at(Unexpected, 1)),
+        (b"words show true", at(Unexpected, 2)),
+        (b"words x'", at(Unexpected, 2)),
+        (b"words fixed fixed", at(Unexpected, 3)),
+        (b"words fixed show", at(Unexpected, 3)),
+        (b"words x 1", at(Unexpected, 3)),
+        (b"words x : y", at(Unexpected, 4)),
+        (b"words x : 1 : 1", at(Unexpected, 5)),
+        (b"words x : 1 pre true", at(Unexpected, 5)),
+        (b"words x : 99 show )", at(Unexpected, 6)),
+        (b"words x : 1 show ( x = 1 ) y", at(Unexpected, 11)),
+        (b"words x : 1 fixed", at(Unfinished, 5)),
+        (b"words x : 1", at(Unfinished, 4)),
+        (b"words x : 1 show", at(Unfinished, 5)),
+    ];
+    for (text, expected) in rows {
+        let found = refusal(show(rt.alloc(), text))?;
+        assert_eq!(rt; found, expected);
+    }
+    Ok(())
+}
+
+/// One text, then another so many times, then a third.
+fn repeated(
+    alloc: Global,
+    front: &[u8],
+    middle: &[u8],
+    count: usize,
+    back: &[u8],
+) -> Result<Vec<u8>, AllocError> {
+    let mut text = Vec::new(alloc);
+    text.extend_from_slice(front)?;
+    for _ in 0..count {
+        text.extend_from_slice(middle)?;
+    }
+    text.extend_from_slice(back)?;
+    Ok(text)
+}
+
+#[test]
+fn limits_of_formulas(rt: HostRuntime) -> Result<(), Fail> {
+    use RefusalNumber::Depth;
+    let rows: [(&[u8], &[u8], usize, &[u8], Option<Refusal>); 8] = [
+        (b"", b"not ", 200, b"true", None),
+        (b"", b"not ", 201, b"", at(Depth, 201)),
+        (b"( x = ", b"inv ", 199, b"x )", None),
+        (b"( x = ", b"inv ", 200, b"x )", at(Depth, 203)),
+        // Both the parenthesis and its `if` are openers.
+        (b"( x = ", b"inv ", 198, b"( if", at(Depth, 203)),
+        (b"( true", b" and true", 63, b" )", None),
+        (b"( true", b" or true", 64, b" )", at(Depth, 129)),
+        (b"( ( true", b" and true", 63, b" ) and true )", None),
+    ];
+    for (front, middle, count, back, expected) in rows {
+        let text = repeated(rt.alloc(), front, middle, count, back)?;
+        let found = refusal(formula(rt.alloc(), &text))?;
+        assert_eq!(rt; found, expected);
+    }
+    Ok(())
+}
+
+#[test]
+fn limits_of_shown_texts(rt: HostRuntime) -> Result<(), Fail> {
+    use RefusalNumber::{Depth, Limit, Unexpected};
+    let rows: [(&[u8], &[u8], usize, &[u8], Option<Refusal>); 7] = [
+        (b"words", b" x : 1", 64, b" show true", None),
+        (b"words", b" x : 1", 64, b" x", at(Limit, 194)),
+        (b"words", b" fixed x : 1", 64, b" fixed", at(Limit, 258)),
+        (b"words", b" x : 1", 64, b" :", at(Unexpected, 194)),
+        (b"words", b" x : 1", 64, b" x )", at(Limit, 194)),
+        (b"words x : 1 show", b" not", 200, b" true", None),
+        (b"words x : 1 show", b" not", 201, b"", at(Depth, 206)),
+    ];
+    for (front, middle, count, back, expected) in rows {
+        let text = repeated(rt.alloc(), front, middle, count, back)?;
+        let found = refusal(show(rt.alloc(), &text))?;
+        assert_eq!(rt; found, expected);
+    }
+    Ok(())
+}
+
+#[test]
+fn a_derivation_has_a_number_of_its_own(rt: HostRuntime) -> Result<(), Fail> {
+    let alloc = rt.alloc();
+    let file = SourceFile::Derivation;
+    for (text, number) in [
+        (b"true\n)".as_slice(), RefusalNumber::UnexpectedInDerivation),
+        (b"\nnot", RefusalNumber::Unfinished),
+    ] {
+        let tokens = Tokens::read(alloc, text, file)?;
+        let found = refusal(parse_formula(alloc, file, tokens.as_slice()))?;
+        let expected = Refusal::at(number, file, Place::Line(2));
+        assert_eq!(rt; found, Some(expected));
+    }
+    Ok(())
+}
+
+/// Writes a letter for the node of each part, and then those of its own parts.
+#[cycle(written)]
+fn write_formula(text: &mut Vec<u8>, formula: &Formula) -> Result<(), AllocError> {
+    match formula {
+        Formula::Truth(truth) => text.push(if *truth { b'T' } else { b'F' })?,
+        Formula::Not(operand) => {
+            text.push(b'N')?;
+            write_formula(text, operand)?;
+        }
+        Formula::Joined(junction, left, right) => {
+            text.push(match junction {
+                Junction::And => b'A',
+                Junction::Or => b'O',
+            })?;
+            write_formula(text, left)?;
+            write_formula(text, right)?;
+        }
+        Formula::Implied(conditional, left, right) => {
+            text.push(match conditional {
+                Conditional::Implies => b'I',
+                Conditional::Iff => b'E',
+            })?;
+            write_formula(text, left)?;
+            write_formula(text, right)?;
+        }
+        Formula::Compared(comparison, left, right) => {
+            text.push(match comparison {
+                Comparison::Equal => b'=',
+                Comparison::Less => b'<',
+                _ => b'?',
+            })?;
+            write_expression(text, left)?;
+            write_expression(text, right)?;
+        }
+    }
+    Ok(())
+}
+
+#[cycle(written)]
+fn write_expression(text: &mut Vec<u8>, expression: &Expr) -> Result<(), AllocError> {
+    match expression {
+        Expr::Number(_) => text.push(b'n')?,
+        Expr::Word(_) => text.push(b'w')?,
+        Expr::NextWord(_) => text.push(b'v')?,
+        Expr::Inverse(operand) => {
+            text.push(b'i')?;
+            write_expression(text, operand)?;
+        }
+        Expr::Binary(operator, left, right) => {
+            text.push(match operator {
+                Operator::Add => b'+',
+                Operator::Subtract => b'-',
+                _ => b'b',
+            })?;
+            write_expression(text, left)?;
+            write_expression(text, right)?;
+        }
+        Expr::Shifted(shift, value, _) => {
+            text.push(match shift {
+                Shift::Left => b'l',
+                Shift::Right => b'r',
+            })?;
+            write_expression(text, value)?;
+        }
+        Expr::If(condition, first, second) => {
+            text.push(b'c')?;
+            write_formula(text, condition)?;
+            write_expression(text, first)?;
+            write_expression(text, second)?;
+        }
+    }
+    Ok(())
+}
+
+#[test]
+fn trees_of_formulas(rt: HostRuntime) -> Result<(), Fail> {
+    let rows: [(&[u8], &[u8]); 7] = [
+        (b"( true implies false )", b"ITF"),
+        (b"( false iff not true )", b"EFNT"),
+        (b"( true or false or false )", b"OOTFF"),
+        (
+            b"( true and ( false or true ) and ( x = 1 ) )",
+            b"AATOFT=wn",
+        ),
+        (b"( ( x' - 1 ) < inv ( 2 + y ) )", b"<-vni+nw"),
+        (b"( ( if ( x = 1 ) then y' else 2 ) = z )", b"=c=wnvnw"),
+        (b"( 1 < ( ( x shl 3 ) shr 4 ) )", b"<nrlw"),
+    ];
+    for (text, expected) in rows {
+        let tree = formula(rt.alloc(), text)?;
+        let mut found = Vec::new(rt.alloc());
+        write_formula(&mut found, &tree)?;
+        assert_eq!(rt; found.as_slice(), expected);
+    }
+    Ok(())
+}
+
+#[test]
+fn words_are_kept_in_order(rt: HostRuntime) -> Result<(), Fail> {
+    let text = show(
+        rt.alloc(),
+        b"words x : 8 fixed y : 4 z : 1 show ( x < ( y shr 2 ) )",
+    )?;
+    let mut words = Vec::new(rt.alloc());
+    for word in &text.words {
+        words.push((word.fixed, word.name.line, word.width.line))?;
+    }
+    let expected = [(false, 2, 4), (true, 6, 8), (false, 9, 11)];
+    assert_eq!(rt; words.as_slice(), expected.as_slice());
+    let leaves = match &text.formula {
+        Formula::Compared(_, Expr::Word(left), Expr::Shifted(_, _, count)) => {
+            Some((left.line, count.line))
+        }
+        _ => None,
+    };
+    assert_eq!(rt; leaves, Some((14, 19)));
+    Ok(())
+}
+
+#[test]
+fn a_long_text_is_read(rt: HostRuntime) -> Result<(), Fail> {
+    // A balanced tree of 2 to the power of 15 leaves, of some 400,000 bytes.
+    let mut text = vec![in rt.alloc(); b't', b'r', b'u', b'e']?;
+    for _ in 0..15 {
+        let mut twice = vec![in rt.alloc(); b'(']?;
+        twice.extend_from_slice(&text)?;
+        twice.extend_from_slice(b" and ")?;
+        twice.extend_from_slice(&text)?;
+        twice.push(b')')?;
+        text = twice;
+    }
+    let tree = formula(rt.alloc(), &text)?;
+    let mut letters = Vec::new(rt.alloc());
+    write_formula(&mut letters, &tree)?;
+    assert_eq!(rt; letters.len(), 65_535);
+    Ok(())
+}
