@@ -7,7 +7,7 @@ use Rattle.rg_gates.specs.Extends.{GatesHold}
 use Rattle.rg_gates.proofs.Evaluated.{values_exist}
 use Rattle.rg_words.specs.States.{IsState, AgreeOnFixed, IsPair}
 use Rattle.rg_tree.specs.Claims.{Claim, condition_holds, ConditionHolds}
-use Rattle.rg_bits.specs.Conditions.{inputs_of, first_of, second_of, input_bits}
+use Rattle.rg_bits.specs.Inputs.{inputs_of, first_of, second_of, input_bits}
 use Rattle.rg_bits.proofs.LiteralsMean.{negation_value}
 use Rattle.rg_bits.proofs.Values.{pair_law, length-input_bits}
 use Rattle.rg_clauses.specs.Formula.{Formula, IsUnsatisfiable}
