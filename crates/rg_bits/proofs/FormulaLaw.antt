@@ -1,5 +1,5 @@
 -- what a condition's literal means over its input bits
-use Rattle.std.proofs.Common.{◌≡◌, ℕ, zero, suc, ◌+◌, ◌<◌, ◌≤◌, Bool, true, false, cond, List, [], ◌∷◌, length, get_or, map, refl, sym, ap, ◌∙◌, arith, subst}
+use Rattle.std.proofs.Common.{◌≡◌, ◌+◌, ◌≤◌, Bool, List, [], length, map, refl, sym, ap, ◌∙◌, arith, subst}
 use Rattle.std.specs.Prelude.{Vec}
 use Rattle.std.specs.Global.{Global}
 use Rattle.std.proofs.lemmas.List.{get_or-map, length-map}
@@ -11,7 +11,7 @@ use Rattle.rg_tree.specs.Claims.{Claim, SecondState, same, free, after, before, 
 use Rattle.rg_bits.specs.Rows.{row_value}
 use Rattle.rg_bits.specs.WordRows.{AreRowsIn, rows_of}
 use Rattle.rg_bits.proofs.StandFor.{StandFor}
-use Rattle.rg_bits.specs.Inputs.{variables, first_rows, free_rows, total_width, free_width, before_rows, first_of, second_of}
+use Rattle.rg_bits.specs.Inputs.{first_rows, total_width, free_width, before_rows, first_of, second_of}
 use Rattle.rg_bits.specs.Conditions.{condition_of}
 use Rattle.rg_bits.proofs.ConditionsMean.{implication-means}
 use Rattle.rg_bits.proofs.ConditionSteps.{length-rows_of}

@@ -1,5 +1,5 @@
 -- What a condition builds.
-use Rattle.std.specs.Prelude.{Bool, true, false, cond, List, [], ◌∷◌, slice_set}
+use Rattle.std.specs.Prelude.{Bool, true, false, cond, List, slice_set}
 use Rattle.std.specs.List.{zip}
 use Rattle.rg_gates.specs.declared.Lit.{Lit}
 use Rattle.rg_gates.specs.declared.Lit.TheVariants.{True}

@@ -1,5 +1,5 @@
 -- The clauses of a condition.
-use Rattle.std.specs.Prelude.{◌≡◌, ℕ, Bool, false, List, []}
+use Rattle.std.specs.Prelude.{◌≡◌, ℕ, false, List, []}
 use Rattle.rg_gates.specs.declared.Lit.{Lit}
 use Rattle.rg_gates.specs.Circuit.{Circuit, negation}
 use Rattle.rg_words.specs.States.{IsPair}
