@@ -11,11 +11,11 @@ use Rattle.rg_tree.specs.Trees.{Proposition, Assignment}
 use Rattle.rg_tree.specs.Fits.{FormulaFits, ExpressionFits}
 use Rattle.rg_tree.specs.Claims.{SecondState, AllFit, AssignmentsFit}
 use Rattle.rg_bits.specs.Build.{fold_of}
-use Rattle.rg_bits.specs.StandFor.{AreRowsIn, rows_of}
+use Rattle.rg_bits.specs.WordRows.{AreRowsIn, rows_of}
 use Rattle.rg_bits.specs.Conditions.{hypothesis_of, assign_of, same_word_of, goal_of, reached_rows}
 use Rattle.rg_bits.proofs.Means.{grows-means}
 use Rattle.rg_bits.proofs.LiteralsMean.{and-grows, or-grows}
-use Rattle.rg_bits.proofs.TreeSteps.{tree_steps, word_row, word_in}
+use Rattle.rg_bits.proofs.TreeSteps.{tree_steps, row_at}
 use Rattle.rg_bits.proofs.ConditionsMean.{hypothesis-means, assign-means, same_word-means, hypotheses-means, reached-means, goal-means}
 
 pub hypothesis-grows : (s t : List (List Lit)) (f : Proposition) (h : Lit) (c : Circuit) → variable_count c ≤ variable_count (hypothesis_of s t f h c).1
@@ -33,10 +33,6 @@ formula_fits [] n zero f rest h e = (cc)
 formula_fits [] n (suc i) f rest h e = (cc)
 formula_fits (g ∷ fs) n zero f rest h e = let same : g ≡ f = (cc) in let P : Proposition → Type 0 = λ x. FormulaFits x n in subst P same h.0
 formula_fits (g ∷ fs) n (suc i) f rest h e = formula_fits fs n i f rest h.1 e
-
--- a word's row as it is read
-pub row_at : (xs : List (Vec Lit Global)) (k : ℕ) (x : Vec Lit Global) (read : List Lit) → k < length xs → x ≡ get_or xs k x → read ≡ x.items → get_or (rows_of xs) k [] ≡ read
-row_at xs k x read less at e = word_row xs k x read read less at e refl
 
 pub drop_row : (rows : List (List Lit)) (i : ℕ) (row : List Lit) → i < length rows → get_or rows i [] ≡ row → drop i rows ≡ row ∷ drop (i + 1) rows
 drop_row [] i row less at = absurd (omega arith)

@@ -15,13 +15,12 @@ use Rattle.rg_tree.specs.Meaning.{value_of, holds}
 use Rattle.rg_tree.specs.Claims.{Claim, SecondState, same, free, after, assigned, before, reached, all_hold, are_same, condition_holds, AllTyped, AssignmentsTyped, SecondTyped, ClaimTyped}
 use Rattle.rg_words.specs.Layout.{widths_of}
 use Rattle.rg_bits.specs.Build.{fold_of}
-use Rattle.rg_bits.specs.Means.{Means}
 use Rattle.rg_bits.specs.Rows.{row_value}
 use Rattle.rg_bits.specs.Literals.{or_of}
 use Rattle.rg_bits.specs.Formulas.{row_of, literal_of, compared_of}
-use Rattle.rg_bits.specs.StandFor.{StandFor}
+use Rattle.rg_bits.proofs.StandFor.{StandFor}
 use Rattle.rg_bits.specs.Conditions.{hypothesis_of, assign_of, reached_rows, same_word_of, goal_of, implication_of}
-use Rattle.rg_bits.proofs.Means.{give-means, then-means, weaker-means}
+use Rattle.rg_bits.proofs.Means.{Means, give-means, then-means, weaker-means}
 use Rattle.rg_bits.proofs.LiteralsMean.{negation_value, and-means, or-means}
 use Rattle.rg_bits.proofs.FormulasMean.{row-means, literal-means, compared-means}
 

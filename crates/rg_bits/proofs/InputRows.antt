@@ -11,8 +11,8 @@ use Rattle.rg_gates.specs.Circuit.{Circuit, variable_count}
 use Rattle.rg_gates.specs.Extends.{IsRowIn}
 use Rattle.rg_words.specs.Layout.{Word, widths_of, fixed_of, IsWidth, IsLayout}
 use Rattle.rg_bits.proofs.RowsIn.{cons_in}
-use Rattle.rg_bits.specs.StandFor.{AreRowsIn, rows_of}
-use Rattle.rg_bits.specs.Conditions.{variables, first_rows, free_rows, total_width, free_width}
+use Rattle.rg_bits.specs.WordRows.{AreRowsIn, rows_of}
+use Rattle.rg_bits.specs.Inputs.{variables, first_rows, free_rows, total_width, free_width}
 
 -- one variable more
 pub variables_next : (n w i : ℕ) → i < w → variables (n + i) (w - i) ≡ Variable (n + i + 1) false ∷ variables (n + (i + 1)) (w - (i + 1))

@@ -7,7 +7,8 @@ use Rattle.rg_gates.specs.Extends.{GatesHold}
 use Rattle.rg_words.specs.Layout.{Word}
 use Rattle.rg_tree.specs.Claims.{Claim, SecondState, same, free, after, before, reached, all_hold, goal_holds, condition_holds, ClaimTyped}
 use Rattle.rg_bits.specs.Rows.{row_value}
-use Rattle.rg_bits.specs.Conditions.{variables, first_rows, free_rows, total_width, before_rows, condition_of, second_of, number_bits, state_bits, free_bits, second_bits, input_bits}
+use Rattle.rg_bits.specs.Inputs.{variables, first_rows, free_rows, total_width, before_rows, second_of, number_bits, state_bits, free_bits, second_bits, input_bits}
+use Rattle.rg_bits.specs.Conditions.{condition_of}
 use Rattle.rg_words.specs.States.{IsState, AgreeOnFixed, SameIf}
 use Rattle.rg_bits.proofs.RowsMean.{number_of}
 use Rattle.rg_bits.proofs.Numbers.{low_bit}

@@ -15,13 +15,14 @@ use Rattle.rg_words.specs.Layout.{Word, widths_of, IsWidth, IsLayout}
 use Rattle.rg_words.specs.States.{AreValues, IsState, SameIf, AgreeOnFixed, IsPair}
 use Rattle.rg_tree.specs.Claims.{Claim, SecondState, same, free, after}
 use Rattle.rg_bits.specs.Rows.{row_value}
-use Rattle.rg_bits.specs.StandFor.{rows_of}
-use Rattle.rg_bits.specs.Conditions.{variables, first_rows, free_rows, total_width, free_width, before_rows, second_width, inputs_of, first_of, second_of, number_bits, state_bits, free_bits, second_bits, input_bits}
+use Rattle.rg_bits.specs.WordRows.{rows_of}
+use Rattle.rg_bits.specs.Inputs.{variables, first_rows, free_rows, total_width, free_width, before_rows, second_width, inputs_of, first_of, second_of, number_bits, state_bits, free_bits, second_bits, input_bits}
 use Rattle.rg_bits.proofs.RowsMean.{number_of}
 use Rattle.rg_bits.proofs.Numbers.{row_value-lt}
 use Rattle.rg_bits.proofs.InputRows.{total_cons, free_cons, length-first_rows}
-use Rattle.rg_bits.proofs.ConditionSteps.{row_at, length-rows_of}
-use Rattle.rg_bits.proofs.FormulaLaw.{length-variables}
+use Rattle.rg_bits.proofs.ConditionSteps.{length-rows_of}
+use Rattle.rg_bits.proofs.TreeSteps.{row_at}
+use Rattle.rg_bits.proofs.Widths.{first_lengths, before_lengths, row_width}
 
 -- a row of at most 64 literals stands for a number of 64 bits
 pub row_limit : (v : List Bool) (row : List Lit) → length row ≤ 64 → row_value v row < 18446744073709551616
@@ -39,39 +40,10 @@ row_next v row i j number less place so_far =
 pub row_next-limit : (v : List Bool) (row : List Lit) (i j : ℕ) (number : ℕ) → i < length row → j + i + 1 ≡ length row → number ≡ row_value v (drop (length row - i) row) → length row ≤ 64 → 2 * number + number_of (lit_value v (get_or row j True)) < 18446744073709551616
 row_next-limit v row i j number less place so_far limit = omega (arith, row_next v row i j number less place so_far, row_limit v (drop j row) (omega (arith, length-drop j row)))
 
--- the widths of the rows of input bits
-pub first_lengths : (n : ℕ) (words : List Word) → map length (first_rows n words) ≡ widths_of words
-first_lengths n [] = refl
-first_lengths n (w ∷ words) = ap (λ l. l ∷ map length (first_rows (n + w.width) words)) (length-variables n w.width) ∙ ap (λ ws. w.width ∷ ws) (first_lengths (n + w.width) words)
-
-free_length : (f : Bool) (r : List Lit) (n w : ℕ) → length r ≡ w → length (cond f r (variables n w)) ≡ w
-free_length true r n w e = e
-free_length false r n w e = length-variables n w
-
-pub free_lengths : (n : ℕ) (words : List Word) (rows : List (List Lit)) → map length rows ≡ widths_of words → map length (free_rows n words rows) ≡ widths_of words
-free_lengths n [] rows e = refl
-free_lengths n (w ∷ words) [] e = (cc)
-free_lengths n (w ∷ words) (r ∷ rows) e =
-    let head : length r ≡ w.width = (cc) in
-    let tail : map length rows ≡ widths_of words = (cc) in
-    let m = n + cond w.fixed 0 w.width in
-    ap (λ l. l ∷ map length (free_rows m words rows)) (free_length w.fixed r n w.width head) ∙ ap (λ ws. w.width ∷ ws) (free_lengths m words rows tail)
-
-pub before_lengths : (second : SecondState) (words : List Word) → map length (before_rows second words) ≡ widths_of words
-before_lengths same words = first_lengths 0 words
-before_lengths (after as_) words = first_lengths 0 words
-before_lengths free words = free_lengths (total_width words) words (first_rows 0 words) (first_lengths 0 words)
-
 width_limit : (words : List Word) (k : ℕ) → All (λ w. IsWidth w.width) words → get_or (widths_of words) k 0 ≤ 64
 width_limit [] k h = omega arith
 width_limit (w ∷ words) zero h = let P : Word → Type 0 = λ x. IsWidth x.width in let here = All-head P w words h in here.1
 width_limit (w ∷ words) (suc k) h = let P : Word → Type 0 = λ x. IsWidth x.width in width_limit words k (All-tail P w words h)
-
--- the k-th row is of the k-th word's width
-pub row_width : (words : List Word) (rows : List (List Lit)) (k : ℕ) → map length rows ≡ widths_of words → k < length words → length (get_or rows k []) ≡ get_or (widths_of words) k 0
-row_width words rows k e less =
-    let sizes : length rows ≡ length words = sym (length-map rows length) ∙ ap length e ∙ length-map words (λ (w : Word). w.width) in
-    sym (get_or-map length rows k [] 0 (omega arith)) ∙ ap (λ ws. get_or ws k 0) e
 
 pub rows_count : (words : List Word) (rows : List (Vec Lit Global)) → map length (rows_of rows) ≡ widths_of words → length rows ≡ length words
 rows_count words rows e = sym (length-rows_of rows) ∙ sym (length-map (rows_of rows) length) ∙ ap length e ∙ length-map words (λ (w : Word). w.width)

@@ -10,9 +10,10 @@ ghost use Rattle.std.specs.List.{zip};
 ghost use Rattle.rg_tree.specs.Fits.{FormulaFits, ExpressionFits};
 ghost use Rattle.rg_tree.specs.View.{expression, formula};
 ghost use Rattle.rg_tree.specs.Conditions.{assignment, second_state, claim, AllFit, AssignmentsFit, SecondFits, ClaimFits, ClaimTyped, condition_holds};
-ghost use Rattle.rg_bits.specs.StandFor.{AreRowsIn, rows_of};
+ghost use Rattle.rg_bits.specs.WordRows.{AreRowsIn, rows_of};
 ghost use Rattle.rg_bits.specs.Build.{fold_of};
-ghost use Rattle.rg_bits.specs.Conditions.{hypothesis_of, assign_of, same_word_of, reached_rows, goal_of, implication_of, condition_of, first_rows, before_rows, inputs_of, first_of, second_of, input_bits};
+ghost use Rattle.rg_bits.specs.Inputs.{first_rows, before_rows, inputs_of, first_of, second_of, input_bits};
+ghost use Rattle.rg_bits.specs.Conditions.{hypothesis_of, assign_of, same_word_of, reached_rows, goal_of, implication_of, condition_of};
 ghost use Rattle.rg_words.specs.States.{IsState, AgreeOnFixed};
 
 use crate::expression::{build_literal, build_row};
@@ -134,7 +135,7 @@ fn add_assignment<T: Table>(
     ensures extends { Extends gates.old gates.new }
     ensures full { result ≡ Err TooManyVariables → MOST_VARIABLES < variable_count (assign_of (assignment assign.now) (rows_of rows.items) gates.old).1 }
 {
-    let row = build_row(alloc, gates, &assign.value, &rows, &rows)?;
+    let row = build_row(alloc, gates, &assign.value, &rows, &rows)?.into_owned(alloc)?;
     rows[assign.word] = row;
     Ok(rows)
 }

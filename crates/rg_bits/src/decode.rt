@@ -6,8 +6,8 @@ ghost use Rattle.rg_words.specs.Layout.{widths_of};
 ghost use Rattle.rg_words.specs.States.{IsPair};
 ghost use Rattle.rg_tree.specs.Conditions.{claim, second_state};
 ghost use Rattle.rg_bits.specs.Rows.{row_value};
-ghost use Rattle.rg_bits.specs.StandFor.{rows_of};
-ghost use Rattle.rg_bits.specs.Conditions.{inputs_of, first_rows, first_of, second_of, input_bits, state_of, own_second};
+ghost use Rattle.rg_bits.specs.WordRows.{rows_of};
+ghost use Rattle.rg_bits.specs.Inputs.{inputs_of, first_rows, first_of, second_of, input_bits, state_of, own_second};
 
 use crate::input_rows::{first_state, free_state};
 use rg_gates::Lit;

@@ -1,8 +1,8 @@
 //! The input bits of a condition.
 
 ghost use Rattle.std.specs.Prelude.{◌≡◌, ◌<◌, ◌≤◌, ◌+◌, ◌^◌, ℕ, IfOk, cond, length, slice_index, slice_index_or, false};
-ghost use Rattle.rg_bits.specs.StandFor.{rows_of};
-ghost use Rattle.rg_bits.specs.Conditions.{variables, first_rows, free_rows, total_width, free_width, inputs_of};
+ghost use Rattle.rg_bits.specs.WordRows.{rows_of};
+ghost use Rattle.rg_bits.specs.Inputs.{variables, first_rows, free_rows, total_width, free_width, inputs_of};
 ghost use Rattle.rg_words.specs.Layout.{widths_of, fixed_of};
 ghost use Rattle.rg_tree.specs.Conditions.{claim};
 

@@ -1,10 +1,11 @@
 -- The clauses of a condition.
-use Rattle.std.specs.Prelude.{◌≡◌, ℕ, Bool, false, List, []}
+use Rattle.std.specs.Prelude.{◌≡◌, ℕ, false, List, []}
 use Rattle.rg_gates.specs.declared.Lit.{Lit}
 use Rattle.rg_gates.specs.Circuit.{Circuit, negation}
 use Rattle.rg_words.specs.States.{IsPair}
 use Rattle.rg_tree.specs.Claims.{Claim, condition_holds}
-use Rattle.rg_bits.specs.Conditions.{inputs_of, condition_of}
+use Rattle.rg_bits.specs.Inputs.{inputs_of}
+use Rattle.rg_bits.specs.Conditions.{condition_of}
 use Rattle.rg_clauses.specs.Formula.{Formula}
 use Rattle.rg_clauses.specs.Encoding.{encoding}
 

@@ -7,7 +7,7 @@ ghost use Rattle.rg_words.specs.declared.refusal.Place.TheVariants.{Condition as
 ghost use Rattle.rg_words.specs.declared.refusal.RefusalNumber.TheVariants.{Limit};
 ghost use Rattle.rg_words.specs.Refusals.{no_memory, refused_in};
 ghost use Rattle.rg_tree.specs.Conditions.{claim, condition_holds, ConditionHolds};
-ghost use Rattle.rg_bits.specs.Conditions.{inputs_of, first_of, second_of};
+ghost use Rattle.rg_bits.specs.Inputs.{inputs_of, first_of, second_of};
 ghost use Rattle.rg_clauses.specs.Formula.{Satisfies, IsUnsatisfiable, value_at};
 ghost use Rattle.rg_clauses.specs.Encoding.{IsSatisfiable};
 ghost use Rattle.rg_clauses.specs.Conditions.{clauses_of_claim, CanFail};

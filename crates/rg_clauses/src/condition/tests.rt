@@ -104,11 +104,17 @@ fn constant_literals(rt: HostRuntime) -> Result<(), Fail> {
         Box::new(alloc, other)?,
     );
     let always = Condition::show(alloc, one_word(&rt, alloc, 1)?, either);
-    assert_eq!(rt; cnf(&rt, alloc, &always)?.bytes(), "p cnf 1 1\n0\n".as_bytes());
+    assert_eq!(rt;
+        cnf(&rt, alloc, &always)?.bytes(),
+        "p cnf 1 1\n0\n".as_bytes()
+    );
     let never = Condition::show(alloc, one_word(&rt, alloc, 1)?, Formula::Truth(false));
     assert_eq!(rt; cnf(&rt, alloc, &never)?.bytes(), "p cnf 1 0\n".as_bytes());
     let wide = Condition::show(alloc, one_word(&rt, alloc, 33)?, Formula::Truth(true));
-    assert_eq!(rt; cnf(&rt, alloc, &wide)?.bytes(), "p cnf 33 1\n0\n".as_bytes());
+    assert_eq!(rt;
+        cnf(&rt, alloc, &wide)?.bytes(),
+        "p cnf 33 1\n0\n".as_bytes()
+    );
     Ok(())
 }
 
@@ -117,11 +123,17 @@ fn comparisons_with_a_power_of_two(rt: HostRuntime) -> Result<(), Fail> {
     let alloc = rt.alloc();
     let below_two = Formula::Compare(Comparison::Less, Expr::Word(0), Expr::Number(2, 2));
     let narrow = Condition::show(alloc, one_word(&rt, alloc, 2)?, below_two);
-    assert_eq!(rt; cnf(&rt, alloc, &narrow)?.bytes(), "p cnf 2 1\n2 0\n".as_bytes());
+    assert_eq!(rt;
+        cnf(&rt, alloc, &narrow)?.bytes(),
+        "p cnf 2 1\n2 0\n".as_bytes()
+    );
     let half = Expr::Number(64, 9_223_372_036_854_775_808);
     let below_half = Formula::Compare(Comparison::Less, Expr::Word(0), half);
     let wide = Condition::show(alloc, one_word(&rt, alloc, 64)?, below_half);
-    assert_eq!(rt; cnf(&rt, alloc, &wide)?.bytes(), "p cnf 64 1\n64 0\n".as_bytes());
+    assert_eq!(rt;
+        cnf(&rt, alloc, &wide)?.bytes(),
+        "p cnf 64 1\n64 0\n".as_bytes()
+    );
     Ok(())
 }
 
@@ -165,7 +177,8 @@ fn a_fixed_word(rt: HostRuntime) -> Result<(), Fail> {
         Box::new(alloc, to_itself(Comparison::Equal, 0))?,
     );
     let condition = Condition::show(alloc, layout, goal);
-    let want = "p cnf 6 10\n-4 -1 0\n-4 3 0\n4 1 -3 0\n-5 1 0\n-5 -3 0\n5 -1 3 0\n-6 -4 0\n-6 -5 0\n6 4 5 0\n-6 0\n";
+    let want =
+        "p cnf 6 10\n-4 -1 0\n-4 3 0\n4 1 -3 0\n-5 1 0\n-5 -3 0\n5 -1 3 0\n-6 -4 0\n-6 -5 0\n6 4 5 0\n-6 0\n";
     assert_eq!(rt; cnf(&rt, alloc, &condition)?.bytes(), want.as_bytes());
     assert!(rt; inputs(&condition) == 3);
     let (first, second) = states(alloc, &condition, &[false, true, true])?;
@@ -217,7 +230,10 @@ fn a_step_without_change(rt: HostRuntime) -> Result<(), Fail> {
         alone: false,
         or_no_change: true,
     };
-    assert_eq!(rt; cnf(&rt, alloc, &condition)?.bytes(), "p cnf 2 1\n0\n".as_bytes());
+    assert_eq!(rt;
+        cnf(&rt, alloc, &condition)?.bytes(),
+        "p cnf 2 1\n0\n".as_bytes()
+    );
     assert!(rt; inputs(&condition) == 2);
     let (first, second) = states(alloc, &condition, &[false, true])?;
     assert!(rt; first.len() == 1);

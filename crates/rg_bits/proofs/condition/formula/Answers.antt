@@ -2,8 +2,8 @@ use Rattle.std.proofs.Common.{List, length, sym, ap, ◌∙◌, subst, arith}
 use Rattle.std.proofs.lemmas.Result.{IfOk-weaker}
 use Rattle.rg_gates.specs.declared.Lit.{Lit}
 use Rattle.rg_tree.specs.Conditions.{claim, second_state}
-use Rattle.rg_bits.specs.StandFor.{AreRowsIn, rows_of}
-use Rattle.rg_bits.specs.Conditions.{second_width}
+use Rattle.rg_bits.specs.WordRows.{AreRowsIn, rows_of}
+use Rattle.rg_bits.specs.Inputs.{second_width}
 use Rattle.rg_bits.proofs.ConditionSteps.{length-rows_of}
 use Rattle.rg_bits.proofs.InputRows.{first_in}
 use Rattle.rg_bits.proofs.FormulaLaw.{row_counts, condition_law, before_in, length-before_rows}

@@ -1,9 +1,9 @@
 use Rattle.std.proofs.Common.{◌≡◌, length, map, ap, ◌∙◌}
 use Rattle.rg_words.specs.Layout.{widths_of}
-use Rattle.rg_bits.specs.StandFor.{rows_of}
-use Rattle.rg_bits.specs.Conditions.{total_width}
+use Rattle.rg_bits.specs.WordRows.{rows_of}
+use Rattle.rg_bits.specs.Inputs.{total_width}
 use Rattle.rg_bits.proofs.FormulaLaw.{row_counts}
-use Rattle.rg_bits.proofs.Values.{first_lengths, free_lengths}
+use Rattle.rg_bits.proofs.Widths.{first_lengths, free_lengths}
 use Rattle.rg_bits.proofs.decode.read_second.Goals as goal
 
 pub free_state-requires : goal.free_state-requires

@@ -1,7 +1,8 @@
 use Rattle.std.proofs.Common.{length, map, ap, ◌∙◌}
 use Rattle.rg_tree.specs.Conditions.{claim}
-use Rattle.rg_bits.specs.StandFor.{rows_of}
-use Rattle.rg_bits.proofs.Values.{first_lengths, pair_law, bits_law}
+use Rattle.rg_bits.specs.WordRows.{rows_of}
+use Rattle.rg_bits.proofs.Values.{pair_law, bits_law}
+use Rattle.rg_bits.proofs.Widths.{first_lengths}
 use Rattle.rg_bits.proofs.decode.states.Goals as goal
 
 pub read_state-requires : goal.read_state-requires

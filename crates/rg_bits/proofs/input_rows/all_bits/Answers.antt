@@ -1,5 +1,5 @@
 use Rattle.std.proofs.Common.{arith}
-use Rattle.rg_bits.specs.Conditions.{total_width}
+use Rattle.rg_bits.specs.Inputs.{total_width}
 use Rattle.rg_bits.proofs.InputRows.{total_next, total_limit}
 use Rattle.rg_bits.proofs.input_rows.all_bits.Goals as goal
 

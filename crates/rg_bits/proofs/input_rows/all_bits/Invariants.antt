@@ -1,5 +1,5 @@
 use Rattle.std.proofs.Common.{◌≡◌, ◌+◌, drop}
-use Rattle.rg_bits.specs.Conditions.{total_width}
+use Rattle.rg_bits.specs.Inputs.{total_width}
 use Rattle.rg_bits.proofs.input_rows.all_bits.Given as goal
 
 abbrev pub invariant-loop-k : goal.invariant-loop-k

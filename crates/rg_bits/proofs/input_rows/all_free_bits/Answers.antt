@@ -1,5 +1,5 @@
 use Rattle.std.proofs.Common.{arith}
-use Rattle.rg_bits.specs.Conditions.{free_width}
+use Rattle.rg_bits.specs.Inputs.{free_width}
 use Rattle.rg_bits.proofs.InputRows.{free_next, free_limit}
 use Rattle.rg_bits.proofs.input_rows.all_free_bits.Goals as goal
 

@@ -1,5 +1,5 @@
 use Rattle.std.proofs.Common.{◌≡◌, ◌+◌, drop}
-use Rattle.rg_bits.specs.Conditions.{free_width}
+use Rattle.rg_bits.specs.Inputs.{free_width}
 use Rattle.rg_bits.proofs.input_rows.all_free_bits.Given as goal
 
 abbrev pub invariant-loop-k : goal.invariant-loop-k

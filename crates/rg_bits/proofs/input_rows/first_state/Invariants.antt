@@ -1,6 +1,6 @@
 use Rattle.std.proofs.Common.{◌≡◌, ◌+◌, ◌++◌, drop}
-use Rattle.rg_bits.specs.StandFor.{rows_of}
-use Rattle.rg_bits.specs.Conditions.{first_rows, total_width}
+use Rattle.rg_bits.specs.WordRows.{rows_of}
+use Rattle.rg_bits.specs.Inputs.{first_rows, total_width}
 use Rattle.rg_bits.proofs.input_rows.first_state.Given as goal
 
 abbrev pub invariant-loop-k : goal.invariant-loop-k

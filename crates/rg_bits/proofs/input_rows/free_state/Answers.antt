@@ -1,8 +1,9 @@
 use Rattle.std.proofs.Common.{◌++◌, ◌+◌, sym, ap, ◌∙◌, arith}
-use Rattle.rg_bits.specs.StandFor.{rows_of}
-use Rattle.rg_bits.specs.Conditions.{free_rows, free_width, total_width}
+use Rattle.rg_bits.specs.WordRows.{rows_of}
+use Rattle.rg_bits.specs.Inputs.{free_rows, free_width, total_width}
 use Rattle.rg_bits.proofs.InputRows.{rows_of-nil, free-turn, free_next}
-use Rattle.rg_bits.proofs.ConditionSteps.{row_at, drop_row, length-rows_of}
+use Rattle.rg_bits.proofs.ConditionSteps.{drop_row, length-rows_of}
+use Rattle.rg_bits.proofs.TreeSteps.{row_at}
 use Rattle.rg_bits.proofs.input_rows.free_state.Goals as goal
 
 pub loop-k-init : goal.loop-k-init

@@ -1,6 +1,6 @@
 use Rattle.std.proofs.Common.{◌++◌, ◌∷◌, [], ◌+◌, ◌-◌, false, sym, ap, ◌∙◌, append_assoc, arith}
 use Rattle.rg_gates.specs.declared.Lit.TheVariants.{Variable}
-use Rattle.rg_bits.specs.Conditions.{variables}
+use Rattle.rg_bits.specs.Inputs.{variables}
 use Rattle.rg_bits.proofs.InputRows.{variables_next}
 use Rattle.rg_bits.proofs.input_rows.variable_row.Goals as goal
 

@@ -1,5 +1,5 @@
 use Rattle.std.proofs.Common.{◌≡◌, ◌+◌, ◌-◌, ◌++◌}
-use Rattle.rg_bits.specs.Conditions.{variables}
+use Rattle.rg_bits.specs.Inputs.{variables}
 use Rattle.rg_bits.proofs.input_rows.variable_row.Given as goal
 
 abbrev pub invariant-loop-i : goal.invariant-loop-i

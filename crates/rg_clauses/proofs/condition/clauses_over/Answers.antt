@@ -1,9 +1,7 @@
-use Rattle.std.proofs.Common.{◌≡◌, ◌↔◌, length, ◌∙◌, sym, ap, subst}
-use Rattle.rg_gates.specs.Circuit.{Circuit, variable_count, negation, lit_value}
-use Rattle.rg_gates.specs.declared.Lit.{Lit}
+use Rattle.std.proofs.Common.{◌≡◌, length, ◌∙◌, sym, ap}
+use Rattle.rg_gates.specs.Circuit.{Circuit, variable_count, lit_value}
 use Rattle.rg_tree.specs.Conditions.{claim}
 use Rattle.rg_clauses.specs.Formula.{Formula}
-use Rattle.rg_clauses.specs.Encoding.{IsSatisfiable, CanHold}
 use Rattle.rg_clauses.proofs.Failures.{fails_at, can_be_satisfied, unsatisfiable_holds}
 use Rattle.rg_clauses.proofs.condition.clauses_over.Goals as goal
 
