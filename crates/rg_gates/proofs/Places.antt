@@ -1,15 +1,17 @@
 -- what a look-up by a test of equality finds
-use Rattle.std.proofs.Common.{◌≡◌, ℕ, suc, ◌+◌, ◌<◌, ◌≤◌, Bool, true, false, not, ◌||◌, cond, nat_lt, List, [], ◌∷◌, ◌++◌, length, get_or, Some, None, refl, sym, ap, ◌∙◌, inl, inr, ⊎_elim, subst, arith}
+use Rattle.std.proofs.Common.{◌≡◌, ℕ, suc, ◌+◌, ◌<◌, ◌≤◌, Bool, true, false, not, ◌||◌, cond, nat_lt, List, [], ◌∷◌, ◌++◌, length, get_or, length-append, Some, None, refl, sym, ap, ◌∙◌, inl, inr, ⊎_elim, subst, arith}
 use Rattle.std.specs.Prelude.{MatchOption}
 use Rattle.std.specs.List.{list_any, position_or_len, position}
-use Rattle.std.proofs.lemmas.Bool.{false≢true}
+use Rattle.std.proofs.lemmas.Bool.{cases_lt, false≢true}
 use Rattle.std.proofs.lemmas.Bool.Decides.{nat_tests}
+use Rattle.std.proofs.lemmas.List.{get_or_append_left, get_or_push}
 use Rattle.std.proofs.lemmas.List.Sums.{fails_before_first, passes_at_first, prefix_len-le-length}
 use Rattle.rg_gates.specs.declared.Gate.{Gate}
 use Rattle.rg_gates.specs.declared.Lit.TheVariants.{Variable}
-use Rattle.rg_gates.specs.Circuit.{Circuit, no_gate}
+use Rattle.rg_words.specs.declared.limits.TheConstants.{MOST_VARIABLES}
+use Rattle.rg_gates.specs.Circuit.{Circuit, IsCircuit, IsOperand, variable_count, no_gate}
 use Rattle.rg_gates.specs.And.{TakesGate}
-use Rattle.rg_gates.specs.Table.{IsMissing, IsFirst, IsPlaced}
+use Rattle.rg_gates.specs.Table.{IsMissing, IsFirst, IsPlaced, AreDistinct}
 
 lt-zero : (n : ℕ) → nat_lt 0 (suc n) ≡ true
 lt-zero n = grind (arith, nat_tests)
@@ -73,4 +75,41 @@ taken_by old new g k inputs placed =
     ⊎_elim
     (λ w. inl (k, w.0.0, w.0.1, w.0.2, refl, same w.1))
     (λ w. inr (w.0, ap (λ (j : ℕ). Variable (old.inputs + j + 1) false) w.1, more w.2))
+    placed
+
+distinct_push : (xs : List Gate) (g : Gate) → IsMissing xs g → AreDistinct xs → AreDistinct (xs ++ g ∷ [])
+distinct_push xs g missing distinct j k less small same =
+    let more = length-append xs (g ∷ []) in
+    let before : get_or (xs ++ g ∷ []) j no_gate ≡ get_or xs j no_gate = get_or_append_left xs (g ∷ []) no_gate j (omega (arith, more)) in
+    ⊎_elim
+    (λ inside. distinct j k less inside (sym before ∙ same ∙ get_or_append_left xs (g ∷ []) no_gate k inside))
+    (λ last. missing j (omega (arith, more)) (sym before ∙ same ∙ get_or_push xs g no_gate k (omega (arith, more))))
+    (cases_lt k (length xs))
+
+-- one more gate of variables before it
+circuit_push : (c : Circuit) (gate : Gate) → IsCircuit c → IsOperand (variable_count c) gate.first → IsOperand (variable_count c) gate.second → IsCircuit (record { inputs = c.inputs; gates = c.gates ++ gate ∷ [] })
+circuit_push c gate circuit first second =
+    let at = λ (P : ℕ → Gate → Type 0) (old : (k : ℕ) → k < length c.gates → P (c.inputs + k) (get_or c.gates k no_gate)) (new : P (variable_count c) gate) (k : ℕ) (h : k < length (c.gates ++ gate ∷ [])).
+    ⊎_elim
+    (λ less. let Q : Gate → Type 0 = λ g. P (c.inputs + k) g in subst Q (sym (get_or_append_left c.gates (gate ∷ []) no_gate k less)) (old k less))
+    (λ ge.
+    let e : length c.gates ≡ k = omega (arith, length-append c.gates (gate ∷ []), h) in
+    let Q : Gate → Type 0 = λ g. P (c.inputs + k) g in
+    let R : ℕ → Type 0 = λ n. P (c.inputs + n) gate in
+    subst Q (sym (get_or_push c.gates gate no_gate k e)) (subst R e new))
+    (cases_lt k (length c.gates)) in
+    record {
+      first = at (λ n g. IsOperand n g.first) circuit.first first;
+      second = at (λ n g. IsOperand n g.second) circuit.second second;
+    }
+
+-- gates stay formed where one has its place among them
+pub placed_formed : (inputs : ℕ) (old new : List Gate) (g : Gate) (k : ℕ) → IsPlaced old g k new → inputs + length old < MOST_VARIABLES
+    → IsCircuit (record { inputs = inputs; gates = old }) → IsOperand (inputs + length old) g.first → IsOperand (inputs + length old) g.second → AreDistinct old
+    → (inputs + length new ≤ MOST_VARIABLES) × IsCircuit (record { inputs = inputs; gates = new }) × AreDistinct new
+placed_formed inputs old new g k placed less formed first second distinct =
+    let P : List Gate → Type 0 = λ gates. (inputs + length gates ≤ MOST_VARIABLES) × IsCircuit (record { inputs = inputs; gates = gates }) × AreDistinct gates in
+    ⊎_elim
+    (λ w. subst P (sym w.1) (omega arith, formed, distinct))
+    (λ w. subst P (sym w.2) (omega (arith, length-append old (g ∷ [])), circuit_push (record { inputs = inputs; gates = old }) g formed first second, distinct_push old g w.0 distinct))
     placed

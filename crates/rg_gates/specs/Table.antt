@@ -14,3 +14,7 @@ IsFirst gates gate k = (k < length gates) × (get_or gates k no_gate ≡ gate) �
 -- the place of the gate with these operands, which goes last where it is missing
 abbrev pub IsPlaced : List Gate → Gate → ℕ → List Gate → Type 0
 IsPlaced old gate k new = (IsFirst old gate k × (new ≡ old)) ⊎ (IsMissing old gate × (k ≡ length old) × (new ≡ old ++ gate ∷ []))
+
+-- no two gates have the same operands
+abbrev pub AreDistinct : List Gate → Type 0
+AreDistinct gates = (j k : ℕ) → j < k → k < length gates → get_or gates j no_gate ≢ get_or gates k no_gate
