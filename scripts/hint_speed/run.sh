@@ -6,7 +6,21 @@ set -eu
 here=$(cd "$(dirname "$0")" && pwd)
 root=$(cd "$here/../.." && pwd)
 work=${1:-$(mktemp -d)}
-libraries="rg_words rg_gates rg_clauses rg_hints"
+# rg_hints, and what it stands on
+libraries=$(awk -F: '!/^#/ { uses[$1] = $2 }
+    END {
+        list = " rg_hints "
+        do {
+            grows = 0
+            for (name in uses) {
+                if (!index(list, " " name " ")) continue
+                count = split(uses[name], parts, " ")
+                for (i = 1; i <= count; i++)
+                    if (parts[i] in uses && !index(list, " " parts[i] " ")) { list = list parts[i] " "; grows = 1 }
+            }
+        } while (grows)
+        print list
+    }' "$root/crates.txt")
 
 mkdir -p "$work/crates"
 : > "$work/crates.txt"
