@@ -24,7 +24,7 @@ use Rattle.rg_parse.specs.Syntax.{Term, Claim}
 use Rattle.rg_parse.specs.Build.{claim_of, term_of}
 use Rattle.rg_parse.specs.ResolveFaults.{number_of, width_at, first_name}
 use Rattle.rg_parse.specs.ResolveTyping.{TermStandsFor, ClaimStandsFor, number, word, next_word, inverse, binary, shifted, choice, truth, negation, joined, implied, compared}
-use Rattle.rg_parse.specs.PrintedBack.{names_word, ComparesWordsInside, ComparesWords, StandingComparesWords}
+use Rattle.rg_parse.specs.PrintedBack.{names_word, ComparesWordsInside, ComparesWords, ReadComparesWords}
 
 -- a text in the first line
 abbrev pub printed_leaf : List ℕ → Leaf
@@ -151,12 +151,12 @@ same_first words one_state _ _ _ (shifted w d a x count s small) = same_first wo
 same_first words one_state _ _ _ (choice w f a b p x y q s r) = either_some _ _ _ _ (same_first words one_state w a x s) (same_first words one_state w b y r)
 
 mutual
-  pub standing_compares_words : StandingComparesWords
-  standing_compares_words words one_state _ _ (truth b) = tt
-  standing_compares_words words one_state _ _ (negation f p s) = standing_compares_words words one_state f p s
-  standing_compares_words words one_state _ _ (joined j f g p q s r) = (standing_compares_words words one_state f p s, standing_compares_words words one_state g q r)
-  standing_compares_words words one_state _ _ (implied d f g p q s r) = (standing_compares_words words one_state f p s, standing_compares_words words one_state g q r)
-  standing_compares_words words one_state _ _ (compared c w a b x y s r some) =
+  pub read_compares_words : ReadComparesWords
+  read_compares_words words one_state _ _ (truth b) = tt
+  read_compares_words words one_state _ _ (negation f p s) = read_compares_words words one_state f p s
+  read_compares_words words one_state _ _ (joined j f g p q s r) = (read_compares_words words one_state f p s, read_compares_words words one_state g q r)
+  read_compares_words words one_state _ _ (implied d f g p q s r) = (read_compares_words words one_state f p s, read_compares_words words one_state g q r)
+  read_compares_words words one_state _ _ (compared c w a b x y s r some) =
       (sym (either_some _ _ _ _ (same_first words one_state w a x s) (same_first words one_state w b y r)) ∙ some,
       term_compares_words words one_state w a x s,
       term_compares_words words one_state w b y r)
@@ -169,4 +169,4 @@ mutual
   term_compares_words words one_state _ _ _ (binary w o a b x y s r) = (term_compares_words words one_state w a x s, term_compares_words words one_state w b y r)
   term_compares_words words one_state _ _ _ (shifted w d a x count s small) = term_compares_words words one_state w a x s
   term_compares_words words one_state _ _ _ (choice w f a b p x y q s r) =
-      (standing_compares_words words one_state f p q, term_compares_words words one_state w a x s, term_compares_words words one_state w b y r)
+      (read_compares_words words one_state f p q, term_compares_words words one_state w a x s, term_compares_words words one_state w b y r)

@@ -13,7 +13,9 @@ use Rattle.rg_text.specs.declared.kind.Terminal.TheVariants.{Open, Close, Compar
 use Rattle.rg_tree.specs.Trees.{Expression, Proposition, number, word, next_word, inverse, binary, shifted, choice, truth, negation, connected, compared}
 use Rattle.rg_tree.specs.Typing.{HasWidth, IsTyped}
 use Rattle.rg_tree.specs.Printed.{operator_text, shift_text, comparison_text, connective_text, truth_text, name_text, between, expression_text, formula_text}
-use Rattle.rg_parse.specs.Grammar.{Lexeme, FormulaText, fixed, name, primed, formula, expression}
+use Rattle.rg_text.specs.declared.token.Token.{Token}
+use Rattle.rg_text.specs.Tokenization.{IsTokenized}
+use Rattle.rg_parse.specs.Grammar.{Lexeme, FormulaText, fixed, name, primed, lexeme_of, formula, expression}
 use Rattle.rg_parse.specs.Grammar as grammar
 use Rattle.rg_parse.proofs.PrintedStands.{printed_leaf, connected_as, printed_formula, printed_expression, no_word, within_word, printed_stands}
 use Rattle.rg_parse.proofs.PrintedCuts.{Cut, cut_token, cut_tokens}
@@ -85,9 +87,14 @@ module _ (words : List Word) (layout : IsLayout words) where
         (cut_expression b w fits.2 (41 ∷ rest) (fixed Close ∷ ls) refl
         (cut_close rest ls cut)))))))
 
+-- the tokens of the text
+pub printed_tokens : (words : List Word) (f : Proposition) → IsLayout words → IsTyped (widths_of words) f → (tokens : List Token) × IsTokenized (formula_text words f []) tokens × (map (lexeme_of (formula_text words f [])) tokens ≡ formula (printed_formula words f) [])
+printed_tokens words f layout typed =
+    cut_tokens (formula_text words f []) (formula (printed_formula words f) []) (cut_formula words layout f typed [] [] refl refl)
+
 pub printed_spells : PrintedSpells
 printed_spells words f layout typed named =
-    let read = cut_tokens (formula_text words f []) (formula (printed_formula words f) []) (cut_formula words layout f typed [] [] refl refl) in
+    let read = printed_tokens words f layout typed in
     record {
       tokens = read.0;
       spelling = printed_formula words f;

@@ -41,6 +41,24 @@ abbrev mutual
   ComparesWords (connected c f g) = ComparesWords f × ComparesWords g
   ComparesWords (compared c a b) = IsTrue (names_word a || names_word b) × ComparesWordsInside a × ComparesWordsInside b
 
+abbrev mutual
+  -- how many openers are open at once in the text of an expression, at most
+  pub expression_openers : Expression → ℕ
+  expression_openers (number w n) = 0
+  expression_openers (word k) = 0
+  expression_openers (next_word k) = 0
+  expression_openers (inverse w a) = 1 + expression_openers a
+  expression_openers (binary o w a b) = 1 + max (expression_openers a) (expression_openers b)
+  expression_openers (shifted d w a k) = 1 + expression_openers a
+  expression_openers (choice f a b) = 2 + max (formula_openers f) (max (expression_openers a) (expression_openers b))
+
+  -- and in the text of a formula: `not`, `inv`, each parenthesis, and `if` behind its own
+  pub formula_openers : Proposition → ℕ
+  formula_openers (truth b) = 0
+  formula_openers (negation f) = 1 + formula_openers f
+  formula_openers (connected c f g) = 1 + max (formula_openers f) (formula_openers g)
+  formula_openers (compared c a b) = 1 + max (expression_openers a) (expression_openers b)
+
 -- the tokens of the bytes are, whatever their number and depth, a formula that stands for this one over the words
 pub record SpellsAtAnySize (words : List Word) (source : List ℕ) (f : Proposition) : Type 0 where
   pub tokens : List Token
@@ -53,6 +71,15 @@ pub record SpellsAtAnySize (words : List Word) (source : List ℕ) (f : Proposit
 abbrev pub PrintedSpells : Type 0
 PrintedSpells = (words : List Word) (f : Proposition) → IsLayout words → IsTyped (widths_of words) f → ComparesWords f → SpellsAtAnySize words (formula_text words f []) f
 
--- a formula that a text stands for is such a formula
-abbrev pub StandingComparesWords : Type 0
-StandingComparesWords = (words : List Word) (one_state : Bool) (c : Claim) (f : Proposition) → ClaimStandsFor words one_state c f → ComparesWords f
+-- it is read as this formula, where it is within the limits
+abbrev pub PrintedIsRead : Type 0
+PrintedIsRead = (words : List Word) (f : Proposition) → IsLayout words → IsTyped (widths_of words) f → ComparesWords f
+    → length (formula_text words f []) ≤ MOST_TEXT_BYTES → formula_openers f ≤ MOST_OPENERS → SpellsFormula words (formula_text words f []) f
+
+-- in a formula that a text stands for each comparison has a word
+abbrev pub ReadComparesWords : Type 0
+ReadComparesWords = (words : List Word) (one_state : Bool) (c : Claim) (f : Proposition) → ClaimStandsFor words one_state c f → ComparesWords f
+
+-- so a formula that was read over the words of a layout is spelled by its own text
+abbrev pub ReadPrintsBack : Type 0
+ReadPrintsBack = (words : List Word) (one_state : Bool) (c : Claim) (f : Proposition) → IsLayout words → ClaimStandsFor words one_state c f → SpellsAtAnySize words (formula_text words f []) f
