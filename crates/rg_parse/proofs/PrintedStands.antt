@@ -1,12 +1,12 @@
 -- How a printed formula is written, and that it stands for the formula.
-use Rattle.std.proofs.Common.{◌≡◌, ℕ, zero, suc, ◌+◌, ◌-◌, ◌<◌, ◌≤◌, ◌^◌, Bool, true, false, ◌||◌, List, [], ◌∷◌, ◌++◌, length, take, get_or, Option, Some, None, refl, sym, ap, subst, ◌∙◌, arith, length-append}
-use Rattle.std.specs.Prelude.{is_some, IsTrue}
+use Rattle.std.proofs.Common.{◌≡◌, ℕ, ◌-◌, ◌<◌, ◌≤◌, ◌^◌, Bool, false, ◌||◌, List, [], ◌∷◌, ◌++◌, length, take, Option, Some, None, refl, sym, ap, subst, ◌∙◌, arith, length-append}
+use Rattle.std.specs.Prelude.{is_some}
 use Rattle.std.specs.Option.{option_or}
 use Rattle.std.specs.Fmt.{decimal}
 use Rattle.std.proofs.lemmas.Fmt.{decimal_is_IsNumeral}
 use Rattle.std.proofs.Math.Nat.{pow-le-pow_right}
 use Rattle.std.proofs.lemmas.List.{get_or-map, length-map, take-append-le, take_all}
-use Rattle.rg_words.specs.Layout.{Word, IsLayout, index_of, names_of, widths_of}
+use Rattle.rg_words.specs.Layout.{Word, IsLayout, index_of, widths_of}
 use Rattle.rg_words.specs.declared.operators.Connective.{Connective}
 use Rattle.rg_words.specs.declared.operators.Connective.TheVariants as connectives
 use Rattle.rg_words.proofs.Words.{found_by_name}
@@ -22,7 +22,7 @@ use Rattle.rg_parse.specs.Grammar as grammar
 use Rattle.rg_parse.specs.Syntax as written
 use Rattle.rg_parse.specs.Syntax.{Term, Claim}
 use Rattle.rg_parse.specs.Build.{claim_of, term_of}
-use Rattle.rg_parse.specs.ResolveFaults.{number_of, width_at, first_name}
+use Rattle.rg_parse.specs.ResolveFaults.{number_of, first_name}
 use Rattle.rg_parse.specs.ResolveTyping.{TermStandsFor, ClaimStandsFor, number, word, next_word, inverse, binary, shifted, choice, truth, negation, joined, implied, compared}
 use Rattle.rg_parse.specs.PrintedBack.{names_word, ComparesWordsInside, ComparesWords, ReadComparesWords}
 
@@ -156,10 +156,11 @@ mutual
   read_compares_words words one_state _ _ (negation f p s) = read_compares_words words one_state f p s
   read_compares_words words one_state _ _ (joined j f g p q s r) = (read_compares_words words one_state f p s, read_compares_words words one_state g q r)
   read_compares_words words one_state _ _ (implied d f g p q s r) = (read_compares_words words one_state f p s, read_compares_words words one_state g q r)
-  read_compares_words words one_state _ _ (compared c w a b x y s r some) =
-      (sym (either_some _ _ _ _ (same_first words one_state w a x s) (same_first words one_state w b y r)) ∙ some,
-      term_compares_words words one_state w a x s,
-      term_compares_words words one_state w b y r)
+  read_compares_words words one_state _ _ (compared c w a b x y s r some) = (
+    sym (either_some _ _ _ _ (same_first words one_state w a x s) (same_first words one_state w b y r)) ∙ some,
+    term_compares_words words one_state w a x s,
+    term_compares_words words one_state w b y r,
+  )
 
   term_compares_words : (words : List Word) (one_state : Bool) (w : ℕ) (t : Term) (e : Expression) → TermStandsFor words one_state w t e → ComparesWordsInside e
   term_compares_words words one_state _ _ _ (number w x small) = tt

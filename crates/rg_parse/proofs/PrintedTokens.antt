@@ -1,5 +1,5 @@
 -- The words, numbers and symbols of a printed text are tokens.
-use Rattle.std.proofs.Common.{◌≡◌, ℕ, zero, suc, ◌+◌, ◌<◌, ◌≤◌, ◌^◌, Bool, true, false, not, ◌&&◌, cond, eqb, List, [], ◌∷◌, ◌++◌, length, take, get_or, Option, Some, None, refl, sym, ap, subst, ◌∙◌, arith, codes, append_assoc, length-append}
+use Rattle.std.proofs.Common.{◌≡◌, ℕ, ◌+◌, ◌<◌, ◌^◌, Bool, true, false, not, ◌&&◌, eqb, List, [], ◌∷◌, ◌++◌, length, take, get_or, Option, Some, None, refl, ap, subst, ◌∙◌, arith, codes, append_assoc, length-append}
 use Rattle.std.specs.Prelude.{is_none}
 use Rattle.std.specs.List.{prefix_len, list_all}
 use Rattle.std.specs.Char.{is_ascii_digit}
@@ -18,8 +18,7 @@ use Rattle.rg_words.specs.declared.operators.Operator.{Operator}
 use Rattle.rg_words.specs.declared.operators.Operator.TheVariants as operators
 use Rattle.rg_words.specs.declared.operators.Shift.{Shift}
 use Rattle.rg_words.specs.declared.operators.Shift.TheVariants as shifts
-use Rattle.rg_words.specs.Names.{is_word_start, is_word_byte, is_keyword, is_word, is_name, IsName}
-use Rattle.rg_text.specs.declared.kind.Kind.{Kind}
+use Rattle.rg_words.specs.Names.{is_word_start, is_word_byte, is_word, is_name, IsName}
 use Rattle.rg_text.specs.declared.kind.Kind.TheVariants.{Name, Primed, Number, Fixed}
 use Rattle.rg_text.specs.declared.kind.Terminal.{Terminal}
 use Rattle.rg_text.specs.declared.kind.Terminal.TheVariants.{Open, Close, Compare, Operate, ShiftBy, Join, Imply, Truth, Not, Inv, If, Then, Else}
@@ -35,7 +34,7 @@ use Rattle.rg_tree.specs.Printed.{operator_text, shift_text, comparison_text, co
 use Rattle.rg_parse.specs.Grammar.{Lexeme, fixed}
 use Rattle.rg_parse.proofs.PrintedCuts.{Cut, IsToken, cut_space, cut_token}
 
--- what may stand behind a word or a number: nothing, or a byte that is none of a word and no prime
+-- what may stand behind a word or a number: nothing, or a byte that is no part of a word and no prime
 abbrev pub ends_word : List ℕ → Bool
 ends_word [] = true
 ends_word (b ∷ bs) = not (is_word_byte b) && not (eqb b 39)
@@ -91,7 +90,7 @@ pub word_token : (text rest : List ℕ) → is_word text ≡ true → ends_word 
 word_token [] rest h e = cc
 word_token (b ∷ bs) rest h e = record {
   longest = subst (λ t. IsLongest (b ∷ bs ++ rest) (length (b ∷ bs)) (named (keyword_of t))) (take-append_seam (b ∷ bs) rest)
-    (subst (λ n. IsLongest (b ∷ bs ++ rest) n (named (keyword_of (take n (b ∷ bs ++ rest))))) far (longest_word b (bs ++ rest) start (no_prime_there (is_none (keyword_of (take (prefix_len is_word_byte (b ∷ bs ++ rest)) (b ∷ bs ++ rest)))))));
+      (subst (λ n. IsLongest (b ∷ bs ++ rest) n (named (keyword_of (take n (b ∷ bs ++ rest))))) far (longest_word b (bs ++ rest) start (no_prime_there (is_none (keyword_of (take (prefix_len is_word_byte (b ∷ bs ++ rest)) (b ∷ bs ++ rest)))))));
   gapless = gapless_at b (bs ++ rest) (word_of_start b start);
 }
   where
@@ -208,8 +207,8 @@ cut_between text t s ls spaced h =
 pub cut_before_space : (text : List ℕ) (t : Terminal) (s : List ℕ) (ls : List Lexeme) → IsSpaced text t → Cut s ls → Cut (text ++ 32 ∷ s) (fixed t ∷ ls)
 cut_before_space text t s ls spaced h = cut_token text (32 ∷ s) (Fixed t) ls (spaced s) (cut_space ls s h)
 
-one_byte : (a : ℕ) (t : Terminal) → is_word_start a ≡ false → is_ascii_digit a ≡ false → gap_len (a ∷ []) ≡ 0 → symbol_of (a ∷ 32 ∷ []) ≡ None → symbol_of (a ∷ []) ≡ Some t → (is_white_space a ≡ false) → (eqb a 35 ≡ false) → IsSpaced (a ∷ []) t
-one_byte a t w d g two one space hash s = record { longest = longest_short a w d (32 ∷ s) t (λ room. two) one; gapless = rw (space, hash) refl }
+one_byte : (a : ℕ) (t : Terminal) → is_word_start a ≡ false → is_ascii_digit a ≡ false → symbol_of (a ∷ 32 ∷ []) ≡ None → symbol_of (a ∷ []) ≡ Some t → (is_white_space a ≡ false) → (eqb a 35 ≡ false) → IsSpaced (a ∷ []) t
+one_byte a t w d two one space hash s = record { longest = longest_short a w d (32 ∷ s) t (λ room. two) one; gapless = rw (space, hash) refl }
 
 two_bytes : (a b : ℕ) (t : Terminal) → is_word_start a ≡ false → is_ascii_digit a ≡ false → symbol_of (a ∷ b ∷ []) ≡ Some t → (is_white_space a ≡ false) → (eqb a 35 ≡ false) → IsSpaced (a ∷ b ∷ []) t
 two_bytes a b t w d two space hash s = record { longest = longest_long a w d (b ∷ 32 ∷ s) t (omega arith) two; gapless = rw (space, hash) refl }
@@ -219,8 +218,8 @@ spaced_word text t w k s = keyword_token text (32 ∷ s) t w k refl
 
 pub operator_spaced : (o : Operator) → IsSpaced (operator_text o) (Operate o)
 unfolding symbol_of keyword_of
-operator_spaced operators.Add = one_byte 43 (Operate operators.Add) refl refl refl refl refl refl refl
-operator_spaced operators.Subtract = one_byte 45 (Operate operators.Subtract) refl refl refl refl refl refl refl
+operator_spaced operators.Add = one_byte 43 (Operate operators.Add) refl refl refl refl refl refl
+operator_spaced operators.Subtract = one_byte 45 (Operate operators.Subtract) refl refl refl refl refl refl
 operator_spaced operators.BitAnd = spaced_word (codes "band") (Operate operators.BitAnd) refl refl
 operator_spaced operators.BitOr = spaced_word (codes "bor") (Operate operators.BitOr) refl refl
 operator_spaced operators.BitXor = spaced_word (codes "bxor") (Operate operators.BitXor) refl refl
@@ -232,11 +231,11 @@ shift_spaced shifts.Right = spaced_word (codes "shr") (ShiftBy shifts.Right) ref
 
 pub comparison_spaced : (c : Comparison) → IsSpaced (comparison_text c) (Compare c)
 unfolding symbol_of
-comparison_spaced comparisons.Equal = one_byte 61 (Compare comparisons.Equal) refl refl refl refl refl refl refl
+comparison_spaced comparisons.Equal = one_byte 61 (Compare comparisons.Equal) refl refl refl refl refl refl
 comparison_spaced comparisons.NotEqual = two_bytes 33 61 (Compare comparisons.NotEqual) refl refl refl refl refl
-comparison_spaced comparisons.Less = one_byte 60 (Compare comparisons.Less) refl refl refl refl refl refl refl
+comparison_spaced comparisons.Less = one_byte 60 (Compare comparisons.Less) refl refl refl refl refl refl
 comparison_spaced comparisons.LessOrEqual = two_bytes 60 61 (Compare comparisons.LessOrEqual) refl refl refl refl refl
-comparison_spaced comparisons.Greater = one_byte 62 (Compare comparisons.Greater) refl refl refl refl refl refl refl
+comparison_spaced comparisons.Greater = one_byte 62 (Compare comparisons.Greater) refl refl refl refl refl refl
 comparison_spaced comparisons.GreaterOrEqual = two_bytes 62 61 (Compare comparisons.GreaterOrEqual) refl refl refl refl refl
 
 -- the keyword of a connective
