@@ -10,4 +10,5 @@ pub mod ResolveFaults
 pub mod ResolveTrees
 pub mod ResolveWords
 pub mod Shown
+pub mod PrintedBack
 pub mod ResolveTyping

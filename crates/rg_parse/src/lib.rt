@@ -5,6 +5,7 @@ pub mod build;
 pub mod declare;
 pub mod parse;
 pub mod point;
+pub mod printed;
 pub mod resolve;
 pub mod shape;
 pub mod show;
