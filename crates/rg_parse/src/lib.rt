@@ -1,15 +1,17 @@
 //! The parser: from tokens to typed trees, or the first fault.
 #![tactic(auto)]
 
-pub mod build;
+mod build;
 pub mod declare;
 pub mod parse;
-pub mod point;
+mod point;
 pub mod printed;
 pub mod resolve;
 pub mod shape;
 pub mod show;
 pub mod syntax;
+
+pub use point::TextKind;
 
 #[cfg(test)]
 mod tests;
