@@ -12,7 +12,7 @@ for crate in rg_words rg_tree rg_gates rg_bits rg_clauses; do
     grep "^$crate:" "$root/crates.txt" >> "$work/crates.txt"
 done
 echo "gate_speed: rg_words rg_gates rg_clauses" >> "$work/crates.txt"
-cp "$here/main.rt" "$work/crates/gate_speed/src/"
+cp "$here/main.rt.txt" "$work/crates/gate_speed/src/main.rt"
 (cd "$work/crates/gate_speed" && rt run > "$work/log" 2>&1) || { tail -n 30 "$work/log"; exit 1; }
 "$work/crates/gate_speed/out/gate_speed"
 if command -v rustc > /dev/null; then

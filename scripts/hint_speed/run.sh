@@ -34,6 +34,8 @@ echo "hint_speed: rg_words rg_clauses rg_hints" >> "$work/crates.txt"
 rm -rf "$work/crates/hint_speed/src" "$work/crates/hint_speed/proofs"
 mkdir -p "$work/crates/hint_speed"
 cp -r "$here/program/src" "$here/program/proofs" "$work/crates/hint_speed/"
+# The files end in .txt here, since the gate takes each .rt and .antt file for a crate's.
+find "$work/crates/hint_speed" -name '*.txt' | while read -r file; do mv "$file" "${file%.txt}"; done
 
 rustc -O -o "$work/plain" "$here/plain.rs"
 "$work/plain" make "$work" 10
