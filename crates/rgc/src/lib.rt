@@ -13,3 +13,6 @@ pub use commands::{Files, perform};
 pub use fields::FieldFault;
 pub use line::{Line, LineFault};
 pub use shown::{clauses, valid};
+
+#[cfg(test)]
+mod tests;

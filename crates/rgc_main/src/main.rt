@@ -55,9 +55,12 @@ fn run(rt: &HostRuntime, line: &Line<'_>) -> u8 {
     status
 }
 
-/// The words of the command line.
+/// The words of the command line, with the program's name as its users know it.
 fn words_of(rt: &HostRuntime) -> io::Result<Vec<String>> {
-    let words = env::args(rt)?.collect(rt.alloc())?;
+    let mut words: Vec<String> = env::args(rt)?.collect(rt.alloc())?;
+    if let Some(name) = words.first_mut() {
+        *name = String::from_str(rt.alloc(), "rgc")?;
+    }
     Ok(words)
 }
 

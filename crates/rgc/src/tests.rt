@@ -1,0 +1,226 @@
+//! Whole texts: what is told of each, by the commands over files in memory.
+
+use crate::command::Command;
+use crate::commands::{Files, perform};
+use crate::line::Line;
+use rg_words::{Fuse, Out, Taker};
+use std::alloc::{AllocError, Global};
+use std::test::Fail;
+
+/// What a command answered: its status, its output and its faults.
+#[derive(Drop)]
+struct Answer {
+    status: u8,
+    out: Taker,
+    faults: Taker,
+}
+
+/// The answer of `clauses` on a text.
+fn clauses_of(alloc: Global, text: &str) -> Answer {
+    let line = Line {
+        command: Command::Clauses { text: "text" },
+    };
+    let files = Files {
+        text: Some(text.as_bytes()),
+        proofs: None,
+    };
+    let mut out = Taker::new(alloc, 1 << 20);
+    let mut faults = Taker::new(alloc, 1 << 20);
+    let status = perform(alloc, &line, &files, &mut out, &mut faults);
+    Answer {
+        status,
+        out,
+        faults,
+    }
+}
+
+/// The answer of `valid` on a text and proofs, to writers that take so many bytes a call.
+fn valid_of(alloc: Global, text: Option<&[u8]>, proofs: Option<&[u8]>, most: usize) -> Answer {
+    let line = Line {
+        command: Command::Valid {
+            text: "text",
+            proofs: "proofs",
+        },
+    };
+    let files = Files { text, proofs };
+    let mut out = Taker::new(alloc, most);
+    let mut faults = Taker::new(alloc, most);
+    let status = perform(alloc, &line, &files, &mut out, &mut faults);
+    Answer {
+        status,
+        out,
+        faults,
+    }
+}
+
+/// A text of a front, a piece so many times, and an end.
+fn repeated(
+    alloc: Global,
+    front: &str,
+    piece: &str,
+    count: usize,
+    end: &str,
+) -> Result<String, AllocError> {
+    let mut text = String::from_str(alloc, front)?;
+    for _ in 0..count {
+        text.push_str(piece)?;
+    }
+    text.push_str(end)?;
+    Ok(text)
+}
+
+const FIRST: &str = "words x:1 y:1 show (((x = 1) and (y = 1)) implies (x = 1))";
+
+#[test]
+fn refuses_the_first_fault(rt: HostRuntime) -> Result<(), Fail> {
+    let rows = [
+        ("words x:8 y:4 show (x = y)", "refused 7 text line 1\n"),
+        ("words x:8 show ((3 + x) < 300)", "refused 6 text line 1\n"),
+        ("words x:8 show (x = (if (5 = 5) then x else 0))", "refused 8 text line 1\n"),
+        ("words x:65 show true", "refused 5 text line 1\n"),
+        ("words x:0 show true", "refused 5 text line 1\n"),
+        ("words x:1 show (x = z)", "refused 3 text line 1\n"),
+        ("words x:1 x:1 show true", "refused 4 text line 1\n"),
+        ("words x:1 show (5 = 5)", "refused 8 text line 1\n"),
+        ("words x:8 show (x = 256)", "refused 6 text line 1\n"),
+        ("words x:64 show\n(x = 18446744073709551616)", "refused 6 text line 2\n"),
+        ("words x:8 show ((x shl 64) = 0)", "refused 6 text line 1\n"),
+        ("words x:1 show (x = 1) )", "refused 2 text line 1\n"),
+        ("words x:99 show )", "refused 2 text line 1\n"),
+        ("words x:1\nshow (x =", "refused 12 text line 2\n"),
+        ("", "refused 12 text line 1\n"),
+        ("words x:1\n#\0\nshow \0", "refused 1 text line 3\n"),
+        ("pre true", "refused 2 text line 1\n"),
+    ];
+    for (text, fault) in rows {
+        let answer = clauses_of(rt.alloc(), text);
+        assert!(rt; answer.faults.bytes() == fault.as_bytes());
+    }
+    Ok(())
+}
+
+#[test]
+fn reads_what_is_within_the_limits(rt: HostRuntime) -> Result<(), Fail> {
+    let rows = [
+        ("words x:8 show (x = 255)", "p cnf 15 22\n"),
+        ("words x:8 show ((x shl 63) = 0)", "p cnf 8 1\n0\n"),
+        ("words x:1 show ((x = 1) or not (x = 1))", "p cnf 1 1\n0\n"),
+        ("words x:1 show false", "p cnf 1 0\n"),
+        ("words x:2 show (x < 2)", "p cnf 2 1\n2 0\n"),
+        ("words x:33 show true", "p cnf 33 1\n0\n"),
+        ("words x:64 show (x < 9223372036854775808)", "p cnf 64 1\n64 0\n"),
+    ];
+    for (text, begin) in rows {
+        let answer = clauses_of(rt.alloc(), text);
+        assert!(rt; answer.status == 0 && answer.out.bytes().starts_with(begin.as_bytes()));
+    }
+    Ok(())
+}
+
+#[test]
+fn counts_openers_and_operands(rt: HostRuntime) -> Result<(), Fail> {
+    let rows = [
+        ("words x:1 show ", "not ", 200, "true", ""),
+        ("words x:1 show ", "not ", 201, "true", "refused 10 text line 1\n"),
+        ("words x:1 show (true", " and true", 63, ")", ""),
+        ("words x:1 show (true", " and true", 64, ")", "refused 10 text line 1\n"),
+    ];
+    for (front, piece, count, end, fault) in rows {
+        let text = repeated(rt.alloc(), front, piece, count, end)?;
+        let answer = clauses_of(rt.alloc(), &text);
+        assert!(rt; answer.faults.bytes() == fault.as_bytes());
+    }
+    Ok(())
+}
+
+/// `words` and so many words, each on a line of its own.
+fn declared(alloc: Global, count: u32) -> Result<String, AllocError> {
+    let mut text = String::from_str(alloc, "words ")?;
+    for number in 0..count {
+        let word = format!(in alloc; "w{number}:1\n")?;
+        text.push_str(&word)?;
+    }
+    text.push_str("show true")?;
+    Ok(text)
+}
+
+#[test]
+fn counts_words(rt: HostRuntime) -> Result<(), Fail> {
+    let most = declared(rt.alloc(), 64)?;
+    assert!(rt; clauses_of(rt.alloc(), &most).status == 0);
+    let more = declared(rt.alloc(), 65)?;
+    let answer = clauses_of(rt.alloc(), &more);
+    assert!(rt; answer.faults.bytes() == b"refused 11 text line 65\n");
+    Ok(())
+}
+
+#[test]
+fn counts_bytes(rt: HostRuntime) -> Result<(), Fail> {
+    let text = repeated(rt.alloc(), "", " ", 1_048_577, "")?;
+    let answer = clauses_of(rt.alloc(), &text);
+    assert!(rt; answer.faults.bytes() == b"refused 11 text line 1\n");
+    Ok(())
+}
+
+#[test]
+fn says_whether_the_lines_prove_the_formula(rt: HostRuntime) -> Result<(), Fail> {
+    let rows = [
+        (FIRST, "8 0 7 5 1 4 0", 0, "holds\n", ""),
+        (FIRST, "8 0 7 1 5 4 0", 1, "", "refused 45 proofs line 1\n"),
+        (FIRST, "8 0 7 5 1 4", 1, "", "refused 41 proofs line 1\n"),
+        (FIRST, "8 0 7 5 1 4 0\n8 0 7 5 1 4 0", 1, "", "refused 43 proofs line 2\n"),
+        (FIRST, "8 99 0 7 5 1 4 0", 1, "", "refused 47 proofs condition 1\n"),
+        (FIRST, "section 1", 1, "", "refused 41 proofs line 1\n"),
+        ("words x:1 show ((x = 1) or not (x = 1))", "", 0, "holds\n", ""),
+        ("words x:1 show ((x' = x) or (x' != x))", "", 0, "holds\n", ""),
+        ("words x:1 show false", "1 0 1 0", 1, "", "refused 44 proofs line 1\n"),
+        ("words x:1 show false", "", 1, "", "refused 47 proofs condition 1\n"),
+        ("words x:1 show (x = y)", "", 1, "", "refused 3 text line 1\n"),
+    ];
+    for (text, proofs, status, printed, fault) in rows {
+        let answer = valid_of(rt.alloc(), Some(text.as_bytes()), Some(proofs.as_bytes()), 1);
+        assert!(rt; answer.status == status);
+        assert!(rt; answer.out.bytes() == printed.as_bytes() && answer.faults.bytes() == fault.as_bytes());
+    }
+    Ok(())
+}
+
+#[test]
+fn tells_the_first_file_that_is_missing(rt: HostRuntime) -> Result<(), Fail> {
+    let neither = valid_of(rt.alloc(), None, None, 64);
+    assert!(rt; neither.status == 3 && neither.faults.bytes() == b"device text\n");
+    let text = valid_of(rt.alloc(), Some(b")"), None, 64);
+    assert!(rt; text.status == 3 && text.faults.bytes() == b"device proofs\n");
+    Ok(())
+}
+
+#[test]
+fn tells_a_failing_output(rt: HostRuntime) -> Result<(), Fail> {
+    let line = Line {
+        command: Command::Clauses { text: "text" },
+    };
+    let files = Files {
+        text: Some(FIRST.as_bytes()),
+        proofs: None,
+    };
+    let whole = clauses_of(rt.alloc(), FIRST);
+    for calls in 0..40 {
+        let mut out = Fuse::new(Taker::new(rt.alloc(), 1), calls);
+        let mut faults = Taker::new(rt.alloc(), 64);
+        let status = perform(rt.alloc(), &line, &files, &mut out, &mut faults);
+        assert!(rt; status == 3 && faults.bytes() == b"refused 63\n");
+        assert!(rt; whole.out.bytes().starts_with(out.inner().bytes()));
+    }
+    Ok(())
+}
+
+#[test]
+fn reads_the_command_line(rt: HostRuntime) -> Result<(), Fail> {
+    let words = ["rgc", "valid", "a", "b"];
+    let read = Line::read(rt.alloc(), words.as_slice()).ok();
+    let found = matches!(&read, Some(line) if matches!(&line.command, Command::Valid { text: "a", proofs: "b" }));
+    assert!(rt; found);
+    let lone = ["rgc", "clauses"];
+    assert!(rt; Line::read(rt.alloc(), lone.as_slice()).is_err());
+    Ok(())
+}
