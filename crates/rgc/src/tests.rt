@@ -150,7 +150,7 @@ fn counts_words(rt: HostRuntime) -> Result<(), Fail> {
     assert!(rt; clauses_of(rt.alloc(), &most).status == 0);
     let more = declared(rt.alloc(), 65)?;
     let answer = clauses_of(rt.alloc(), &more);
-    assert!(rt; answer.faults.bytes() == b"refused 11 text line 65\n");
+    assert!(rt; answer.faults.bytes() == b"refused 11 text line 65\n".as_slice());
     Ok(())
 }
 
@@ -158,7 +158,7 @@ fn counts_words(rt: HostRuntime) -> Result<(), Fail> {
 fn counts_bytes(rt: HostRuntime) -> Result<(), Fail> {
     let text = repeated(rt.alloc(), "", " ", 1_048_577, "")?;
     let answer = clauses_of(rt.alloc(), &text);
-    assert!(rt; answer.faults.bytes() == b"refused 11 text line 1\n");
+    assert!(rt; answer.faults.bytes() == b"refused 11 text line 1\n".as_slice());
     Ok(())
 }
 
@@ -188,9 +188,9 @@ fn says_whether_the_lines_prove_the_formula(rt: HostRuntime) -> Result<(), Fail>
 #[test]
 fn tells_the_first_file_that_is_missing(rt: HostRuntime) -> Result<(), Fail> {
     let neither = valid_of(rt.alloc(), None, None, 64);
-    assert!(rt; neither.status == 3 && neither.faults.bytes() == b"device text\n");
-    let text = valid_of(rt.alloc(), Some(b")"), None, 64);
-    assert!(rt; text.status == 3 && text.faults.bytes() == b"device proofs\n");
+    assert!(rt; neither.status == 3 && neither.faults.bytes() == b"device text\n".as_slice());
+    let text = valid_of(rt.alloc(), Some(b")".as_slice()), None, 64);
+    assert!(rt; text.status == 3 && text.faults.bytes() == b"device proofs\n".as_slice());
     Ok(())
 }
 
@@ -208,7 +208,7 @@ fn tells_a_failing_output(rt: HostRuntime) -> Result<(), Fail> {
         let mut out = Fuse::new(Taker::new(rt.alloc(), 1), calls);
         let mut faults = Taker::new(rt.alloc(), 64);
         let status = perform(rt.alloc(), &line, &files, &mut out, &mut faults);
-        assert!(rt; status == 3 && faults.bytes() == b"refused 63\n");
+        assert!(rt; status == 3 && faults.bytes() == b"refused 63\n".as_slice());
         assert!(rt; whole.out.bytes().starts_with(out.inner().bytes()));
     }
     Ok(())
