@@ -22,7 +22,7 @@ pub enum Expr {
 }
 
 /// A formula.
-#[derive(Debug, Drop)]
+#[derive(Debug)]
 #[cycle(tree)]
 pub enum Formula {
     Truth(bool),
@@ -30,4 +30,26 @@ pub enum Formula {
     Connect(Connective, Box<Formula>, Box<Formula>),
     /// Both sides are compared as unsigned numbers.
     Compare(Comparison, Expr, Expr),
+}
+
+/// A chain leans to the left, and may have thousands of operands: a loop lets go of it, and calls itself for the right operands alone.
+impl Drop for Formula {
+    #[cycle(tree)]
+    fn drop(mut self) {
+        loop {
+            match self {
+                Formula::Truth(_) => return,
+                Formula::Compare(_, a, b) => {
+                    drop(a);
+                    drop(b);
+                    return;
+                }
+                Formula::Not(f) => self = Box::into_inner(f),
+                Formula::Connect(_, f, g) => {
+                    drop(g);
+                    self = Box::into_inner(f);
+                }
+            }
+        }
+    }
 }
