@@ -18,7 +18,7 @@ pub enum Expr {
 }
 
 /// A formula.
-#[derive(Debug, Drop)]
+#[derive(Debug)]
 #[cycle(syntax)]
 pub enum Formula {
     Truth(bool),
@@ -26,6 +26,32 @@ pub enum Formula {
     Joined(Junction, Box<Formula>, Box<Formula>),
     Implied(Conditional, Box<Formula>, Box<Formula>),
     Compared(Comparison, Expr, Expr),
+}
+
+/// A chain leans to the left, and may have thousands of operands: a loop lets go of it, and calls itself for the right operands alone.
+impl Drop for Formula {
+    #[cycle(syntax)]
+    fn drop(mut self) {
+        loop {
+            match self {
+                Formula::Truth(_) => return,
+                Formula::Compared(_, a, b) => {
+                    drop(a);
+                    drop(b);
+                    return;
+                }
+                Formula::Not(f) => self = Box::into_inner(f),
+                Formula::Joined(_, f, g) => {
+                    drop(g);
+                    self = Box::into_inner(f);
+                }
+                Formula::Implied(_, f, g) => {
+                    drop(g);
+                    self = Box::into_inner(f);
+                }
+            }
+        }
+    }
 }
 
 /// A declaration of a word: the tokens of its name and of its width.
