@@ -19,6 +19,8 @@ mod formula;
 mod group;
 pub(crate) mod leaf;
 mod scope;
+#[cfg(test)]
+mod tests;
 
 use crate::declare::declare;
 use crate::syntax;
