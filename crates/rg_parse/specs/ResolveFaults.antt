@@ -1,5 +1,5 @@
 -- The faults of meaning of a formula: a list over its leaves, in the order of the text.
-use Rattle.std.specs.Prelude.{◌≡◌, ℕ, ◌-◌, ◌^◌, Bool, false, cond, not, nat_eq, nat_lt, nat_le, List, [], ◌∷◌, ◌++◌, length, take, slice_index, Option, Some, None, ◌⊎◌}
+use Rattle.std.specs.Prelude.{◌≡◌, ℕ, ◌^◌, Bool, false, cond, not, nat_eq, nat_lt, nat_le, List, [], ◌∷◌, ◌++◌, slice_index, Option, Some, None, ◌⊎◌}
 use Rattle.std.specs.Option.{option_or}
 use Rattle.std.specs.Str.Parse.{digits_value}
 use Rattle.rg_words.specs.declared.limits.TheConstants.{MOST_SHIFT}
