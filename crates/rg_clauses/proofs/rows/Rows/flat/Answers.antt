@@ -1,4 +1,4 @@
-use Rattle.std.proofs.Common.{◌≡◌, List, sym, ap, ◌∙◌}
+use Rattle.std.proofs.Common.{sym, ap, ◌∙◌}
 use Rattle.rg_clauses.specs.Rows.{joined, places_from}
 use Rattle.rg_clauses.proofs.Pieces.{joined_pieces, places_of_pieces}
 use Rattle.rg_clauses.proofs.rows.Rows.flat.Goals as goal
