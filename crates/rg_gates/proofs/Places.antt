@@ -73,7 +73,7 @@ taken_by old new g k inputs placed =
     let same : new.gates ≡ old.gates → new ≡ old = λ e. (λ i. record { inputs = inputs i; gates = e i }) in
     let more : new.gates ≡ old.gates ++ g ∷ [] → new ≡ record { inputs = old.inputs; gates = old.gates ++ g ∷ [] } = λ e. (λ i. record { inputs = inputs i; gates = e i }) in
     ⊎_elim
-    (λ w. inl (k, w.0.0, w.0.1, w.0.2, refl, same w.1))
+    (λ w. inl (k, w.0, refl, same w.1))
     (λ w. inr (w.0, ap (λ (j : ℕ). Variable (old.inputs + j + 1) false) w.1, more w.2))
     placed
 
