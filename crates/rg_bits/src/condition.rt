@@ -1,4 +1,4 @@
-// Gates for conditions.
+//! Gates for conditions.
 
 ghost use Rattle.std.specs.Prelude.{◌≡◌, ◌<◌, ◌≤◌, ◌+◌, IfOk, OnOk, length, map, cond, List, Bool, ℕ, ◌++◌};
 ghost use Rattle.rg_gates.specs.declared.GateError.TheVariants.{TooManyVariables};
@@ -262,6 +262,14 @@ fn second_rows(
 }
 
 /// The literal of a condition: true under the bits of two states exactly where the condition holds of them.
+///
+/// Each hypothesis is built and joined to those before it, in their order; then the assignments, the goal, and, where a
+/// step that changes nothing meets the goal too, whether each word is as before. Nothing is left out though it is constant.
+///
+/// # Errors
+///
+/// `TooManyVariables` where inputs and gates would be more than `MOST_VARIABLES`. After an error the gates that were made
+/// stay behind the older ones.
 pub fn formula<T: Table>(
     alloc: Global,
     gates: &mut Gates<T>,

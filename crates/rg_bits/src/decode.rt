@@ -1,6 +1,7 @@
 //! The states that input bits stand for.
 
 ghost use Rattle.std.specs.Prelude.{◌≡◌, ◌≤◌, IfOk, cond, length, map, take};
+ghost use Rattle.rg_words.specs.declared.limits.TheConstants.{MOST_WIDTH};
 ghost use Rattle.rg_gates.specs.Circuit.{lit_value};
 ghost use Rattle.rg_words.specs.Layout.{widths_of};
 ghost use Rattle.rg_words.specs.States.{IsPair};
@@ -39,7 +40,7 @@ fn bit_of(values: &[bool], literal: Lit) -> u64
 
 /// The number that a row stands for.
 fn row_number(values: &[bool], row: &[Lit]) -> u64
-    requires { length row.now ≤ 64 }
+    requires { length row.now ≤ MOST_WIDTH }
     ensures { result ≡ row_value values.now row.now }
 {
     let mut number = 0;
@@ -87,8 +88,8 @@ fn read_second(
     }
 }
 
-/// The states that have these values as their input bits, each value counted as `inputs` counts them; further values are
-/// not looked at. The second state is there only where the condition speaks of any two states.
+/// The states whose input bits are the first of these values, in the order in which `inputs` counts them. Further values
+/// are not looked at. The second state is there only where the condition speaks of any two states.
 pub fn states(
     alloc: Global,
     condition: &Condition,

@@ -1,4 +1,4 @@
-// Gates for expressions and formulas.
+//! Gates for expressions and formulas.
 
 ghost use Rattle.std.specs.Prelude.{◌≡◌, ◌<◌, IfOk, length};
 ghost use Rattle.rg_gates.specs.declared.GateError.TheVariants.{TooManyVariables};

@@ -1,8 +1,9 @@
 //! The input bits of a condition.
 
-ghost use Rattle.std.specs.Prelude.{◌≡◌, ◌<◌, ◌≤◌, ◌+◌, ◌^◌, ℕ, IfOk, cond, length, slice_index, slice_index_or, false};
+ghost use Rattle.std.specs.Prelude.{◌≡◌, ◌<◌, ◌≤◌, ◌+◌, ◌*◌, ℕ, IfOk, cond, length, slice_index, slice_index_or, false};
 ghost use Rattle.rg_bits.specs.WordRows.{rows_of};
 ghost use Rattle.rg_bits.specs.Inputs.{variables, first_rows, free_rows, total_width, free_width, inputs_of};
+ghost use Rattle.rg_words.specs.declared.limits.TheConstants.{MOST_WORDS, MOST_WIDTH, MOST_VARIABLES};
 ghost use Rattle.rg_words.specs.Layout.{widths_of, fixed_of};
 ghost use Rattle.rg_tree.specs.Conditions.{claim};
 
@@ -13,7 +14,7 @@ use std::alloc::{AllocError, Global};
 
 /// So many variables, after the given one.
 fn variable_row(alloc: Global, after: u32, width: u32) -> Result<Vec<Lit>, AllocError>
-    requires { after + width ≤ 16777216 }
+    requires { after + width ≤ MOST_VARIABLES }
     ensures items { IfOk result (λ r. r.items ≡ variables after width) }
 {
     let mut row = Vec::new(alloc);
@@ -50,7 +51,7 @@ fn free_row(
     after: u32,
     first: &[Lit],
 ) -> Result<Vec<Lit>, AllocError>
-    requires { after + cond fixed 0 width ≤ 16777216 }
+    requires { after + cond fixed 0 width ≤ MOST_VARIABLES }
     ensures items { IfOk result (λ r. r.items ≡ cond fixed first.now (variables after width)) }
 {
     if fixed {
@@ -91,7 +92,7 @@ fn free_bits(words: &Layout, k: usize) -> u32
 #[tactic(auto, using(crate::proofs::InputRows::input_steps))]
 pub fn all_bits(words: &Layout) -> u32
     ensures count { result ≡ total_width words.now }
-    ensures limit { result ≤ 4096 }
+    ensures limit { result ≤ MOST_WORDS * MOST_WIDTH }
 {
     let mut bits = 0;
     for k in 0..words.len() {
@@ -104,7 +105,7 @@ pub fn all_bits(words: &Layout) -> u32
 #[tactic(auto, using(crate::proofs::InputRows::input_steps))]
 fn all_free_bits(words: &Layout) -> u32
     ensures count { result ≡ free_width words.now }
-    ensures limit { result ≤ 4096 }
+    ensures limit { result ≤ MOST_WORDS * MOST_WIDTH }
 {
     let mut bits = 0;
     for k in 0..words.len() {
@@ -117,7 +118,7 @@ fn all_free_bits(words: &Layout) -> u32
 /// low bit on, and then, where the second state is any state, those of its words that aren't fixed.
 pub fn inputs(condition: &Condition) -> u32
     ensures count { result ≡ inputs_of (claim condition.now) }
-    ensures limit { result ≤ 8192 }
+    ensures limit { result ≤ MOST_VARIABLES }
 {
     let first = all_bits(&condition.layout);
     match condition.second {

@@ -1,4 +1,4 @@
-// The connectives on literals.
+//! The connectives on literals.
 
 ghost use Rattle.std.specs.Prelude.{◌≡◌, ◌<◌, IfOk};
 ghost use Rattle.rg_gates.specs.declared.GateError.TheVariants.{TooManyVariables};

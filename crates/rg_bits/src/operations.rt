@@ -1,4 +1,4 @@
-// The operations, comparisons and connectives of formulas.
+//! The operations, comparisons and connectives of formulas.
 
 ghost use Rattle.std.specs.Prelude.{◌≡◌, ◌<◌, ◌≤◌, IfOk, if◌then◌else◌};
 ghost use Rattle.rg_gates.specs.declared.GateError.TheVariants.{TooManyVariables};

@@ -1,4 +1,4 @@
-// Operations on rows of literals, the low bit first.
+//! Operations on rows of literals, the low bit first.
 
 ghost use Rattle.std.specs.Prelude.{◌≡◌, ◌<◌, ◌-◌, IfOk, length};
 ghost use Rattle.rg_gates.specs.declared.GateError.TheVariants.{TooManyVariables};
