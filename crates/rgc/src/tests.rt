@@ -76,14 +76,20 @@ fn refuses_the_first_fault(rt: HostRuntime) -> Result<(), Fail> {
     let rows = [
         ("words x:8 y:4 show (x = y)", "refused 7 text line 1\n"),
         ("words x:8 show ((3 + x) < 300)", "refused 6 text line 1\n"),
-        ("words x:8 show (x = (if (5 = 5) then x else 0))", "refused 8 text line 1\n"),
+        (
+            "words x:8 show (x = (if (5 = 5) then x else 0))",
+            "refused 8 text line 1\n",
+        ),
         ("words x:65 show true", "refused 5 text line 1\n"),
         ("words x:0 show true", "refused 5 text line 1\n"),
         ("words x:1 show (x = z)", "refused 3 text line 1\n"),
         ("words x:1 x:1 show true", "refused 4 text line 1\n"),
         ("words x:1 show (5 = 5)", "refused 8 text line 1\n"),
         ("words x:8 show (x = 256)", "refused 6 text line 1\n"),
-        ("words x:64 show\n(x = 18446744073709551616)", "refused 6 text line 2\n"),
+        (
+            "words x:64 show\n(x = 18446744073709551616)",
+            "refused 6 text line 2\n",
+        ),
         ("words x:8 show ((x shl 64) = 0)", "refused 6 text line 1\n"),
         ("words x:1 show (x = 1) )", "refused 2 text line 1\n"),
         ("words x:99 show )", "refused 2 text line 1\n"),
@@ -108,7 +114,10 @@ fn reads_what_is_within_the_limits(rt: HostRuntime) -> Result<(), Fail> {
         ("words x:1 show false", "p cnf 1 0\n"),
         ("words x:2 show (x < 2)", "p cnf 2 1\n2 0\n"),
         ("words x:33 show true", "p cnf 33 1\n0\n"),
-        ("words x:64 show (x < 9223372036854775808)", "p cnf 64 1\n64 0\n"),
+        (
+            "words x:64 show (x < 9223372036854775808)",
+            "p cnf 64 1\n64 0\n",
+        ),
     ];
     for (text, begin) in rows {
         let answer = clauses_of(rt.alloc(), text);
@@ -121,9 +130,21 @@ fn reads_what_is_within_the_limits(rt: HostRuntime) -> Result<(), Fail> {
 fn counts_openers_and_operands(rt: HostRuntime) -> Result<(), Fail> {
     let rows = [
         ("words x:1 show ", "not ", 200, "true", ""),
-        ("words x:1 show ", "not ", 201, "true", "refused 10 text line 1\n"),
+        (
+            "words x:1 show ",
+            "not ",
+            201,
+            "true",
+            "refused 10 text line 1\n",
+        ),
         ("words x:1 show (true", " and true", 63, ")", ""),
-        ("words x:1 show (true", " and true", 64, ")", "refused 10 text line 1\n"),
+        (
+            "words x:1 show (true",
+            " and true",
+            64,
+            ")",
+            "refused 10 text line 1\n",
+        ),
     ];
     for (front, piece, count, end, fault) in rows {
         let text = repeated(rt.alloc(), front, piece, count, end)?;
@@ -168,19 +189,68 @@ fn says_whether_the_lines_prove_the_formula(rt: HostRuntime) -> Result<(), Fail>
         (FIRST, "8 0 7 5 1 4 0", 0, "holds\n", ""),
         (FIRST, "8 0 7 1 5 4 0", 1, "", "refused 45 proofs line 1\n"),
         (FIRST, "8 0 7 5 1 4", 1, "", "refused 41 proofs line 1\n"),
-        (FIRST, "8 0 7 5 1 4 0\n8 0 7 5 1 4 0", 1, "", "refused 43 proofs line 2\n"),
-        (FIRST, "8 99 0 7 5 1 4 0", 1, "", "refused 47 proofs condition 1\n"),
+        (
+            FIRST,
+            "8 0 7 5 1 4 0\n8 0 7 5 1 4 0",
+            1,
+            "",
+            "refused 43 proofs line 2\n",
+        ),
+        (
+            FIRST,
+            "8 99 0 7 5 1 4 0",
+            1,
+            "",
+            "refused 47 proofs condition 1\n",
+        ),
         (FIRST, "section 1", 1, "", "refused 41 proofs line 1\n"),
-        ("words x:1 show ((x = 1) or not (x = 1))", "", 0, "holds\n", ""),
-        ("words x:1 show ((x' = x) or (x' != x))", "", 0, "holds\n", ""),
-        ("words x:1 show false", "1 0 1 0", 1, "", "refused 44 proofs line 1\n"),
-        ("words x:1 show false", "", 1, "", "refused 47 proofs condition 1\n"),
-        ("words x:1 show (x = y)", "", 1, "", "refused 3 text line 1\n"),
+        (
+            "words x:1 show ((x = 1) or not (x = 1))",
+            "",
+            0,
+            "holds\n",
+            "",
+        ),
+        (
+            "words x:1 show ((x' = x) or (x' != x))",
+            "",
+            0,
+            "holds\n",
+            "",
+        ),
+        (
+            "words x:1 show false",
+            "1 0 1 0",
+            1,
+            "",
+            "refused 44 proofs line 1\n",
+        ),
+        (
+            "words x:1 show false",
+            "",
+            1,
+            "",
+            "refused 47 proofs condition 1\n",
+        ),
+        (
+            "words x:1 show (x = y)",
+            "",
+            1,
+            "",
+            "refused 3 text line 1\n",
+        ),
     ];
     for (text, proofs, status, printed, fault) in rows {
-        let answer = valid_of(rt.alloc(), Some(text.as_bytes()), Some(proofs.as_bytes()), 1);
+        let answer = valid_of(
+            rt.alloc(),
+            Some(text.as_bytes()),
+            Some(proofs.as_bytes()),
+            1,
+        );
         assert!(rt; answer.status == status);
-        assert!(rt; answer.out.bytes() == printed.as_bytes() && answer.faults.bytes() == fault.as_bytes());
+        assert!(rt;
+            answer.out.bytes() == printed.as_bytes() && answer.faults.bytes() == fault.as_bytes()
+        );
     }
     Ok(())
 }
@@ -218,7 +288,8 @@ fn tells_a_failing_output(rt: HostRuntime) -> Result<(), Fail> {
 fn reads_the_command_line(rt: HostRuntime) -> Result<(), Fail> {
     let words = ["rgc", "valid", "a", "b"];
     let read = Line::read(rt.alloc(), words.as_slice()).ok();
-    let found = matches!(&read, Some(line) if matches!(&line.command, Command::Valid { text: "a", proofs: "b" }));
+    let found =
+        matches!(&read, Some(line) if matches!(&line.command, Command::Valid { text: "a", proofs: "b" }));
     assert!(rt; found);
     let lone = ["rgc", "clauses"];
     assert!(rt; Line::read(rt.alloc(), lone.as_slice()).is_err());
