@@ -9,6 +9,7 @@ mod analysis;
 mod answer;
 mod circuit;
 mod code;
+mod judgement;
 mod leaders;
 mod lemma;
 mod log;
@@ -24,3 +25,4 @@ mod table;
 mod tests;
 
 pub use answer::{Found, find};
+pub use judgement::{Judged, judge};

@@ -1,0 +1,62 @@
+//! Whether a condition is true, by a search: lines that prove it, or states at which it fails.
+
+ghost use Rattle.std.specs.Prelude.{◌≡◌, IfOk, IfErr};
+ghost use Rattle.rg_words.specs.declared.refusal.Place.TheVariants.{Condition as the_condition};
+ghost use Rattle.rg_tree.specs.Conditions.{claim};
+ghost use Rattle.rg_find.specs.Judged.{IsJudged, IsJudgeRefusal};
+
+use crate::answer::{Found, find};
+use rg_bits::states;
+use rg_clauses::Clauses;
+use rg_hints::Lines;
+use rg_tree::condition::Condition;
+use rg_words::{Refusal, SourceFile, State};
+use std::alloc::Global;
+
+/// What was found of a condition.
+#[derive(Drop)]
+pub enum Judged {
+    /// It is true: lines that close its clauses.
+    Holds(Lines),
+    /// It fails at this state, and at the second one where it speaks of any two.
+    Fails(State, Option<State>),
+    /// All decisions were used up.
+    GaveUp,
+}
+
+/// Looks for lines that prove a condition or for states at which it fails, as `find` does on its clauses. The file and the
+/// condition's number, from 1, are for a refusal alone.
+///
+/// # Errors
+///
+/// `Limit` at this condition of this file where it has too many variables; then `Limit`, without a file and a place, where more than
+/// `MOST_DECISIONS` are asked for.
+pub fn judge(
+    alloc: Global,
+    condition: &Condition,
+    file: SourceFile,
+    number: u64,
+    steps: u64,
+) -> Result<Judged, Refusal>
+    // Lines are closed for its clauses, and it is true; or it fails at the states.
+    ensures judged { IfOk result (IsJudged (claim condition.now)) }
+    ensures refusal { IfErr result (IsJudgeRefusal (claim condition.now) file number steps) }
+{
+    let clauses = match Clauses::of(alloc, condition, file, number) {
+        Ok(clauses) => clauses,
+        Err(refusal) => return Err(refusal),
+    };
+    let _inputs = clauses.inputs();
+    let found = match find(alloc, &clauses, steps) {
+        Ok(found) => found,
+        Err(refusal) => return Err(refusal),
+    };
+    match found {
+        Found::Lines(lines) => Ok(Judged::Holds(lines)),
+        Found::Values(values) => {
+            let (first, second) = states(alloc, condition, &values)?;
+            Ok(Judged::Fails(first, second))
+        }
+        Found::GaveUp => Ok(Judged::GaveUp),
+    }
+}
