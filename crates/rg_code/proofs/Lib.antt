@@ -1,3 +1,5 @@
 pub mod Operations
-pub mod Compile
+pub mod CodeOfStatements
 pub mod Views
+pub mod Limits
+pub mod Legal

@@ -140,7 +140,7 @@ module _ (code : List BlockTree) where
 
 -- how many blocks the code has
 mutual
-  length-code_of : (s : Statement) (first next : ℕ) → length (code_of s first next) ≡ count_of s
+  pub length-code_of : (s : Statement) (first next : ℕ) → length (code_of s first next) ≡ count_of s
   length-code_of (skip row) first next = refl
   length-code_of (assign row a) first next = refl
   length-code_of (await row b act) first next = refl
