@@ -1,2 +1,3 @@
 pub mod Derivations
+pub mod Faults
 pub mod View
