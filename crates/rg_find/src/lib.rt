@@ -1,0 +1,26 @@
+//! Looks for hint lines that close clauses, or for values that satisfy them.
+//!
+//! The search is conflict-driven (J. P. Marques-Silva and K. A. Sakallah, "GRASP: a search algorithm for propositional
+//! satisfiability", 1999; M. Moskewicz, C. Madigan, Y. Zhao, L. Zhang and S. Malik, "Chaff: engineering an efficient SAT solver",
+//! 2001), after a sweep over the gates. Nothing is promised of either: what they find is checked before it is given.
+#![tactic(auto)]
+
+mod analysis;
+mod answer;
+mod circuit;
+mod code;
+mod leaders;
+mod lemma;
+mod log;
+mod logged_lines;
+mod order;
+mod reduction;
+mod search;
+mod simulation;
+mod solver;
+mod sweep;
+mod table;
+#[cfg(test)]
+mod tests;
+
+pub use answer::{Found, find};

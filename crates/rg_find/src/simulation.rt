@@ -1,0 +1,118 @@
+//! Values of a circuit's gates under many inputs, 64 at a time, and the hash of what each gate has shown.
+
+use crate::circuit::Circuit;
+use crate::code::{Code, variable_of};
+use crate::table::{at, put};
+use std::alloc::{AllocError, Global};
+
+const MULTIPLIER: u64 = 0x9e37_79b9_7f4a_7c15;
+
+#[derive(Drop)]
+pub struct Simulation {
+    /// By variable, of which 0 is false: the values under the last 64 inputs.
+    words: Vec<u64>,
+    /// By variable: the hash of all values so far; gates that were equal, or opposite, have the same one.
+    hashes: Vec<u64>,
+    /// By variable: all bits where its first value was true, so that it stands for its negation.
+    flips: Vec<u64>,
+    random: u64,
+}
+
+impl Simulation {
+    pub fn new(alloc: Global, circuit: &Circuit) -> Result<Self, AllocError> {
+        let size = circuit.variables().saturating_add(1);
+        let mut simulation = Simulation {
+            words: vec![in alloc; 0; size]?,
+            hashes: vec![in alloc; 0; size]?,
+            flips: vec![in alloc; 0; size]?,
+            random: MULTIPLIER,
+        };
+        simulation.draw_inputs(circuit, 0);
+        simulation.run(circuit);
+        for variable in 0..size {
+            let first = at(&simulation.words, variable, 0) & 1;
+            put(&mut simulation.flips, variable, 0u64.wrapping_sub(first));
+        }
+        simulation.absorb();
+        Ok(simulation)
+    }
+
+    /// 64 random bits, after G. Marsaglia ("Xorshift RNGs", 2003).
+    pub fn draw(&mut self) -> u64 {
+        let mut x = self.random;
+        x ^= x << 13;
+        x ^= x >> 7;
+        x ^= x << 17;
+        self.random = x;
+        x.wrapping_mul(MULTIPLIER)
+    }
+
+    /// Draws all inputs: alike often true and false, seldom true, or seldom false.
+    fn draw_inputs(&mut self, circuit: &Circuit, round: usize) {
+        for variable in 1..circuit.inputs.saturating_add(1) {
+            let mut word = self.draw();
+            if round % 4 == 2 {
+                word &= self.draw() & self.draw();
+            } else if round % 4 == 3 {
+                word |= self.draw() | self.draw();
+            }
+            put(&mut self.words, variable, word);
+        }
+    }
+
+    fn word_of(&self, literal: Code) -> u64 {
+        let word = at(&self.words, variable_of(literal), 0);
+        if literal & 1 == 1 { !word } else { word }
+    }
+
+    /// The values of all gates.
+    fn run(&mut self, circuit: &Circuit) {
+        let mut variable = circuit.inputs;
+        for gate in &circuit.gates {
+            variable = variable.saturating_add(1);
+            let word = self.word_of(gate.first) & self.word_of(gate.second);
+            put(&mut self.words, variable, word);
+        }
+    }
+
+    /// Takes the last values into the hashes.
+    fn absorb(&mut self) {
+        for variable in 0..self.words.len() {
+            let word = at(&self.words, variable, 0) ^ at(&self.flips, variable, 0);
+            let mixed = (at(&self.hashes, variable, 0) ^ word).wrapping_mul(MULTIPLIER);
+            put(&mut self.hashes, variable, mixed ^ (mixed >> 29));
+        }
+    }
+
+    /// Looks at 64 further inputs.
+    pub fn look(&mut self, circuit: &Circuit, round: usize) {
+        self.draw_inputs(circuit, round);
+        self.run(circuit);
+        self.absorb();
+    }
+
+    /// Looks at one input, a bit for each variable, and at 63 that differ from it in a few bits.
+    pub fn look_near(&mut self, circuit: &Circuit, values: &[bool]) {
+        for variable in 1..circuit.inputs.saturating_add(1) {
+            let same = if at(values, variable, false) {
+                u64::MAX
+            } else {
+                0
+            };
+            let turned = self.draw() & self.draw() & self.draw();
+            put(&mut self.words, variable, same ^ (turned & !1));
+        }
+        self.run(circuit);
+        self.absorb();
+    }
+
+    pub fn hash(&self, variable: usize) -> u64 {
+        at(&self.hashes, variable, 0)
+    }
+
+    /// The literal of a variable that was false under the first inputs.
+    pub fn literal(&self, variable: usize) -> Code {
+        let code = u32::try_from(variable.saturating_mul(2)).unwrap_or(0);
+        code | (at(&self.flips, variable, 0) & 1) as u32
+    }
+}
