@@ -5,3 +5,6 @@ pub mod Find
 pub mod Fitting
 pub mod Faults
 pub mod Demands
+pub mod Typed
+pub mod Sound
+pub mod Counts

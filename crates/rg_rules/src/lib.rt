@@ -1,9 +1,11 @@
 //! Derivations of parts by the six rules of a part, after Xu, de Roever and He (Formal Aspects of Computing 9, 1997).
 #![tactic(auto)]
 
+mod conditions;
 mod derivation;
 mod fits;
 mod laws;
+mod names;
 mod table;
 
 pub use derivation::{Derivation, Line, Rule};
