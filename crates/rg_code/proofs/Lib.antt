@@ -1,2 +1,5 @@
-pub mod Compile
+pub mod Operations
+pub mod CodeOfStatements
 pub mod Views
+pub mod Limits
+pub mod Legal

@@ -6,8 +6,7 @@ use Rattle.rg_tree.specs.Statements.{PartTree}
 use Rattle.rg_tree.specs.Traces.{State, Move, Own, Env, Step, move_of, view, IsTraceOf}
 use Rattle.rg_tree.specs.Programs.{ViewsRun, all_true, IsRun}
 use Rattle.rg_code.specs.Code.{BlockTree, Makes_step, is_end, CodeRuns, PlacesGo, all_at_end, AllCodeRuns, zeros, IsCodeRun, program_code, CompilerIsRight}
-use Rattle.rg_code.proofs.Compile.{part_to, part_from}
-use Rattle.rg_words.specs.Layout.{Word}
+use Rattle.rg_code.proofs.CodeOfStatements.{part_to, part_from}
 
 -- the view of each part, numbered from i, is a run of its code from its place
 abbrev CodeViews : ℕ → List (List BlockTree) → List ℕ → List Bool → State → List Step → Type 0

@@ -1,25 +1,36 @@
 -- Flat code: blocks with targets, one place for each part, its runs, and the code of a program.
-use Rattle.std.specs.Prelude.{◌≡◌, ◌≢◌, ℕ, suc, ◌+◌, Bool, true, false, ◌&&◌, List, [], ◌∷◌, ◌++◌, if◌then◌else◌, Option, Some, None, slice_get, length, ◌↔◌}
+use Rattle.std.specs.Prelude.{◌≡◌, ◌≢◌, ℕ, suc, ◌+◌, Bool, true, false, ◌&&◌, List, [], ◌∷◌, ◌++◌, if◌then◌else◌, Option, Some, None, option_and_then, option_map, map, slice_get, slice_set, length, ◌↔◌}
 use Rattle.rg_words.specs.Layout.{Word}
-use Rattle.rg_tree.specs.Trees.{Proposition, Assignment}
+use Rattle.rg_tree.specs.Trees.{Assignment}
 use Rattle.rg_tree.specs.Statements.{Statement, skip, assign, await, sequence, branch, loop, Items, one, more, PartTree, ProgramTree}
-use Rattle.rg_tree.specs.Claims.{assigned}
-use Rattle.rg_tree.specs.Traces.{State, holds_at, Move, Own, Env, Step, IsTraceOf}
+use Rattle.rg_tree.specs.Traces.{State, Move, Own, Env, Step, IsTraceOf}
 use Rattle.rg_tree.specs.Programs.{IsRun}
+use Rattle.rg_code.specs.Operations.{left_by, told_by, expression_operations, formula_operations}
+use Rattle.rg_code.specs.declared.operation.Operation.{Operation}
 
--- a block, with the places that it leads to
+-- a store: the number that the operations leave goes to a word
+pub record StoreTree : Type 0 where
+  pub target : ℕ
+  pub value : List Operation
+
+-- a block: its line, the places that it leads to, its guard, and its stores
 pub data BlockTree : Type 0 where
-  do_block : ℕ → ℕ → List Assignment → BlockTree
-  await_block : ℕ → ℕ → Proposition → List Assignment → BlockTree
-  test_block : ℕ → ℕ → ℕ → Proposition → BlockTree
+  do_block : ℕ → ℕ → List StoreTree → BlockTree
+  await_block : ℕ → ℕ → List Operation → List StoreTree → BlockTree
+  test_block : ℕ → ℕ → ℕ → List Operation → BlockTree
   end_block : BlockTree
+
+-- the state after stores, in order, if the operations of each leave a number
+abbrev pub stored : List StoreTree → State → Option State
+stored [] s = Some s
+stored (a ∷ act) s = option_and_then (λ x. stored act (slice_set s a.target x)) (left_by a.value s)
 
 -- the block may lead from s to t, and to this place
 abbrev pub Makes_step : Option BlockTree → State → State → ℕ → Type 0
 Makes_step None s t to = ⊥
-Makes_step (Some (do_block row next act)) s t to = (t ≡ assigned act s) × (to ≡ next)
-Makes_step (Some (await_block row next b act)) s t to = (holds_at b s ≡ true) × (t ≡ assigned act s) × (to ≡ next)
-Makes_step (Some (test_block row yes_place no_place b)) s t to = (t ≡ s) × (to ≡ (if holds_at b s then yes_place else no_place))
+Makes_step (Some (do_block row next act)) s t to = (stored act s ≡ Some t) × (to ≡ next)
+Makes_step (Some (await_block row next b act)) s t to = (told_by b s ≡ Some true) × (stored act s ≡ Some t) × (to ≡ next)
+Makes_step (Some (test_block row yes_place no_place b)) s t to = (t ≡ s) × (option_map (λ v. if v then yes_place else no_place) (told_by b s) ≡ Some to)
 Makes_step (Some end_block) s t to = ⊥
 
 abbrev pub is_end : Option BlockTree → Bool
@@ -75,16 +86,20 @@ abbrev mutual
   count_of_items (one s) = count_of s
   count_of_items (more s items) = count_of s + count_of_items items
 
+-- the store of an assignment
+abbrev pub store_of : Assignment → StoreTree
+store_of a = record { target = a.target; value = expression_operations a.value }
+
 -- the blocks of a statement whose first block stands at place first, and after which comes the block at place next
 abbrev mutual
   pub code_of : Statement → ℕ → ℕ → List BlockTree
   code_of (skip row) first next = do_block row next [] ∷ []
-  code_of (assign row a) first next = do_block row next (a ∷ []) ∷ []
-  code_of (await row b act) first next = await_block row next b act ∷ []
+  code_of (assign row a) first next = do_block row next (store_of a ∷ []) ∷ []
+  code_of (await row b act) first next = await_block row next (formula_operations b) (map store_of act) ∷ []
   code_of (sequence row s items) first next = code_of s first (first + count_of s) ++ code_of_items items (first + count_of s) next
   code_of (branch row b s t) first next =
-      test_block row (suc first) (suc first + count_of s) b ∷ (code_of s (suc first) next ++ code_of t (suc first + count_of s) next)
-  code_of (loop row b s) first next = test_block row (suc first) next b ∷ code_of s (suc first) first
+      test_block row (suc first) (suc first + count_of s) (formula_operations b) ∷ (code_of s (suc first) next ++ code_of t (suc first + count_of s) next)
+  code_of (loop row b s) first next = test_block row (suc first) next (formula_operations b) ∷ code_of s (suc first) first
 
   pub code_of_items : Items → ℕ → ℕ → List BlockTree
   code_of_items (one s) first next = code_of s first next

@@ -1,1 +1,6 @@
+pub mod Operations
 pub mod Code
+pub mod BlockView
+pub mod Legal
+pub mod LegalProof
+pub mod CodeTrees

@@ -47,7 +47,7 @@ both_none true fault rest h = cc
 both_none false fault rest h = (refl, h)
 
 -- a word that is found is one of them
-found_within : (words : List Word) (name : List ℕ) (k : ℕ) → index_of words name ≡ Some k → k < length words
+pub found_within : (words : List Word) (name : List ℕ) (k : ℕ) → index_of words name ≡ Some k → k < length words
 found_within [] name k h = cc
 found_within (w ∷ ws) name k h = (position-Some (λ v. bytes_eq name v.name) (w ∷ ws) k w h).0
 

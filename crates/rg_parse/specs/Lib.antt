@@ -12,3 +12,4 @@ pub mod ResolveWords
 pub mod Shown
 pub mod PrintedBack
 pub mod ResolveTyping
+pub mod ResolveSettings

@@ -2,14 +2,14 @@
 use Rattle.std.specs.Prelude.{◌≡◌, ℕ, ◌^◌, Bool, false, cond, not, nat_eq, nat_lt, nat_le, List, [], ◌∷◌, ◌++◌, slice_index, Option, Some, None, ◌⊎◌}
 use Rattle.std.specs.Option.{option_or}
 use Rattle.std.specs.Str.Parse.{digits_value}
-use Rattle.rg_words.specs.declared.limits.TheConstants.{MOST_SHIFT}
+use Rattle.rg_words.specs.declared.limits.TheConstants.{MOST_PLAIN_NUMBER, MOST_SHIFT}
 use Rattle.rg_words.specs.declared.refusal.Refusal.{Refusal}
 use Rattle.rg_words.specs.declared.refusal.SourceFile.{SourceFile}
 use Rattle.rg_words.specs.declared.refusal.RefusalNumber.{RefusalNumber}
 use Rattle.rg_words.specs.declared.refusal.RefusalNumber.TheVariants.{UnknownName, NumberTooLarge, WidthsDiffer, WidthUnknown, Prime}
 use Rattle.rg_words.specs.Refusals.{no_memory, refused_at}
 use Rattle.rg_words.specs.Layout.{Word, index_of, widths_of}
-use Rattle.rg_text.specs.Text.{unprimed}
+use Rattle.rg_text.specs.Text.{Leaf, unprimed}
 use Rattle.rg_parse.specs.Syntax.{Term, Claim, number, word, next_word, inverse, binary, shifted, choice, truth, negation, joined, implied, compared}
 use Rattle.rg_parse.specs.declared.resolve.group.Group.{Group}
 use Rattle.rg_parse.specs.declared.resolve.group.Group.TheVariants.{Width, Unasked, Wordless}
@@ -78,6 +78,10 @@ abbrev pub number_faults : Group → ℕ → ℕ → List Fault
 number_faults (Width w) line n = unless (nat_lt n (2 ^ w)) NumberTooLarge line
 number_faults Unasked line n = []
 number_faults Wordless line n = record { number = WidthUnknown; line = line } ∷ []
+
+-- the fault of a number that is of no group and no word: it is too large
+abbrev pub plain_faults : Leaf → List Fault
+plain_faults n = unless (nat_le (number_of n.text) MOST_PLAIN_NUMBER) NumberTooLarge n.line
 
 -- the faults of an expression of a group, and of a formula
 abbrev mutual

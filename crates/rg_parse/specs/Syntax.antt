@@ -1,5 +1,5 @@
 -- What a text says before its names are known, without where it lies in memory.
-use Rattle.std.specs.Prelude.{ℕ, Bool, List, map}
+use Rattle.std.specs.Prelude.{ℕ, Bool, List, [], ◌∷◌, map}
 use Rattle.rg_words.specs.declared.operators.Comparison.{Comparison}
 use Rattle.rg_words.specs.declared.operators.Operator.{Operator}
 use Rattle.rg_words.specs.declared.operators.Shift.{Shift}
@@ -12,6 +12,14 @@ use Rattle.rg_parse.specs.declared.syntax.Formula.{Formula}
 use Rattle.rg_parse.specs.declared.syntax.Formula.TheVariants.{Truth, Not', Joined', Implied', Compared}
 use Rattle.rg_parse.specs.declared.syntax.Declaration.{Declaration}
 use Rattle.rg_parse.specs.declared.syntax.ShowText.{ShowText}
+use Rattle.rg_parse.specs.declared.syntax.Setting.{Setting}
+use Rattle.rg_parse.specs.declared.syntax.MoveText.{MoveText}
+use Rattle.rg_parse.specs.declared.syntax.Assigned.{Assigned}
+use Rattle.rg_parse.specs.declared.syntax.Statement.{Statement, Row_of-Statement, end_of-Statement, more_of-Statement}
+use Rattle.rg_parse.specs.declared.syntax.Statement.TheVariants as variants
+use Rattle.rg_parse.specs.declared.syntax.SpecText.{SpecText}
+use Rattle.rg_parse.specs.declared.syntax.PartText.{PartText}
+use Rattle.rg_parse.specs.declared.syntax.ProgramText.{ProgramText}
 
 -- an expression and a formula as written
 mutual
@@ -64,3 +72,85 @@ pub record ShownClaim : Type 0 where
 
 abbrev pub show_text : List ℕ → ShowText → ShownClaim
 show_text src s = record { words = map (declared_word src) s.words.items; formula = claim src s.formula }
+
+-- a word and the number that it is set to, as written
+pub record SettingTree : Type 0 where
+  pub word : Leaf
+  pub value : Leaf
+
+abbrev pub setting : List ℕ → Setting → SettingTree
+setting src s = record { word = leaf_of src s.word; value = leaf_of src s.value }
+
+-- a move as written
+pub record MoveTree : Type 0 where
+  pub number : Leaf
+  pub settings : List SettingTree
+
+abbrev pub move_text : List ℕ → MoveText → MoveTree
+move_text src m = record { number = leaf_of src m.number; settings = map (setting src) m.settings.items }
+
+-- an assignment as written
+pub record AssignedTree : Type 0 where
+  pub target : Leaf
+  pub value : Term
+
+abbrev pub assigned : List ℕ → Assigned → AssignedTree
+assigned src a = record { target = leaf_of src a.target; value = term src a.value }
+
+-- a statement as written, with its first token, and a list of statements
+mutual
+  pub data StatementTree : Type 0 where
+    skip : Leaf → StatementTree
+    assign : AssignedTree → StatementTree
+    await : Leaf → Claim → List AssignedTree → StatementTree
+    branch : Leaf → Claim → StatementTrees → StatementTrees → StatementTree
+    loop : Leaf → Claim → StatementTrees → StatementTree
+
+  pub data StatementTrees : Type 0 where
+    no_more : StatementTrees
+    also : StatementTree → StatementTrees → StatementTrees
+
+abbrev mutual
+  pub statement : List ℕ → Statement → StatementTree
+  statement src (variants.Skip t) = skip (leaf_of src t)
+  statement src (variants.Assign a) = assign (assigned src a)
+  statement src (variants.Await t f act) = await (leaf_of src t) (claim src f) (map (assigned src) act.items)
+  statement src (variants.If' t f x row y other) = branch (leaf_of src t) (claim src f) (statements src row) (statements src other)
+  statement src (variants.While' t f x row) = loop (leaf_of src t) (claim src f) (statements src row)
+
+  pub statements : List ℕ → {m : _} → Row_of-Statement m → StatementTrees
+  statements src end_of-Statement = no_more
+  statements src (more_of-Statement s rest) = also (statement src s) (statements src rest)
+
+-- the statements of a list
+abbrev pub listed : List StatementTree → StatementTrees
+listed [] = no_more
+listed (s ∷ ss) = also s (listed ss)
+
+-- the four formulas of a specification as written
+pub record SpecTree : Type 0 where
+  pub pre : Claim
+  pub rely : Claim
+  pub guar : Claim
+  pub post : Claim
+
+abbrev pub spec_text : List ℕ → SpecText → SpecTree
+spec_text src s = record { pre = claim src s.pre; rely = claim src s.rely; guar = claim src s.guar; post = claim src s.post }
+
+-- a part as written
+pub record PartTree : Type 0 where
+  pub name : Leaf
+  pub spec : SpecTree
+  pub body : StatementTrees
+
+abbrev pub part_text : List ℕ → PartText → PartTree
+part_text src p = record { name = leaf_of src p.name; spec = spec_text src p.spec; body = listed (map (statement src) p.body.items) }
+
+-- a program as written
+pub record ProgramTree : Type 0 where
+  pub words : List DeclaredWord
+  pub spec : SpecTree
+  pub parts : List PartTree
+
+abbrev pub program_text : List ℕ → ProgramText → ProgramTree
+program_text src p = record { words = map (declared_word src) p.words.items; spec = spec_text src p.spec; parts = map (part_text src) p.parts.items }

@@ -1,6 +1,6 @@
 //! The pass of meaning: from a text whose shape is known to typed trees, or the first fault of its leaves.
 
-ghost use Rattle.std.specs.Prelude.{◌≡◌, ◌≤◌, false, [], length, map, All, IsTrue, IfOk, IfErr, ◌⊎◌};
+ghost use Rattle.std.specs.Prelude.{◌≡◌, ℕ, ◌≤◌, false, List, [], length, map, All, IsTrue, IfOk, IfErr, ◌⊎◌};
 ghost use Rattle.rg_words.specs.Names.{IsName};
 ghost use Rattle.rg_words.specs.Layout.{IsLayout, widths_of};
 ghost use Rattle.rg_words.specs.Refusals.{no_memory};
@@ -10,27 +10,32 @@ ghost use Rattle.rg_tree.specs.View.{formula as view};
 ghost use Rattle.rg_tree.specs.Typing.{IsTyped};
 ghost use Rattle.rg_tree.specs.Fits.{FormulaFits};
 ghost use Rattle.rg_tree.specs.Primes.{speaks_of_two};
-ghost use Rattle.rg_parse.specs.Syntax.{claim, declared_word};
+ghost use Rattle.rg_tree.specs.Moves.{MoveTree, move, AreMoves};
+ghost use Rattle.rg_parse.specs.Syntax.{claim, declared_word, setting, move_text};
 ghost use Rattle.rg_parse.specs.ResolveFaults.{claim_faults, IsRefusal};
 ghost use Rattle.rg_parse.specs.ResolveTyping.{ClaimStandsFor, OneTree, FaultlessStand};
+ghost use Rattle.rg_parse.specs.ResolveSettings.{settings_faults, moves_faults, StartStandsFor, MovesStandFor, OneStart, OneListOfMoves, FaultlessStart, FaultlessMoves};
 ghost use Rattle.rg_parse.specs.ResolveWords.{words_of, shown_faults};
 
 mod formula;
 mod group;
 pub(crate) mod leaf;
 mod scope;
+mod setting;
 #[cfg(test)]
 mod tests;
 
 use crate::declare::declare;
 use crate::syntax;
-use crate::syntax::Declaration;
+use crate::syntax::{Declaration, MoveText, Setting};
 use formula::formula_tree;
+use rg_tree::moves::{Move, give};
 use rg_tree::tree::Formula;
 use rg_tree::typing::typed_trees_fit;
 use rg_words::limits::MOST_WORDS;
-use rg_words::{Layout, Refusal, SourceFile};
+use rg_words::{Layout, Refusal, SourceFile, State};
 use scope::Scope;
+use setting::{moves_of, word_values};
 use std::alloc::Global;
 
 /// The typed tree of a formula over the declared words, whose tokens are of the source.
@@ -107,4 +112,77 @@ pub fn resolve_shown(
 pub fn formulas_stand_for_one_tree()
     ensures one_tree { OneTree }
     ensures faultless { FaultlessStand }
+{}
+
+/// The state that a start's settings stand for: each named word has its value, and every other word is 0.
+///
+/// Refused at the least token that is at fault, by its least number, at its line: 3 a word that isn't declared, 4 a word
+/// that is named twice, 6 a number that isn't below 2 to the power of its word's width. 99 where memory was refused.
+pub fn resolve_start(
+    alloc: Global,
+    layout: &Layout,
+    file: SourceFile,
+    source: &[u8],
+    written: &[Setting],
+) -> Result<State, Refusal>
+    // Ok with the state that they stand for, exactly where there is one and memory was enough.
+    ensures stands { IfOk result (λ s. StartStandsFor layout.now (map (setting source.now) written.now) s.values) }
+    ensures refused { IfErr result (λ refusal. (refusal ≡ no_memory)
+        ⊎ ((s : List ℕ) → StartStandsFor layout.now (map (setting source.now) written.now) s → ⊥)) }
+    ensures widths { IfOk result (λ s. s.widths ≡ widths_of layout.now) }
+    // The first fault in the order of the text.
+    ensures faultless { IfOk result (λ _. settings_faults layout.now (map (setting source.now) written.now) ≡ []) }
+    ensures fault { IfErr result (λ refusal. IsRefusal file (settings_faults layout.now (map (setting source.now) written.now)) refusal) }
+{
+    let scope = Scope {
+        alloc,
+        layout,
+        file,
+        source,
+        one_state: true,
+    };
+    let values = word_values(&scope, written)?;
+    let mut state = State::zero(alloc, layout)?;
+    give(&values, &mut state);
+    Ok(state)
+}
+
+/// The moves that are written, in order.
+///
+/// Refused at the least token that is at fault: 6 a move's number above 4,294,967,295, and its settings as
+/// `resolve_start` refuses them; a word may be named again in another move. 99 where memory was refused.
+pub fn resolve_moves(
+    alloc: Global,
+    layout: &Layout,
+    file: SourceFile,
+    source: &[u8],
+    written: &[MoveText],
+) -> Result<Vec<Move>, Refusal>
+    // Ok with the moves that they stand for, exactly where there are some and memory was enough.
+    ensures stand { IfOk result (λ ms. MovesStandFor layout.now (map (move_text source.now) written.now) (map move ms.items)) }
+    ensures refused { IfErr result (λ refusal. (refusal ≡ no_memory)
+        ⊎ ((ms : List MoveTree) → MovesStandFor layout.now (map (move_text source.now) written.now) ms → ⊥)) }
+    // Each names words that are there, none twice, with values below 2 to the power of their widths.
+    ensures changes { IfOk result (λ ms. AreMoves layout.now (map move ms.items)) }
+    // The first fault in the order of the text.
+    ensures faultless { IfOk result (λ _. moves_faults layout.now (map (move_text source.now) written.now) ≡ []) }
+    ensures fault { IfErr result (λ refusal. IsRefusal file (moves_faults layout.now (map (move_text source.now) written.now)) refusal) }
+{
+    let scope = Scope {
+        alloc,
+        layout,
+        file,
+        source,
+        one_state: true,
+    };
+    let moves = moves_of(&scope, written)?;
+    Ok(moves)
+}
+
+/// Settings stand for one state at most, and for one exactly where none of their tokens is at fault; so do moves.
+pub fn settings_stand_for_one_state()
+    ensures one_start { OneStart }
+    ensures one_list { OneListOfMoves }
+    ensures faultless_start { FaultlessStart }
+    ensures faultless_moves { FaultlessMoves }
 {}

@@ -68,3 +68,60 @@ pub struct ShowText {
     pub words: Vec<Declaration>,
     pub formula: Formula,
 }
+
+/// A word and the number that it is set to, in a start or in a move.
+#[derive(Clone, Copy, Debug)]
+pub struct Setting {
+    pub word: Token,
+    pub value: Token,
+}
+
+/// A move of the environment: after how many steps it comes, and what it sets.
+#[derive(Debug, Drop)]
+pub struct MoveText {
+    pub number: Token,
+    pub settings: Vec<Setting>,
+}
+
+/// An assignment.
+#[derive(Debug, Drop)]
+pub struct Assigned {
+    pub target: Token,
+    pub value: Expr,
+}
+
+/// A statement, with its first token. A block is a list of one statement or more.
+#[derive(Debug, Drop)]
+#[cycle(statement)]
+pub enum Statement {
+    Skip(Token),
+    Assign(Assigned),
+    Await(Token, Formula, Vec<Assigned>),
+    If(Token, Formula, Vec<Statement>, Vec<Statement>),
+    While(Token, Formula, Vec<Statement>),
+}
+
+/// The four formulas of a specification.
+#[derive(Debug, Drop)]
+pub struct SpecText {
+    pub pre: Formula,
+    pub rely: Formula,
+    pub guar: Formula,
+    pub post: Formula,
+}
+
+/// A part: its name, its own specification, and its block.
+#[derive(Debug, Drop)]
+pub struct PartText {
+    pub name: Token,
+    pub spec: SpecText,
+    pub body: Vec<Statement>,
+}
+
+/// A program: its declared words, its specification, and its parts, in their order.
+#[derive(Debug, Drop)]
+pub struct ProgramText {
+    pub words: Vec<Declaration>,
+    pub spec: SpecText,
+    pub parts: Vec<PartText>,
+}

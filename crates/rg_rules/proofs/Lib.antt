@@ -1,3 +1,10 @@
 pub mod Places
 pub mod Rules
 pub mod Lines
+pub mod Find
+pub mod Fitting
+pub mod Faults
+pub mod Demands
+pub mod Typed
+pub mod Sound
+pub mod Counts

@@ -1,17 +1,17 @@
 -- Where all conditions of a derivation are true, each line says the truth: by induction over the lines.
-use Rattle.std.proofs.Common.{◌≡◌, ℕ, zero, suc, ◌+◌, ◌<◌, Bool, true, false, not, ◌&&◌, List, [], ◌∷◌, ◌++◌, length, Option, Some, None, refl, subst, ap, ◌∙◌, arith}
+use Rattle.std.proofs.Common.{◌≡◌, ℕ, zero, suc, ◌+◌, ◌<◌, Bool, true, false, not, ◌&&◌, List, [], ◌∷◌, length, Some, refl, subst, ap, ◌∙◌, arith}
 use Rattle.std.specs.Prelude.{slice_get}
 use Rattle.rg_words.specs.Layout.{Word}
 use Rattle.rg_words.specs.declared.operators.Connective.TheVariants.{And}
 use Rattle.rg_tree.specs.Trees.{Proposition, Assignment, negation, connected}
-use Rattle.rg_tree.specs.Statements.{Statement, skip, assign, await, sequence, branch, loop, Items, one, more, Specification, PartTree}
+use Rattle.rg_tree.specs.Statements.{Statement, skip, assign, await, sequence, branch, loop, Items, one, more, Specification}
 use Rattle.rg_tree.specs.Numbering.{statements, statements_of_items, statements_of_parts}
 use Rattle.rg_tree.specs.Programs.{nth}
 use Rattle.rg_tree.specs.Meaning.{holds}
 use Rattle.rg_tree.specs.Traces.{holds_at}
 use Rattle.rg_tree.specs.Claims.{assigned}
 use Rattle.rg_tree.specs.Runs.{runs, runs_of_items, always, Atomic as AtomicRun}
-use Rattle.rg_tree.specs.Obligations.{Obligation, AllMet}
+use Rattle.rg_tree.specs.Obligations.{AllMet}
 use Rattle.rg_tree.proofs.Asked.{met_front, met_back}
 use Rattle.rg_tree.proofs.Guards.{Sound, StatementSound, Sound-Satisfies}
 use Rattle.rg_rules.specs.declared.derivation.Rule.{Rule}

@@ -11,8 +11,11 @@ use Rattle.rg_tree.specs.Obligations.{Obligation, reaches, makes, keeps, allows,
 use Rattle.rg_rules.specs.declared.derivation.Rule.{Rule}
 use Rattle.rg_rules.specs.declared.derivation.Rule.TheVariants.{Basic, Atomic, Seq, If, Loop, Conseq}
 
--- a line, whose premises are numbers of lines, from 1
+-- a line, with the number that it gives itself and the line of the source that it begins on; its premises are numbers of
+-- lines, from 1
 pub record LineTree : Type 0 where
+  pub own_number : ℕ
+  pub source_line : ℕ
   pub rule : Rule
   pub number : ℕ
   pub premises : List ℕ

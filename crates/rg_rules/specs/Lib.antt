@@ -1,2 +1,5 @@
 pub mod Derivations
+pub mod Faults
+pub mod Names
+pub mod Promises
 pub mod View

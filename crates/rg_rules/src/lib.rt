@@ -1,5 +1,12 @@
 //! Derivations of parts by the six rules of a part, after Xu, de Roever and He (Formal Aspects of Computing 9, 1997).
 #![tactic(auto)]
 
-pub mod derivation;
-pub mod laws;
+mod conditions;
+mod derivation;
+mod fits;
+mod laws;
+mod names;
+mod table;
+
+pub use derivation::{Derivation, Line, Rule};
+pub use laws::{derivations_have_no_fault, rules_are_sound};

@@ -7,14 +7,14 @@ ghost use Rattle.rg_words.specs.Refusals.{refused_at};
 ghost use Rattle.rg_text.specs.Text.{text_of, leaf_of};
 ghost use Rattle.rg_tree.specs.View.{expression};
 ghost use Rattle.rg_parse.specs.Syntax.{number as number_leaf};
-ghost use Rattle.rg_parse.specs.ResolveFaults.{number_of, unless, word_faults, number_faults, IsRefusal};
+ghost use Rattle.rg_parse.specs.ResolveFaults.{number_of, unless, word_faults, number_faults, plain_faults, IsRefusal};
 ghost use Rattle.rg_parse.specs.ResolveTrees.{place_of, width_of, IsTermTree};
 
 use super::group::Group;
 use super::leaf::{find, number, number_below, text};
 use rg_text::token::Token;
 use rg_tree::tree::Expr;
-use rg_words::limits::{MOST_SHIFT, MOST_WIDTH};
+use rg_words::limits::{MOST_PLAIN_NUMBER, MOST_SHIFT, MOST_WIDTH};
 use rg_words::{Layout, Place, Refusal, RefusalNumber, SourceFile};
 use std::alloc::Global;
 
@@ -33,7 +33,7 @@ pub struct Scope<'a> {
 
 impl Scope<'_> {
     /// A fault at a token.
-    fn fault(&self, number: RefusalNumber, token: &Token) -> Refusal
+    pub fn fault(&self, number: RefusalNumber, token: &Token) -> Refusal
         ensures { result ≡ refused_at number self.now.file token.now.line }
     {
         Refusal::at(number, self.file, Place::Line(u64::from(token.line)))
@@ -90,6 +90,19 @@ impl Scope<'_> {
     {
         match number(text(self.source, token)) {
             Some(count) if count <= MOST_SHIFT => Ok(count as u32),
+            _ => Err(self.fault(RefusalNumber::NumberTooLarge, token)),
+        }
+    }
+
+    /// A number that is of no group and no word, as the number of a move.
+    #[tactic(auto, using(crate::proofs::ResolveRefusals::refusals))]
+    pub fn plain_number(&self, token: &Token) -> Result<u64, Refusal>
+        ensures faultless { IfOk result (λ _. plain_faults (leaf_of self.now.source.now token.now) ≡ []) }
+        ensures value { IfOk result (λ n. n ≡ number_of (text_of self.now.source.now token.now)) }
+        ensures fault { IfErr result (λ e. IsRefusal self.now.file (plain_faults (leaf_of self.now.source.now token.now)) e) }
+    {
+        match number(text(self.source, token)) {
+            Some(value) if value <= MOST_PLAIN_NUMBER => Ok(value),
             _ => Err(self.fault(RefusalNumber::NumberTooLarge, token)),
         }
     }

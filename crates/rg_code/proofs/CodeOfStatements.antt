@@ -1,6 +1,6 @@
 -- The code of a statement has exactly the statement's runs.
 use Rattle.std.proofs.Common.{◌≡◌, ℕ, zero, suc, ◌+◌, ◌≤◌, Bool, true, false, List, [], ◌∷◌, ◌++◌, length, Some, refl, sym, subst, ap, ◌∙◌, arith, append_assoc, length-append}
-use Rattle.std.specs.Prelude.{slice_get, if◌then◌else◌}
+use Rattle.std.specs.Prelude.{slice_get, if◌then◌else◌, map, option_map}
 use Rattle.std.proofs.lemmas.List.{append-nil}
 use Rattle.rg_tree.specs.Trees.{Proposition, Assignment}
 use Rattle.rg_tree.specs.Statements.{Statement, skip, assign, await, sequence, branch, loop, Items, one, more}
@@ -10,7 +10,9 @@ use Rattle.rg_tree.specs.Runs.{Behavior, AllEnv, Atomic, Then, Within, Past, Yes
 use Rattle.rg_tree.proofs.Guards.{last-append}
 use Rattle.rg_tree.proofs.Stands.{Stands, stands_get, stands_tail, stands_front, stands_back}
 use Rattle.rg_tree.proofs.Joins.{runs_tails, Below, then_map, then_assoc_left, then_assoc_right, then_env, then_own}
-use Rattle.rg_code.specs.Code.{BlockTree, do_block, await_block, test_block, end_block, Makes_step, is_end, CodeRuns, count_of, count_of_items, code_of, code_of_items, part_code}
+use Rattle.rg_code.specs.Operations.{formula_operations, told_by}
+use Rattle.rg_code.proofs.Operations.{told_formula, stored_assigned}
+use Rattle.rg_code.specs.Code.{stored, store_of, BlockTree, do_block, await_block, test_block, end_block, Makes_step, is_end, CodeRuns, count_of, count_of_items, code_of, code_of_items, part_code}
 
 abbrev pick : Bool → ℕ → ℕ → ℕ
 pick v yes_place no_place = if v then yes_place else no_place
@@ -138,7 +140,7 @@ module _ (code : List BlockTree) where
 
 -- how many blocks the code has
 mutual
-  length-code_of : (s : Statement) (first next : ℕ) → length (code_of s first next) ≡ count_of s
+  pub length-code_of : (s : Statement) (first next : ℕ) → length (code_of s first next) ≡ count_of s
   length-code_of (skip row) first next = refl
   length-code_of (assign row a) first next = refl
   length-code_of (await row b act) first next = refl
@@ -159,27 +161,44 @@ module _ (code : List BlockTree) where
   second_stands first s at next rest e h =
       subst (λ k. Stands code k rest) (ap (λ n. first + n) (length-code_of s first next) ∙ sym e) (stands_back code first (code_of s first next) rest h)
 
-  block_to : (row first next : ℕ) (b : Proposition) (act : List Assignment) → slice_get code first ≡ Some (await_block row next b act) → Below (From code first) (Then (Atomic (holds_at b) (assigned act)) (From code next))
+  -- one state after stores is the state after the assignments
+  stored_is : (act : List Assignment) (s t : State) → stored (map store_of act) s ≡ Some t → t ≡ assigned act s
+  stored_is act s t h = let e = stored_assigned act s in cc (e, h)
+
+  block_to : (row first next : ℕ) (b : Proposition) (act : List Assignment) → slice_get code first ≡ Some (await_block row next (formula_operations b) (map store_of act)) → Below (From code first) (Then (Atomic (holds_at b) (assigned act)) (From code next))
   block_to row first next b act at =
-      atomic_to code first next (holds_at b) (assigned act) (ap is_end at) (λ s t to m. let m' = subst (λ o. Makes_step o s t to) at m in (m'.0, m'.1, m'.2))
+      atomic_to code first next (holds_at b) (assigned act) (ap is_end at)
+      (λ s t to m. let m' = subst (λ o. Makes_step o s t to) at m in
+      let g = told_formula b s in
+      (cc (g, m'.0), stored_is act s t m'.1, m'.2))
 
-  block_from : (row first next : ℕ) (b : Proposition) (act : List Assignment) → slice_get code first ≡ Some (await_block row next b act) → Below (Then (Atomic (holds_at b) (assigned act)) (From code next)) (From code first)
+  block_from : (row first next : ℕ) (b : Proposition) (act : List Assignment) → slice_get code first ≡ Some (await_block row next (formula_operations b) (map store_of act)) → Below (Then (Atomic (holds_at b) (assigned act)) (From code next)) (From code first)
   block_from row first next b act at =
-      atomic_from code first next (holds_at b) (assigned act) (ap is_end at) (λ s h. subst (λ o. Makes_step o s (assigned act s) next) (sym at) (h, refl, refl))
+      atomic_from code first next (holds_at b) (assigned act) (ap is_end at)
+      (λ s h. subst (λ o. Makes_step o s (assigned act s) next) (sym at) (told_formula b s ∙ ap (λ v. Some v) h, stored_assigned act s, refl))
 
-  do_to : (row first next : ℕ) (act : List Assignment) → slice_get code first ≡ Some (do_block row next act) → Below (From code first) (Then (Atomic always (assigned act)) (From code next))
+  do_to : (row first next : ℕ) (act : List Assignment) → slice_get code first ≡ Some (do_block row next (map store_of act)) → Below (From code first) (Then (Atomic always (assigned act)) (From code next))
   do_to row first next act at =
-      atomic_to code first next always (assigned act) (ap is_end at) (λ s t to m. let m' = subst (λ o. Makes_step o s t to) at m in (refl, m'.0, m'.1))
+      atomic_to code first next always (assigned act) (ap is_end at)
+      (λ s t to m. let m' = subst (λ o. Makes_step o s t to) at m in (refl, stored_is act s t m'.0, m'.1))
 
-  do_from : (row first next : ℕ) (act : List Assignment) → slice_get code first ≡ Some (do_block row next act) → Below (Then (Atomic always (assigned act)) (From code next)) (From code first)
+  do_from : (row first next : ℕ) (act : List Assignment) → slice_get code first ≡ Some (do_block row next (map store_of act)) → Below (Then (Atomic always (assigned act)) (From code next)) (From code first)
   do_from row first next act at =
-      atomic_from code first next always (assigned act) (ap is_end at) (λ s h. subst (λ o. Makes_step o s (assigned act s) next) (sym at) (refl, refl))
+      atomic_from code first next always (assigned act) (ap is_end at)
+      (λ s h. subst (λ o. Makes_step o s (assigned act s) next) (sym at) (stored_assigned act s, refl))
 
-  test_goes : (row first yes_place no_place : ℕ) (b : Proposition) → slice_get code first ≡ Some (test_block row yes_place no_place b) → (s t : State) (to : ℕ) → Makes_step (slice_get code first) s t to → (t ≡ s) × (to ≡ pick (holds_at b s) yes_place no_place)
-  test_goes row first yes_place no_place b at s t to m = subst (λ o. Makes_step o s t to) at m
+  test_place : (b : Proposition) (yes_place no_place : ℕ) (s : State) → option_map (λ v. if v then yes_place else no_place) (told_by (formula_operations b) s) ≡ Some (pick (holds_at b s) yes_place no_place)
+  test_place b yes_place no_place s = ap (λ o. option_map (λ v. if v then yes_place else no_place) o) (told_formula b s)
 
-  test_made : (row first yes_place no_place : ℕ) (b : Proposition) → slice_get code first ≡ Some (test_block row yes_place no_place b) → (s t : State) → t ≡ s → Makes_step (slice_get code first) s t (pick (holds_at b s) yes_place no_place)
-  test_made row first yes_place no_place b at s t e = subst (λ o. Makes_step o s t (pick (holds_at b s) yes_place no_place)) (sym at) (e, refl)
+  test_goes : (row first yes_place no_place : ℕ) (b : Proposition) → slice_get code first ≡ Some (test_block row yes_place no_place (formula_operations b)) → (s t : State) (to : ℕ) → Makes_step (slice_get code first) s t to → (t ≡ s) × (to ≡ pick (holds_at b s) yes_place no_place)
+  test_goes row first yes_place no_place b at s t to m =
+      let m' = subst (λ o. Makes_step o s t to) at m in
+      let e = test_place b yes_place no_place s in
+      (m'.0, cc (e, m'.1))
+
+  test_made : (row first yes_place no_place : ℕ) (b : Proposition) → slice_get code first ≡ Some (test_block row yes_place no_place (formula_operations b)) → (s t : State) → t ≡ s → Makes_step (slice_get code first) s t (pick (holds_at b s) yes_place no_place)
+  test_made row first yes_place no_place b at s t e =
+      subst (λ o. Makes_step o s t (pick (holds_at b s) yes_place no_place)) (sym at) (e, test_place b yes_place no_place s)
 
   mutual
     stmt_to : (s : Statement) (first next : ℕ) → Stands code first (code_of s first next) → Below (From code first) (Then (runs s) (From code next))

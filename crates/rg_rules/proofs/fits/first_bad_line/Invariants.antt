@@ -1,0 +1,7 @@
+use Rattle.std.proofs.Common.{suc, map}
+use Rattle.rg_rules.specs.View.{line_tree, referred}
+use Rattle.rg_rules.specs.Faults.{AreFaultlessBefore}
+use Rattle.rg_rules.proofs.fits.first_bad_line.Given as goal
+
+abbrev pub invariant-loop-i : goal.invariant-loop-i
+invariant-loop-i l = AreFaultlessBefore (map referred l.list) (map line_tree l.lines) (suc l.i)
