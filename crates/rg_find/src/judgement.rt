@@ -1,8 +1,10 @@
 //! Whether a condition is true, by a search: lines that prove it, or states at which it fails.
 
-ghost use Rattle.std.specs.Prelude.{◌≡◌, IfOk, IfErr};
+ghost use Rattle.std.specs.Prelude.{◌≡◌, ◌≤◌, IfOk, IfErr};
+ghost use Rattle.rg_words.specs.declared.limits.TheConstants.{MOST_VARIABLES};
 ghost use Rattle.rg_words.specs.declared.refusal.Place.TheVariants.{Condition as the_condition};
 ghost use Rattle.rg_tree.specs.Conditions.{claim};
+ghost use Rattle.rg_clauses.specs.Conditions.{clauses_of_claim};
 ghost use Rattle.rg_find.specs.Judged.{IsJudged, IsJudgeRefusal};
 
 use crate::answer::{Found, find};
@@ -40,6 +42,7 @@ pub fn judge(
 ) -> Result<Judged, Refusal>
     // Lines are closed for its clauses, and it is true; or it fails at the states.
     ensures judged { IfOk result (IsJudged (claim condition.now)) }
+    ensures within { IfOk result (λ _. (clauses_of_claim (claim condition.now)).variables ≤ MOST_VARIABLES) }
     ensures refusal { IfErr result (IsJudgeRefusal (claim condition.now) file number steps) }
 {
     let clauses = match Clauses::of(alloc, condition, file, number) {
