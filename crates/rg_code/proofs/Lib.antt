@@ -4,3 +4,4 @@ pub mod Views
 pub mod Limits
 pub mod Legal
 pub mod Listed
+pub mod LegalSteps

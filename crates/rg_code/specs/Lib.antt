@@ -5,3 +5,4 @@ pub mod Legal
 pub mod LegalProof
 pub mod CodeTrees
 pub mod Listing
+pub mod Laws
