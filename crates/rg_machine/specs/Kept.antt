@@ -30,7 +30,7 @@ codes_room [] = 0
 codes_room (c ∷ cs) = max (blocks_room c) (codes_room cs)
 
 -- the state has the words' widths, the parts stand at blocks, and the stack has room
-pub record IsKept (words : List Word) (codes : List (List BlockTree)) (widths places : List ℕ) (room : ℕ) : Type 0 where
-  pub widths : widths ≡ widths_of words
-  pub places : AreAtBlocks codes places
-  pub room : codes_room codes ≤ room
+pub record IsKept (words : List Word) (codes : List (List BlockTree)) (kept_widths places : List ℕ) (space : ℕ) : Type 0 where
+  pub widths : kept_widths ≡ widths_of words
+  pub at_blocks : AreAtBlocks codes places
+  pub room : codes_room codes ≤ space

@@ -1,8 +1,8 @@
 -- What the machine does: configurations, and the steps that lead from one to another.
-use Rattle.std.specs.Prelude.{◌≡◌, ◌≢◌, ℕ, suc, ◌-◌, ◌<◌, ◌≤◌, Bool, true, false, List, [], ◌∷◌, Option, Some, None, length, slice_get, slice_index, slice_index_or}
+use Rattle.std.specs.Prelude.{◌≡◌, ℕ, ◌-◌, true, false, List, [], Option, Some, None, slice_get, slice_index, slice_index_or}
 use Rattle.rg_words.specs.Layout.{Word}
 use Rattle.rg_words.specs.States.{IsPair}
-use Rattle.rg_tree.specs.Traces.{State, Step}
+use Rattle.rg_tree.specs.Traces.{State}
 use Rattle.rg_code.specs.Code.{BlockTree, do_block, await_block, test_block, end_block, Makes_step, is_end, PlacesGo}
 use Rattle.rg_machine.specs.declared.config.Stepped.{Stepped}
 use Rattle.rg_machine.specs.declared.config.Stepped.TheVariants.{Did, Blocked, Ended}
@@ -25,9 +25,13 @@ pub record IsStepOf (c : Configuration) (i : ℕ) (d : Configuration) : Type 0 w
   pub goes : PlacesGo 1 c.codes c.places d.places c.state (record { who = i; after = d.state })
   pub pair : IsPair c.words c.state d.state
 
--- the block of part i makes some step
+-- the block makes some step from s
+abbrev pub CanLead : Option BlockTree → State → Type 0
+CanLead b s = (t : State) × (to : ℕ) × Makes_step b s t to
+
+-- so does the block of part i
 abbrev pub CanStep : Configuration → ℕ → Type 0
-CanStep c i = (t : State) × (to : ℕ) × Makes_step (block_of c i) c.state t to
+CanStep c i = CanLead (block_of c i) c.state
 
 -- part i stands at its end
 abbrev pub IsAtEnd : Configuration → ℕ → Type 0
