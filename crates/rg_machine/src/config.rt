@@ -1,12 +1,15 @@
 //! Configurations of flat code, and their steps.
 
-ghost use Rattle.std.specs.Prelude.{◌≡◌, ◌↔◌, ◌≤◌, ◌<◌, IsTrue, IfOk, length};
+ghost use Rattle.std.specs.Prelude.{◌≡◌, ◌↔◌, ◌≤◌, ◌<◌, IsTrue, IsFalse, IfOk, length};
 ghost use Rattle.rg_words.specs.Layout.{widths_of};
+ghost use Rattle.rg_words.specs.States.{IsPair};
 ghost use Rattle.rg_code.specs.Code.{zeros};
 ghost use Rattle.rg_code.specs.CodeTrees.{code_blocks};
+ghost use Rattle.rg_machine.specs.Replay.{IsMoveTo};
 ghost use Rattle.rg_machine.specs.Machine.{block_of, CanStep, IsAtEnd, StepFits, line_of};
 
 use crate::lead::{block_at, can_lead, lead};
+use crate::replace::{agree_on_fixed, replace};
 use crate::room::code_room;
 use rg_code::block::Block;
 use rg_code::code::Code;
@@ -145,5 +148,20 @@ impl<'e> Config<'e> {
             }
             None => Stepped::Blocked,
         }
+    }
+    /// The environment makes this the state of the words, if it agrees on the fixed words. It takes no memory.
+    pub fn change(&mut self, state: &State) -> bool
+        requires { state.now.widths ≡ widths_of self.old.words }
+        ensures done { IsTrue result → IsMoveTo self.old state.now.values self.new }
+        ensures refused { IsFalse result → IsPair self.old.words self.old.state state.now.values → ⊥ }
+        ensures same { IsFalse result → self.new ≡ self.old }
+    {
+        let _ = state.len();
+        let _ = self.state.len();
+        if !agree_on_fixed(&self.code.layout, &self.state, state) {
+            return false;
+        }
+        replace(&mut self.state, state);
+        true
     }
 }

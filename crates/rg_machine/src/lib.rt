@@ -2,7 +2,10 @@
 #![tactic(auto)]
 
 pub mod config;
+pub mod event;
 mod lead;
+mod replace;
+mod replay;
 mod room;
 mod stack;
 mod stores;
