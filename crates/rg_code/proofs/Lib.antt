@@ -3,3 +3,5 @@ pub mod CodeOfStatements
 pub mod Views
 pub mod Limits
 pub mod Legal
+pub mod Listed
+pub mod LegalSteps

@@ -4,3 +4,5 @@ pub mod BlockView
 pub mod Legal
 pub mod LegalProof
 pub mod CodeTrees
+pub mod Listing
+pub mod Laws

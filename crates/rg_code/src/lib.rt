@@ -6,5 +6,8 @@ pub mod code;
 pub mod compile;
 mod emit;
 pub mod laws;
+pub mod listing;
 pub mod operation;
 mod postfix;
+#[cfg(test)]
+mod tests;

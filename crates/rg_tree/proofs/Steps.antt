@@ -11,7 +11,7 @@ use Rattle.rg_tree.specs.Laws.{StepsArePairs}
 use Rattle.rg_tree.proofs.Widths.{values_within}
 
 -- the new value of a word of these widths
-set_values : (ws : List ℕ) (s : List ℕ) (k x : ℕ) → AreValues ws s → k < length ws → x < 2 ^ slice_index ws k → AreValues ws (slice_set s k x)
+pub set_values : (ws : List ℕ) (s : List ℕ) (k x : ℕ) → AreValues ws s → k < length ws → x < 2 ^ slice_index ws k → AreValues ws (slice_set s k x)
 set_values [] [] k x st less h = absurd (omega arith)
 set_values (w ∷ ws) (y ∷ ys) zero x st less h = (h, st.1)
 set_values (w ∷ ws) (y ∷ ys) (suc k) x st less h = (st.0, set_values ws ys k x st.1 (omega arith) h)
@@ -36,14 +36,14 @@ agree_self [] s = tt
 agree_self (w ∷ ws) [] = tt
 agree_self (w ∷ ws) (x ∷ xs) = (same_self w.fixed x, agree_self ws xs)
 
-agree_set : (words : List Word) (s : List ℕ) (k x : ℕ) → get_or (map (λ w. w.fixed) words) k false ≡ false → AgreeOnFixed words s (slice_set s k x)
+pub agree_set : (words : List Word) (s : List ℕ) (k x : ℕ) → get_or (map (λ w. w.fixed) words) k false ≡ false → AgreeOnFixed words s (slice_set s k x)
 unfolding AgreeOnFixed
 agree_set [] s k x h = tt
 agree_set (w ∷ ws) [] k x h = tt
 agree_set (w ∷ ws) (y ∷ ys) zero x h = (same_free w.fixed y x h, agree_self ws ys)
 agree_set (w ∷ ws) (y ∷ ys) (suc k) x h = (same_self w.fixed y, agree_set ws ys k x h)
 
-agree_trans : (words : List Word) (s t u : List ℕ) → IsState words t → AgreeOnFixed words s t → AgreeOnFixed words t u → AgreeOnFixed words s u
+pub agree_trans : (words : List Word) (s t u : List ℕ) → IsState words t → AgreeOnFixed words s t → AgreeOnFixed words t u → AgreeOnFixed words s u
 unfolding AgreeOnFixed
 agree_trans [] s t u st a b = tt
 agree_trans (w ∷ ws) [] t u st a b = tt

@@ -80,7 +80,8 @@ pub fn inside(f: &Formula, first: &State, second: &State) -> bool
     holds(f, first, second) || first.same(second)
 }
 
-fn operate(operator: Operator, width: u32, a: u64, b: u64) -> u64
+/// The value of an operation on two values of this width.
+pub fn operate(operator: Operator, width: u32, a: u64, b: u64) -> u64
     requires { width ≤ MOST_WIDTH }
     ensures { result ≡ operated operator width a b }
 {
@@ -94,7 +95,8 @@ fn operate(operator: Operator, width: u32, a: u64, b: u64) -> u64
     }
 }
 
-fn compare(comparison: Comparison, a: u64, b: u64) -> bool
+/// Whether a comparison of two values is so, as unsigned numbers.
+pub fn compare(comparison: Comparison, a: u64, b: u64) -> bool
     ensures { result ≡ is_so comparison a b }
 {
     match comparison {
@@ -107,7 +109,8 @@ fn compare(comparison: Comparison, a: u64, b: u64) -> bool
     }
 }
 
-fn join(connective: Connective, a: bool, b: bool) -> bool
+/// The truth of two formulas joined.
+pub fn join(connective: Connective, a: bool, b: bool) -> bool
     ensures { result ≡ joined connective a b }
 {
     match connective {
@@ -118,14 +121,16 @@ fn join(connective: Connective, a: bool, b: bool) -> bool
     }
 }
 
-fn invert(width: u32, a: u64) -> u64
+/// A value of this width with all bits turned.
+pub fn invert(width: u32, a: u64) -> u64
     requires { width ≤ MOST_WIDTH }
     ensures { result ≡ 2 ^ width - 1 - a }
 {
     ((1u128 << width) - 1).saturating_sub(u128::from(a)) as u64
 }
 
-fn move_bits(shift: Shift, width: u32, a: u64, count: u32) -> u64
+/// A value of this width moved by so many bits.
+pub fn move_bits(shift: Shift, width: u32, a: u64, count: u32) -> u64
     requires width { width ≤ MOST_WIDTH }
     requires count { count ≤ MOST_SHIFT }
     ensures { result ≡ moved shift width a count }

@@ -1,0 +1,11 @@
+//! The machine: it does one block of one part at a time, and takes no memory for it.
+#![tactic(auto)]
+
+pub mod config;
+pub mod event;
+mod lead;
+mod replace;
+mod replay;
+mod room;
+mod stack;
+mod stores;
