@@ -3,7 +3,9 @@
 use crate::command::Command;
 use crate::commands::{Files, perform};
 use crate::line::{Line, LineFault};
+use crate::numbers::line_of;
 use clap::error::ErrorKind;
+use rg_tree::numbered::{Numbered, StatementKind};
 use rg_words::{Device, Fuse, Out, Taker};
 use std::alloc::{AllocError, Global};
 use std::test::Fail;
@@ -393,6 +395,28 @@ fn tells_what_is_wrong_with_the_words(rt: HostRuntime) -> Result<(), Fail> {
             _ => false,
         };
         assert!(rt; told);
+    }
+    Ok(())
+}
+
+#[test]
+fn prints_numbered_statements(rt: HostRuntime) -> Result<(), Fail> {
+    let rows = [
+        (1, 8, StatementKind::Assign, "1 a 8 assign\n"),
+        (20, 11, StatementKind::Skip, "20 a 11 skip\n"),
+        (3, 6, StatementKind::If, "3 a 6 if\n"),
+        (4, 6, StatementKind::Seq, "4 a 6 seq\n"),
+        (5, 1_000, StatementKind::While, "5 a 1000 while\n"),
+        (4_000, 6, StatementKind::Await, "4000 a 6 await\n"),
+    ];
+    for (number, line, kind, text) in rows {
+        let statement = Numbered {
+            number,
+            part: 1,
+            line,
+            kind,
+        };
+        assert_eq!(rt; line_of(rt.alloc(), "a", &statement)?.as_str(), text);
     }
     Ok(())
 }
