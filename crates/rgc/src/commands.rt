@@ -18,7 +18,7 @@ pub struct Files<'a> {
 
 /// Why a command isn't done.
 enum Stop {
-    /// A file can't be read; its name in the fault line.
+    /// A file can't be read; the line that says so.
     Device(&'static str),
     Refused(Refusal),
 }
@@ -62,12 +62,12 @@ fn carry_out<W: Out>(
     ensures failures { OnOk result (W.failures out.new ≡ W.failures out.old) }
 {
     let Some(text) = files.text else {
-        return Err(Stop::Device("text"));
+        return Err(Stop::Device("device text\n"));
     };
     let done = match command {
         Command::Valid { .. } => {
             let Some(proofs) = files.proofs else {
-                return Err(Stop::Device("proofs"));
+                return Err(Stop::Device("device proofs\n"));
             };
             print_valid(alloc, text, proofs, out)
         }
@@ -96,14 +96,12 @@ fn tell_refusal<F: Out>(alloc: Global, refusal: Refusal, faults: &mut F) -> u8
     }
 }
 
-/// Tells that a file can't be read; the status. A failing write is passed over.
-fn tell_device<F: Out>(alloc: Global, file: &str, faults: &mut F) -> u8
+/// Tells by this line that a file can't be read; the status. It takes no memory. A failing write is passed over.
+fn tell_device<F: Out>(line: &str, faults: &mut F) -> u8
     requires { F.failures faults.old < 2 ^ 64 - 1 }
     ensures { result ≡ 3 }
 {
-    if let Ok(text) = format!(in alloc; "device {file}\n") {
-        let _ = write_all(faults, text.as_bytes());
-    }
+    let _ = write_all(faults, line.as_bytes());
     3
 }
 
@@ -124,7 +122,7 @@ pub fn perform<W: Out, F: Out>(
 {
     match carry_out(alloc, line.command, files, out) {
         Ok(()) => 0,
-        Err(Stop::Device(file)) => tell_device(alloc, file, faults),
+        Err(Stop::Device(line)) => tell_device(line, faults),
         Err(Stop::Refused(refusal)) => tell_refusal(alloc, refusal, faults),
     }
 }

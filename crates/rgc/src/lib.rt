@@ -6,12 +6,14 @@ mod command;
 mod commands;
 mod fields;
 mod line;
+mod numbers;
 mod shown;
 
 pub use command::Command;
 pub use commands::{Files, perform};
 pub use fields::FieldFault;
 pub use line::{Line, LineFault};
+pub use numbers::write_numbers;
 pub use shown::{clauses, valid};
 
 #[cfg(test)]

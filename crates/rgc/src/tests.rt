@@ -2,8 +2,11 @@
 
 use crate::command::Command;
 use crate::commands::{Files, perform};
-use crate::line::Line;
-use rg_words::{Fuse, Out, Taker};
+use crate::line::{Line, LineFault};
+use crate::numbers::line_of;
+use clap::error::ErrorKind;
+use rg_tree::numbered::{Numbered, StatementKind};
+use rg_words::{Device, Fuse, Out, Taker};
 use std::alloc::{AllocError, Global};
 use std::test::Fail;
 
@@ -264,22 +267,82 @@ fn tells_the_first_file_that_is_missing(rt: HostRuntime) -> Result<(), Fail> {
     Ok(())
 }
 
+/// The commands, a text with hint lines that prove it, and what each command prints of them.
+const DONE: [(Command<'static>, &str); 2] = [
+    (
+        Command::Valid {
+            text: "text",
+            proofs: "proofs",
+        },
+        "holds\n",
+    ),
+    (
+        Command::Clauses { text: "text" },
+        "p cnf 4 7\n-3 1 0\n-3 2 0\n3 -1 -2 0\n-4 -1 0\n-4 3 0\n4 1 -3 0\n4 0\n",
+    ),
+];
+
+/// The first example's files.
+fn first_files() -> Files<'static> {
+    Files {
+        text: Some(FIRST.as_bytes()),
+        proofs: Some(b"8 0 7 5 1 4 0".as_slice()),
+    }
+}
+
 #[test]
 fn tells_a_failing_output(rt: HostRuntime) -> Result<(), Fail> {
-    let line = Line {
-        command: Command::Clauses { text: "text" },
-    };
-    let files = Files {
-        text: Some(FIRST.as_bytes()),
-        proofs: None,
-    };
-    let whole = clauses_of(rt.alloc(), FIRST);
-    for calls in 0..40 {
-        let mut out = Fuse::new(Taker::new(rt.alloc(), 1), calls);
-        let mut faults = Taker::new(rt.alloc(), 64);
-        let status = perform(rt.alloc(), &line, &files, &mut out, &mut faults);
-        assert!(rt; status == 3 && faults.bytes() == b"refused 63\n".as_slice());
-        assert!(rt; whole.out.bytes().starts_with(out.inner().bytes()));
+    for (command, printed) in DONE {
+        let line = Line { command };
+        for kept in 0..=printed.len() {
+            let mut out = Fuse::new(Taker::new(rt.alloc(), 1), kept as u64);
+            let mut faults = Taker::new(rt.alloc(), 64);
+            let status = perform(rt.alloc(), &line, &first_files(), &mut out, &mut faults);
+            let (last, told) = if kept < printed.len() {
+                (3, "refused 63\n")
+            } else {
+                (0, "")
+            };
+            assert!(rt; status == last && faults.bytes() == told.as_bytes());
+            assert!(rt; out.inner().bytes() == &printed.as_bytes()[..kept]);
+        }
+    }
+    Ok(())
+}
+
+#[test]
+fn passes_over_failing_faults(rt: HostRuntime) -> Result<(), Fail> {
+    let rows = [(Some(b")".as_slice()), 1), (None, 3)];
+    for (text, status) in rows {
+        let line = Line {
+            command: Command::Clauses { text: "text" },
+        };
+        let files = Files { text, proofs: None };
+        let mut out = Taker::new(rt.alloc(), 1);
+        let mut faults = Fuse::new(Taker::new(rt.alloc(), 1), 4);
+        assert!(rt; perform(rt.alloc(), &line, &files, &mut out, &mut faults) == status);
+        assert!(rt; out.bytes().is_empty() && faults.inner().bytes().len() == 4);
+    }
+    Ok(())
+}
+
+/// Under `rt try --test --fail-alloc N` too: this test allocates nothing of its own, so what is refused is the command's.
+#[test]
+fn tells_refused_memory(rt: HostRuntime) -> Result<(), Fail> {
+    for (command, printed) in DONE {
+        let line = Line { command };
+        let mut out = [0u8; 100];
+        let mut faults = [0u8; 100];
+        let status = perform(
+            rt.alloc(),
+            &line,
+            &first_files(),
+            &mut Device::new(out.as_mut_slice()),
+            &mut Device::new(faults.as_mut_slice()),
+        );
+        let done = status == 0 && out.starts_with(printed.as_bytes()) && faults[0] == 0;
+        let refused = status == 3 && faults.starts_with(b"refused 99\n") && faults[11] == 0;
+        assert!(rt; done || refused);
     }
     Ok(())
 }
@@ -291,7 +354,69 @@ fn reads_the_command_line(rt: HostRuntime) -> Result<(), Fail> {
     let found =
         matches!(&read, Some(line) if matches!(&line.command, Command::Valid { text: "a", proofs: "b" }));
     assert!(rt; found);
-    let lone = ["rgc", "clauses"];
-    assert!(rt; Line::read(rt.alloc(), lone.as_slice()).is_err());
+    Ok(())
+}
+
+#[test]
+fn tells_what_is_wrong_with_the_words(rt: HostRuntime) -> Result<(), Fail> {
+    let rows = [
+        (
+            ["rgc", "clauses"].as_slice(),
+            ErrorKind::MissingRequiredArgument,
+            true,
+        ),
+        (
+            ["rgc", "clauses", "a", "b"].as_slice(),
+            ErrorKind::UnknownArgument,
+            true,
+        ),
+        (
+            ["rgc", "prove", "a"].as_slice(),
+            ErrorKind::InvalidSubcommand,
+            true,
+        ),
+        (["rgc"].as_slice(), ErrorKind::MissingSubcommand, true),
+        (["rgc", "--help"].as_slice(), ErrorKind::DisplayHelp, false),
+        (
+            ["rgc", "valid", "--help"].as_slice(),
+            ErrorKind::DisplayHelp,
+            false,
+        ),
+        (
+            ["rgc", "--version"].as_slice(),
+            ErrorKind::DisplayVersion,
+            false,
+        ),
+    ];
+    for (words, kind, is_fault) in rows {
+        let read = Line::read(rt.alloc(), words).err();
+        let told = match &read {
+            Some(LineFault::Usage(error)) => error.kind() == kind && error.use_stderr() == is_fault,
+            _ => false,
+        };
+        assert!(rt; told);
+    }
+    Ok(())
+}
+
+#[test]
+fn prints_numbered_statements(rt: HostRuntime) -> Result<(), Fail> {
+    let rows = [
+        (1, 8, StatementKind::Assign, "1 a 8 assign\n"),
+        (20, 11, StatementKind::Skip, "20 a 11 skip\n"),
+        (3, 6, StatementKind::If, "3 a 6 if\n"),
+        (4, 6, StatementKind::Seq, "4 a 6 seq\n"),
+        (5, 1_000, StatementKind::While, "5 a 1000 while\n"),
+        (4_000, 6, StatementKind::Await, "4000 a 6 await\n"),
+    ];
+    for (number, line, kind, text) in rows {
+        let statement = Numbered {
+            number,
+            part: 1,
+            line,
+            kind,
+        };
+        assert_eq!(rt; line_of(rt.alloc(), "a", &statement)?.as_str(), text);
+    }
     Ok(())
 }

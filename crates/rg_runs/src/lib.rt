@@ -1,0 +1,12 @@
+//! A slow and plain judge of runs, for tests.
+#![tactic(auto)]
+
+mod follow;
+mod states;
+mod step;
+#[cfg(test)]
+mod tests;
+mod trace;
+
+pub use follow::follows;
+pub use trace::{Step, Trace};
