@@ -1,5 +1,5 @@
 -- Lists of conditions that grow at the end.
-use Rattle.std.proofs.Common.{◌≡◌, ℕ, suc, ◌+◌, ◌<◌, List, [], ◌∷◌, ◌++◌, length, map, drop, get_or, sym, ap, ◌∙◌, append_assoc, add-one}
+use Rattle.std.proofs.Common.{◌≡◌, ℕ, suc, ◌+◌, ◌<◌, List, ◌∷◌, ◌++◌, length, map, drop, get_or, sym, ap, ◌∙◌, append_assoc, add-one}
 use Rattle.std.proofs.lemmas.List.{map-append}
 use Rattle.std.proofs.Math.Seq.{drop-cons}
 
@@ -19,3 +19,8 @@ five g p r x q e a b c d f ha hb hc hd hf =
     let three = hc ∙ ap (λ l. l ++ map g x) two ∙ sym (map-append g (p ++ r) x) in
     let four = hd ∙ ap (λ l. l ++ map g q) three ∙ sym (map-append g ((p ++ r) ++ x) q) in
     hf ∙ ap (λ l. l ++ map g e) four ∙ sym (map-append g (((p ++ r) ++ x) ++ q) e)
+
+-- five lists, one after another
+pub five_lists : {B : Type 0} (p r x q e a b c d f : List B) → a ≡ p → b ≡ a ++ r → c ≡ b ++ x → d ≡ c ++ q → f ≡ d ++ e → f ≡ p ++ r ++ x ++ q ++ e
+five_lists p r x q e a b c d f ha hb hc hd hf =
+    hf ∙ ap (λ l. l ++ e) (hd ∙ ap (λ l. l ++ q) (hc ∙ ap (λ l. l ++ x) (hb ∙ ap (λ l. l ++ r) ha)))

@@ -7,11 +7,11 @@ use Rattle.rg_words.specs.Layout.{Word}
 use Rattle.rg_words.specs.States.{IsState, IsPair}
 use Rattle.rg_tree.specs.Trees.{Proposition}
 use Rattle.rg_tree.specs.Meaning.{holds}
-use Rattle.rg_tree.specs.Statements.{Statement, Specification, PartTree, ProgramTree}
+use Rattle.rg_tree.specs.Statements.{Specification, PartTree, ProgramTree}
 use Rattle.rg_tree.specs.Traces.{State, holds_at, Move, Own, Env, Step, last, last_of, move_of, view, IsTrace, IsTraceOf, Inside, EnvInside}
 use Rattle.rg_tree.specs.Runs.{runs}
 use Rattle.rg_tree.specs.Programs.{nth, ViewsRun, all_true, OthersInside, PartsInside, IsSatisfied}
-use Rattle.rg_tree.specs.Obligations.{Obligation, reaches, allows, IsMet, AllMet, AllHold, IsInside}
+use Rattle.rg_tree.specs.Obligations.{reaches, allows, IsMet, AllMet, AllHold, IsInside}
 use Rattle.rg_tree.proofs.Guards.{Guards, StatementSound}
 use Rattle.rg_tree.proofs.Asked.{inside_more, met_front, met_back}
 use Rattle.rg_tree.proofs.Beginnings.{Satisfies-Sound}

@@ -3,5 +3,8 @@
 
 pub mod conditions;
 mod laws;
+pub mod names;
+#[cfg(test)]
+mod tests;
 
 pub use laws::parallel_rule;

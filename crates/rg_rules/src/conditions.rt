@@ -71,10 +71,11 @@ fn add_step(
     let second = copy_assigns(alloc, act)?;
     let post = copy_formula(alloc, &spec.post)?;
     let guar = copy_formula(alloc, &spec.guar)?;
+    let rely = &spec.rely;
     all.push(reaches(layout.copy()?, given, first, post))?;
     all.push(makes(layout.copy()?, again, second, guar))?;
-    all.push(keeps(alloc, layout.copy()?, &spec.pre, &spec.rely)?)?;
-    all.push(keeps(alloc, layout.copy()?, &spec.post, &spec.rely)?)?;
+    all.push(keeps(alloc, layout.copy()?, &spec.pre, rely)?)?;
+    all.push(keeps(alloc, layout.copy()?, &spec.post, rely)?)?;
     Ok(())
 }
 
@@ -92,9 +93,9 @@ fn add_loop(
 {
     let negated = Formula::Not(Box::new(alloc, copy_formula(alloc, test)?)?);
     let both = two_formulas(alloc, &spec.pre, &negated)?;
-    let post = copy_formula(alloc, &spec.post)?;
+    let goal = copy_formula(alloc, &spec.post)?;
     all.push(keeps(alloc, layout.copy()?, &spec.pre, &spec.rely)?)?;
-    all.push(reaches(layout.copy()?, both, Vec::new(alloc), post))?;
+    all.push(reaches(layout.copy()?, both, Vec::new(alloc), goal))?;
     all.push(keeps(alloc, layout.copy()?, &spec.post, &spec.rely)?)?;
     Ok(())
 }

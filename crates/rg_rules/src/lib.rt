@@ -7,6 +7,8 @@ mod fits;
 mod laws;
 mod names;
 mod table;
+#[cfg(test)]
+mod tests;
 
 pub use derivation::{Derivation, Line, Rule};
 pub use laws::{derivations_have_no_fault, rules_are_sound};

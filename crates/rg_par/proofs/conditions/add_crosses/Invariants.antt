@@ -1,5 +1,4 @@
 use Rattle.std.proofs.Common.{◌≡◌, ◌++◌, suc, map, drop}
-use Rattle.rg_tree.specs.View.{formula}
 use Rattle.rg_tree.specs.ProgramView.{part}
 use Rattle.rg_tree.specs.Conditions.{claim}
 use Rattle.rg_tree.specs.Obligations.{obligation_claim}

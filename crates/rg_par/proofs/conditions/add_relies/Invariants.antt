@@ -1,4 +1,4 @@
-use Rattle.std.proofs.Common.{◌≡◌, ◌++◌, ◌+◌, map, drop, take}
+use Rattle.std.proofs.Common.{◌≡◌, ◌++◌, map, drop}
 use Rattle.rg_tree.specs.View.{formula}
 use Rattle.rg_tree.specs.ProgramView.{part}
 use Rattle.rg_tree.specs.Conditions.{claim}

@@ -1,4 +1,4 @@
-use Rattle.std.proofs.Common.{◌≡◌, ◌++◌, [], ◌∷◌, map, rules}
+use Rattle.std.proofs.Common.{[], ◌∷◌, map, rules}
 use Rattle.rg_tree.specs.Conditions.{claim}
 use Rattle.rg_tree.specs.ProgramView.{specification, part}
 use Rattle.rg_tree.specs.Obligations.{obligation_claim, reaches}

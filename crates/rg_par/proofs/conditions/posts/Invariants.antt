@@ -1,8 +1,6 @@
-use Rattle.std.proofs.Common.{◌≡◌, ◌++◌, ◌+◌, map, drop, take}
+use Rattle.std.proofs.Common.{◌≡◌, map, take}
 use Rattle.rg_tree.specs.View.{formula}
 use Rattle.rg_tree.specs.ProgramView.{part}
-use Rattle.rg_tree.specs.Conditions.{claim}
-use Rattle.rg_tree.specs.Obligations.{obligation_claim}
 use Rattle.rg_par.proofs.conditions.posts.Given as goal
 
 abbrev pub invariant-loop-part : goal.invariant-loop-part
