@@ -1,14 +1,16 @@
 -- The builder makes of each way to write a formula what it says.
-use Rattle.std.proofs.Common.{◌≡◌, Bool, true, false, cond, List, [], ◌∷◌, ◌++◌, refl, ap, ◌∙◌}
+use Rattle.std.proofs.Common.{◌≡◌, Bool, true, false, cond, List, [], ◌∷◌, ◌++◌, Option, Some, refl, sym, ap, ◌∙◌}
 use Rattle.rg_text.specs.Text.{Leaf}
-use Rattle.rg_text.specs.declared.kind.Terminal.TheVariants.{Colon, Show, Close, Compare, Operate, Join, Imply, Then, Else}
+use Rattle.rg_text.specs.declared.kind.Terminal.TheVariants.{Colon, Show, Section, Close, Compare, Operate, Join, Imply, Then, Else}
 use Rattle.rg_text.specs.declared.kind.Junction.{Junction}
+use Rattle.rg_text.specs.declared.kind.Keyword.TheVariants.{At}
 use Rattle.rg_parse.specs.Grammar as grammar
-use Rattle.rg_parse.specs.Grammar.{Lexeme, WordsText, ShowSpelling, one, more, marked, declaration, words, show, fixed, FormulaText, ChainText, ExpressionText, truth, negation, junction, conditional, comparison, pair, longer, numeral, word, next_word, inverse, operation, shift, choice, formula, chain, expression}
-use Rattle.rg_parse.specs.Syntax.{DeclaredWord, number}
+use Rattle.rg_parse.specs.Grammar.{Lexeme, WordsText, ShowSpelling, SettingsText, MovesText, no_setting, and_setting, no_move, and_move, settings, moves, a_setting, one, more, marked, declaration, words, show, fixed, FormulaText, ChainText, ExpressionText, truth, negation, junction, conditional, comparison, pair, longer, numeral, word, next_word, inverse, operation, shift, choice, formula, chain, expression}
+use Rattle.rg_parse.specs.Syntax.{DeclaredWord, SettingTree, MoveTree, number}
+use Rattle.rg_parse.specs.Parse.{OneStart, OneMoves}
 use Rattle.rg_parse.specs.Syntax as syntax
-use Rattle.rg_parse.specs.Frames.{Open, whole, finished, declaring, showing, finished_show, negated, inverted, first, another, second, comparing, operating, chosen, condition, consequent, alternative, after_next}
-use Rattle.rg_parse.specs.Build.{with_claim, with_term, with_name, with_number, steps, is_apart, claim_of, chain_of, term_of, declared_words}
+use Rattle.rg_parse.specs.Frames.{Open, SetFor, for_start, for_move, setting_words, moving, whole, finished, declaring, showing, finished_show, negated, inverted, first, another, second, comparing, operating, chosen, condition, consequent, alternative, after_next}
+use Rattle.rg_parse.specs.Build.{with_claim, with_term, with_name, with_number, steps, is_apart, claim_of, chain_of, term_of, declared_words, settings_of, moves_of, whole_moves_of}
 
 mutual
   pub builds_claim : (f : FormulaText) (os : List Open) (r : List Lexeme) → steps os (formula f r) ≡ steps (with_claim os (claim_of f)) r
@@ -52,3 +54,44 @@ builds_formula f = builds_claim f (whole ∷ []) []
 
 pub builds_show : (s : ShowSpelling) → steps (declaring [] false ∷ []) (show s []) ≡ finished_show (declared_words s.words) (claim_of s.formula) ∷ []
 builds_show s = builds_words s.words [] (fixed Show ∷ formula s.formula []) ∙ builds_claim s.formula (showing (declared_words s.words) ∷ []) []
+
+builds_settings : (w : SetFor) (ss : SettingsText) (os : List Open) (r : List Lexeme) → steps (setting_words w [] ∷ os) (settings ss r) ≡ steps (setting_words w (settings_of ss) ∷ os) r
+builds_settings w no_setting os r = refl
+builds_settings w (and_setting ss s) os r = builds_settings w ss os (a_setting s r)
+
+-- what is open after moves
+abbrev after_moves : MovesText → Open
+after_moves no_move = moving []
+after_moves (and_move ms n ss) = setting_words (for_move (moves_of ms) n) (settings_of ss)
+
+builds_at : (ms : MovesText) (n : Leaf) (os : List Open) (r : List Lexeme) → steps (after_moves ms ∷ os) (fixed (Section At) ∷ grammar.number n ∷ r) ≡ steps (setting_words (for_move (moves_of ms) n) [] ∷ os) r
+builds_at no_move n os r = refl
+builds_at (and_move ms k ss) n os r = refl
+
+builds_some_moves : (ms : MovesText) (os : List Open) (r : List Lexeme) → steps (moving [] ∷ os) (moves ms r) ≡ steps (after_moves ms ∷ os) r
+builds_some_moves no_move os r = refl
+builds_some_moves (and_move ms n ss) os r =
+    builds_some_moves ms os (fixed (Section At) ∷ grammar.number n ∷ settings ss r) ∙ builds_at ms n os (settings ss r) ∙ builds_settings (for_move (moves_of ms) n) ss os r
+
+pub builds_start : (ss : SettingsText) → steps (setting_words for_start [] ∷ []) (settings ss []) ≡ setting_words for_start (settings_of ss) ∷ []
+builds_start ss = builds_settings for_start ss [] []
+
+all_moves : (ms : MovesText) → whole_moves_of (after_moves ms ∷ []) ≡ Some (moves_of ms)
+all_moves no_move = refl
+all_moves (and_move ms n ss) = refl
+
+pub builds_moves : (ms : MovesText) → whole_moves_of (steps (moving [] ∷ []) (moves ms [])) ≡ Some (moves_of ms)
+builds_moves ms = ap whole_moves_of (builds_some_moves ms [] []) ∙ all_moves ms
+
+-- the same tokens say one thing
+same_some : {A : Type 0} (xs ys : A) → Some xs ≡ Some ys → xs ≡ ys
+same_some xs ys h = cc
+
+same_settings : (ss us : List SettingTree) → setting_words for_start ss ∷ [] ≡ setting_words for_start us ∷ [] → ss ≡ us
+same_settings ss us h = cc
+
+pub one_start : OneStart
+one_start s t e = same_settings (settings_of s) (settings_of t) (sym (builds_start s) ∙ ap (steps (setting_words for_start [] ∷ [])) e ∙ builds_start t)
+
+pub one_moves : OneMoves
+one_moves s t e = same_some (moves_of s) (moves_of t) (sym (builds_moves s) ∙ ap (λ ls. whole_moves_of (steps (moving [] ∷ []) ls)) e ∙ builds_moves t)

@@ -9,10 +9,10 @@ use Rattle.rg_words.specs.declared.operators.Operator.TheVariants.{Add}
 use Rattle.rg_parse.specs.declared.point.Sorts.{Sorts}
 use Rattle.rg_parse.specs.declared.point.Point.{Point}
 use Rattle.rg_parse.specs.declared.point.Point.TheVariants.{End}
-use Rattle.rg_parse.specs.Grammar.{Lexeme, fixed, name, number, WordsText, one, more, ShowSpelling, Spelling, spelled, IsText, FormulaText, ExpressionText, truth, negation, junction, conditional, comparison, pair, longer, numeral, inverse, operation, shift, choice, formula, chain, expression}
-use Rattle.rg_parse.specs.Machine.{run, limited}
+use Rattle.rg_parse.specs.Grammar.{Lexeme, fixed, name, number, WordsText, one, more, SettingsText, and_setting, and_move, no_setting, no_move, ShowSpelling, Spelling, spelled, IsText, FormulaText, ExpressionText, truth, negation, junction, conditional, comparison, pair, longer, numeral, inverse, operation, shift, choice, formula, chain, expression}
+use Rattle.rg_parse.specs.Machine.{run, limited, is_at_end}
 use Rattle.rg_parse.proofs.Steps.{kinds, calm, calm_run}
-use Rattle.rg_parse.proofs.Zipper.{single, several, negated, inverted, first, another, second, compared, operated, condition, consequent, alternative, Outer, alone, shown, Frames, bottom, within, Head, unread, before_first, after_fixed, after_name, after_colon, after_words, Part, after_formula, after_expression, after_next, counted, closing_conditional, closing_comparison, closing_operation, closing_shift, closing_choice, after_condition, after_consequent, State, hole, at, done, head, part, before_outer, before_all, tokens, taking, top, below, outer_kind, frames_kind, state_kind, points, part_point, state_points, under, part_needs, Well, WellState}
+use Rattle.rg_parse.proofs.Zipper.{single, several, negated, inverted, first, another, second, compared, operated, condition, consequent, alternative, Outer, alone, shown, Frames, bottom, within, Head, unread, before_first, after_fixed, after_name, after_colon, after_words, Setter, for_start, for_move, Set, after_settings, after_set_word, after_equals, before_moves, after_at, Part, after_formula, after_expression, after_next, counted, closing_conditional, closing_comparison, closing_operation, closing_shift, closing_choice, after_condition, after_consequent, State, hole, at, done, head, set, part, before_outer, before_all, tokens, taking, top, below, outer_kind, frames_kind, state_kind, points, part_point, state_points, under, part_needs, Well, WellState}
 use Rattle.rg_text.specs.declared.kind.Conditional.TheVariants.{Implies}
 
 -- tokens that make a text of this kind of what has been read
@@ -193,27 +193,63 @@ head_ends (after_words ws) = record {
   unlimited = λ lists. refl;
 }
 
+-- the word is set to 0
+set_ends : (x : Set) → StateEnds (set x)
+set_ends (after_settings for_start ss) = record { rest = []; whole = (ss, refl); unlimited = λ lists. refl }
+set_ends (after_settings (for_move ms n) ss) = record { rest = []; whole = (and_move ms n ss, refl); unlimited = λ lists. refl }
+set_ends (after_set_word for_start ss l) = record {
+  rest = fixed (Compare Equal) ∷ number zero_leaf ∷ [];
+  whole = (and_setting ss (record { word = l; value = zero_leaf }), refl);
+  unlimited = λ lists. refl;
+}
+set_ends (after_set_word (for_move ms n) ss l) = record {
+  rest = fixed (Compare Equal) ∷ number zero_leaf ∷ [];
+  whole = (and_move ms n (and_setting ss (record { word = l; value = zero_leaf })), refl);
+  unlimited = λ lists. refl;
+}
+set_ends (after_equals for_start ss l) = record {
+  rest = number zero_leaf ∷ [];
+  whole = (and_setting ss (record { word = l; value = zero_leaf }), refl);
+  unlimited = λ lists. refl;
+}
+set_ends (after_equals (for_move ms n) ss l) = record {
+  rest = number zero_leaf ∷ [];
+  whole = (and_move ms n (and_setting ss (record { word = l; value = zero_leaf })), refl);
+  unlimited = λ lists. refl;
+}
+set_ends before_moves = record { rest = []; whole = (no_move, refl); unlimited = λ lists. refl }
+set_ends (after_at ms) = record {
+  rest = number zero_leaf ∷ [];
+  whole = (and_move ms zero_leaf no_setting, refl);
+  unlimited = λ lists. refl;
+}
+
 pub state_ends : (s : State) → WellState s → StateEnds s
 state_ends (hole fs) w = by_calm (hole fs) (hole_ends fs (ends fs w))
 state_ends (at fs p) w = by_calm (at fs p) (part_ends fs (ends fs w.1) p w.0)
 state_ends (done o f) w = by_calm (done o f) (done_ends o f)
 state_ends (head h) w = head_ends h
+state_ends (set x) w = set_ends x
 
--- the machine has taken a whole text where it is at the end
-pub at_end : (s : State) (qs : List Point) → state_points s ≡ End ∷ qs → IsText (state_kind s) (tokens s [])
-at_end (hole fs) qs h = ends_apart fs (below fs) h
+-- the machine has taken a whole text where it may end
+pub at_end : (s : State) → is_at_end (state_points s) ≡ true → IsText (state_kind s) (tokens s [])
+at_end (hole fs) h = ends_apart fs (below fs) h
   where
-    ends_apart : (fs : Frames) (ps : List Point) → top fs ∷ ps ≡ End ∷ qs → IsText (frames_kind fs) (tokens (hole fs) [])
+    ends_apart : (fs : Frames) (ps : List Point) → is_at_end (top fs ∷ ps) ≡ true → IsText (frames_kind fs) (tokens (hole fs) [])
     ends_apart (bottom alone) ps h = cc
     ends_apart (bottom (shown ws)) ps h = cc
     ends_apart (within negated fs) ps h = cc
     ends_apart (within _ fs) ps h = cc
-at_end (at fs p) qs h = ends_apart p (taking fs) h
+at_end (at fs p) h = ends_apart p (taking fs) h
   where
-    ends_apart : (p : Part) (g : Sorts) → part_point p g ∷ under p (points fs) ≡ End ∷ qs → IsText (frames_kind fs) (tokens (at fs p) [])
+    ends_apart : (p : Part) (g : Sorts) → is_at_end (part_point p g ∷ under p (points fs)) ≡ true → IsText (frames_kind fs) (tokens (at fs p) [])
     ends_apart (after_formula f) g h = cc
     ends_apart _ g h = cc
-at_end (done alone f) qs h = (f, refl)
-at_end (done (shown ws) f) qs h = (record { words = ws; formula = f }, refl)
-at_end (head unread) qs h = cc
-at_end (head _) qs h = cc
+at_end (done alone f) h = (f, refl)
+at_end (done (shown ws) f) h = (record { words = ws; formula = f }, refl)
+at_end (head unread) h = cc
+at_end (head _) h = cc
+at_end (set (after_settings for_start ss)) h = (ss, refl)
+at_end (set (after_settings (for_move ms n) ss)) h = (and_move ms n ss, refl)
+at_end (set before_moves) h = (no_move, refl)
+at_end (set _) h = cc

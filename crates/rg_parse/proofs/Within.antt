@@ -4,22 +4,23 @@ use Rattle.rg_words.specs.declared.limits.TheConstants.{MOST_OPENERS, MOST_OPERA
 use Rattle.rg_text.specs.Text.{Leaf}
 use Rattle.rg_text.specs.declared.kind.Kind.{Kind}
 use Rattle.rg_text.specs.declared.kind.Kind.TheVariants.{Name, Primed, Number, Fixed}
-use Rattle.rg_text.specs.declared.kind.Terminal.TheVariants.{Open, Close, Colon, Show, Compare, Operate, ShiftBy, Join, Imply, Truth, Not, Inv, If}
+use Rattle.rg_text.specs.declared.kind.Terminal.TheVariants.{Open, Close, Colon, Show, Section, Compare, Operate, ShiftBy, Join, Imply, Truth, Not, Inv, If}
 use Rattle.rg_text.specs.declared.kind.Junction.{Junction}
+use Rattle.rg_text.specs.declared.kind.Keyword.TheVariants.{At}
 use Rattle.rg_parse.specs.declared.point.TextKind.{TextKind}
 use Rattle.rg_parse.specs.declared.point.TextKind.TheVariants as texts
 use Rattle.rg_parse.specs.declared.point.Sort.TheVariants.{Formula, Expression}
 use Rattle.rg_parse.specs.declared.point.Sorts.{Sorts}
 use Rattle.rg_parse.specs.declared.point.Point.{Point}
-use Rattle.rg_parse.specs.declared.point.Point.TheVariants.{Negated, Inverted, First, Next, Second, Right, Chosen, Condition, Consequent, Alternative, AfterExpression, AfterNext, Count, Whole, End, ShowStart, FirstWord, AfterWord}
-use Rattle.rg_parse.specs.Grammar.{Lexeme, fixed, name, number, WordsText, one, more, Spelling, marked, declaration, words, spelled, FormulaText, ChainText, ExpressionText, truth, negation, junction, conditional, comparison, pair, longer, numeral, word, next_word, inverse, operation, shift, choice, formula, chain, expression}
+use Rattle.rg_parse.specs.declared.point.Point.TheVariants.{Negated, Inverted, First, Next, Second, Right, Chosen, Condition, Consequent, Alternative, AfterExpression, AfterNext, Count, Whole, End, ShowStart, FirstWord, AfterWord, Settings, BeforeMoves}
+use Rattle.rg_parse.specs.Grammar.{Lexeme, fixed, name, number, WordsText, one, more, SettingsText, no_setting, and_setting, MovesText, no_move, and_move, settings, moves, a_setting, Spelling, marked, declaration, words, spelled, FormulaText, ChainText, ExpressionText, truth, negation, junction, conditional, comparison, pair, longer, numeral, word, next_word, inverse, operation, shift, choice, formula, chain, expression}
 use Rattle.rg_parse.specs.Machine.{start, takes, complete, one_more, has_room_at, limited}
 use Rattle.rg_words.specs.declared.operators.Comparison.{Comparison}
 use Rattle.rg_words.specs.declared.operators.Operator.{Operator}
 use Rattle.rg_words.specs.declared.operators.Shift.{Shift}
 use Rattle.std.proofs.lemmas.Bool.Decides.{nat_tests}
 use Rattle.rg_parse.specs.Limits.{operand_count, formula_fits, chain_fits, expression_fits, word_count, IsShallow, IsShort}
-use Rattle.rg_parse.proofs.Spellings.{count_of, count_of_words, same_self, open_or}
+use Rattle.rg_parse.proofs.Spellings.{count_of, count_of_words, same_self, open_or, moves_end, last_point}
 use Rattle.rg_parse.proofs.Steps.{kinds, and_both}
 
 -- the same, if the test holds
@@ -136,14 +137,30 @@ fits_words : (lists : Bool) (ws : WordsText) (r : List Lexeme) → limited lists
 fits_words lists (one w) r = fits_first lists w.fixed w.name w.width r
 fits_words lists (more ws w) r = fits_words lists ws (declaration w r) ∙ both _ _ _ _ (fits_further lists w.fixed (count_of_words ws) w.name w.width r)
 
+fits_settings : (lists m : Bool) (ss : SettingsText) (r : List Lexeme) → limited lists (Settings m ∷ []) (kinds (settings ss r)) ≡ limited lists (Settings m ∷ []) (kinds r)
+fits_settings lists m no_setting r = refl
+fits_settings lists m (and_setting ss s) r = fits_settings lists m ss (a_setting s r)
+
+fits_at : (lists : Bool) (ms : MovesText) (n : Leaf) (r : List Lexeme) → limited lists (moves_end ms ∷ []) (kinds (fixed (Section At) ∷ number n ∷ r)) ≡ limited lists (Settings true ∷ []) (kinds r)
+fits_at lists no_move n r = refl
+fits_at lists (and_move ms k ss) n r = refl
+
+fits_moves : (lists : Bool) (ms : MovesText) (r : List Lexeme) → limited lists (BeforeMoves ∷ []) (kinds (moves ms r)) ≡ limited lists (moves_end ms ∷ []) (kinds r)
+fits_moves lists no_move r = refl
+fits_moves lists (and_move ms n ss) r = fits_moves lists ms (fixed (Section At) ∷ number n ∷ settings ss r) ∙ fits_at lists ms n (settings ss r) ∙ fits_settings lists true ss r
+
 -- whether a text is within the limits of depth, and where lists are asked about those of lists too
 abbrev pub fits : Bool → (k : TextKind) → Spelling k → Bool
 fits lists texts.Formula f = formula_fits 0 f
 fits lists texts.Show s = words_short lists s.words && formula_fits 0 s.formula
+fits lists texts.Start ss = true
+fits lists texts.Moves ms = true
 
-pub fits_text : (lists : Bool) (k : TextKind) (s : Spelling k) → limited lists (start k) (kinds (spelled k s [])) ≡ also (fits lists k s) (Some (End ∷ []))
+pub fits_text : (lists : Bool) (k : TextKind) (s : Spelling k) → limited lists (start k) (kinds (spelled k s [])) ≡ also (fits lists k s) (Some (last_point k s ∷ []))
 fits_text lists texts.Formula f = fits_formula lists f Whole [] [] refl
 fits_text lists texts.Show s = fits_words lists s.words (fixed Show ∷ formula s.formula []) ∙ both _ _ _ _ (fits_formula lists s.formula Whole [] [] refl)
+fits_text lists texts.Start ss = fits_settings lists false ss []
+fits_text lists texts.Moves ms = fits_moves lists ms []
 
 -- what the test says of a text
 long_enough : (n : ℕ) → ltb (min n 255) MOST_WORDS ≡ true → n + 1 ≤ MOST_WORDS
@@ -168,15 +185,23 @@ words_unasked (more ws w) = rw (words_unasked ws) (or_true (ltb (count_of_words 
 pub fits_shallow : (lists : Bool) (k : TextKind) (s : Spelling k) → fits lists k s ≡ true → IsShallow k s
 fits_shallow lists texts.Formula f h = h
 fits_shallow lists texts.Show s h = (and_both _ _ h).1
+fits_shallow lists texts.Start ss h = tt
+fits_shallow lists texts.Moves ms h = tt
 
 pub fits_short : (k : TextKind) (s : Spelling k) → fits true k s ≡ true → IsShort k s
 fits_short texts.Formula f h = tt
 fits_short texts.Show s h = short_words s.words (and_both _ _ h).0
+fits_short texts.Start ss h = tt
+fits_short texts.Moves ms h = tt
 
 pub shallow_fits : (k : TextKind) (s : Spelling k) → IsShallow k s → fits false k s ≡ true
 shallow_fits texts.Formula f h = h
 shallow_fits texts.Show s h = rw (words_unasked s.words) h
+shallow_fits texts.Start ss h = refl
+shallow_fits texts.Moves ms h = refl
 
 pub within_fits : (k : TextKind) (s : Spelling k) → IsShallow k s → IsShort k s → fits true k s ≡ true
 within_fits texts.Formula f h short = h
 within_fits texts.Show s h short = rw (words_are_short s.words short) h
+within_fits texts.Start ss h short = refl
+within_fits texts.Moves ms h short = refl

@@ -1,5 +1,5 @@
 -- What has been read, with its parts: each place of the machine knows the tokens before it.
-use Rattle.std.proofs.Common.{◌≡◌, ℕ, Bool, true, ◌||◌, List, [], ◌∷◌, Option, Some, None, refl}
+use Rattle.std.proofs.Common.{◌≡◌, ℕ, Bool, true, false, ◌||◌, List, [], ◌∷◌, Option, Some, None, refl}
 use Rattle.rg_text.specs.declared.kind.Terminal.TheVariants.{Open, Colon, Words, Show, Section, Compare, Operate, ShiftBy, Join, Imply, Not, Inv, If, Then, Else}
 use Rattle.rg_words.specs.declared.operators.Comparison.{Comparison}
 use Rattle.rg_words.specs.declared.operators.Operator.{Operator}
@@ -14,8 +14,9 @@ use Rattle.rg_parse.specs.declared.point.TextKind.TheVariants as texts
 use Rattle.rg_parse.specs.declared.point.Sort.TheVariants.{Formula, Expression}
 use Rattle.rg_parse.specs.declared.point.Sorts.{Sorts}
 use Rattle.rg_parse.specs.declared.point.Point.{Point}
-use Rattle.rg_parse.specs.declared.point.Point.TheVariants.{Whole, Negated, Inverted, First, Next, Second, Right, Chosen, Condition, Consequent, Alternative, End, AfterFormula, AfterExpression, AfterNext, Count, Closing, AfterCondition, AfterConsequent, ShowStart, FirstWord, FixedWord, NamedWord, WordWidth, AfterWord}
-use Rattle.rg_parse.specs.Grammar.{Lexeme, fixed, name, number, FormulaText, ChainText, ExpressionText, WordsText, negation, pair, longer, inverse, one, more, formula, chain, expression, marked, words}
+use Rattle.rg_parse.specs.declared.point.Point.TheVariants.{Whole, Negated, Inverted, First, Next, Second, Right, Chosen, Condition, Consequent, Alternative, End, AfterFormula, AfterExpression, AfterNext, Count, Closing, AfterCondition, AfterConsequent, ShowStart, FirstWord, FixedWord, NamedWord, WordWidth, AfterWord, Settings, SettingWord, SettingValue, BeforeMoves, MoveNumber}
+use Rattle.rg_parse.specs.Grammar.{Lexeme, fixed, name, number, FormulaText, ChainText, ExpressionText, WordsText, negation, pair, longer, inverse, one, more, formula, chain, expression, marked, words, SettingsText, MovesText, settings, moves}
+use Rattle.rg_words.specs.declared.operators.Comparison.TheVariants as comparisons
 use Rattle.rg_parse.specs.Machine.{only_formula, takes, complete, one_more}
 use Rattle.rg_parse.proofs.Spellings.{count_of, count_of_words}
 
@@ -86,11 +87,25 @@ pub data Head : Type 0 where
   after_colon : Previous → Bool → Leaf → Head
   after_words : WordsText → Head
 
+-- what words are set for: a start, or a move of this number after others
+pub data Setter : Type 0 where
+  for_start : Setter
+  for_move : MovesText → Leaf → Setter
+
+-- a start or moves up to some token
+pub data Set : Type 0 where
+  after_settings : Setter → SettingsText → Set
+  after_set_word : Setter → SettingsText → Leaf → Set
+  after_equals : Setter → SettingsText → Leaf → Set
+  before_moves : Set
+  after_at : MovesText → Set
+
 pub data State : Type 0 where
   hole : Frames → State
   at : Frames → Part → State
   done : Outer → FormulaText → State
   head : Head → State
+  set : Set → State
 
 -- the tokens so far, and then the rest
 abbrev pub before : Frame → List Lexeme → List Lexeme
@@ -142,11 +157,23 @@ before_head (after_name o b l) r = before_word o (marked b (name l ∷ r))
 before_head (after_colon o b l) r = before_word o (marked b (name l ∷ fixed Colon ∷ r))
 before_head (after_words ws) r = words ws r
 
+abbrev pub before_setter : Setter → List Lexeme → List Lexeme
+before_setter for_start r = r
+before_setter (for_move ms n) r = moves ms (fixed (Section keywords.At) ∷ number n ∷ r)
+
+abbrev pub before_set : Set → List Lexeme → List Lexeme
+before_set (after_settings w ss) r = before_setter w (settings ss r)
+before_set (after_set_word w ss l) r = before_setter w (settings ss (name l ∷ r))
+before_set (after_equals w ss l) r = before_setter w (settings ss (name l ∷ fixed (Compare comparisons.Equal) ∷ r))
+before_set before_moves r = r
+before_set (after_at ms) r = moves ms (fixed (Section keywords.At) ∷ r)
+
 abbrev pub tokens : State → List Lexeme → List Lexeme
 tokens (hole fs) r = before_all fs r
 tokens (at fs p) r = before_all fs (part p r)
 tokens (done o f) r = before_outer o (formula f r)
 tokens (head h) r = before_head h r
+tokens (set x) r = before_set x r
 
 -- the kind of text that is read
 abbrev pub outer_kind : Outer → TextKind
@@ -157,11 +184,23 @@ abbrev pub frames_kind : Frames → TextKind
 frames_kind (bottom o) = outer_kind o
 frames_kind (within f fs) = frames_kind fs
 
+abbrev pub setter_kind : Setter → TextKind
+setter_kind for_start = texts.Start
+setter_kind (for_move ms n) = texts.Moves
+
+abbrev pub set_kind : Set → TextKind
+set_kind (after_settings w ss) = setter_kind w
+set_kind (after_set_word w ss l) = setter_kind w
+set_kind (after_equals w ss l) = setter_kind w
+set_kind before_moves = texts.Moves
+set_kind (after_at ms) = texts.Moves
+
 abbrev pub state_kind : State → TextKind
 state_kind (hole fs) = frames_kind fs
 state_kind (at fs p) = frames_kind fs
 state_kind (done o f) = outer_kind o
 state_kind (head h) = texts.Show
+state_kind (set x) = set_kind x
 
 -- the machine's place for a frame, where the frame around it takes these sorts
 abbrev pub point : Frame → Sorts → Point
@@ -231,11 +270,23 @@ under (after_condition f) ps = Chosen ∷ ps
 under (after_consequent f e) ps = Chosen ∷ ps
 under _ ps = ps
 
+abbrev pub in_move : Setter → Bool
+in_move for_start = false
+in_move (for_move ms n) = true
+
+abbrev pub set_point : Set → Point
+set_point (after_settings w ss) = Settings (in_move w)
+set_point (after_set_word w ss l) = SettingWord (in_move w)
+set_point (after_equals w ss l) = SettingValue (in_move w)
+set_point before_moves = BeforeMoves
+set_point (after_at ms) = MoveNumber
+
 abbrev pub state_points : State → List Point
 state_points (hole fs) = points fs
 state_points (at fs p) = part_point p (taking fs) ∷ under p (points fs)
 state_points (done o f) = End ∷ []
 state_points (head h) = head_point h ∷ []
+state_points (set x) = set_point x ∷ []
 
 -- what the frame around has to take
 abbrev pub needs : Frame → Sorts → Bool
@@ -272,6 +323,7 @@ WellState (hole fs) = Well fs
 WellState (at fs p) = (part_needs p (taking fs) ≡ true) × Well fs
 WellState (done o f) = Unit {0}
 WellState (head h) = Unit {0}
+WellState (set x) = Unit {0}
 
 -- a state of a text of this kind at these places, whose tokens are these
 pub record Reaches (k : TextKind) (text : List Lexeme → List Lexeme) (ps : List Point) : Type 0 where

@@ -4,11 +4,11 @@ use Rattle.rg_text.specs.declared.kind.Terminal.{Terminal}
 use Rattle.rg_text.specs.declared.kind.Terminal.TheVariants as terminals
 use Rattle.rg_text.specs.declared.kind.Keyword.TheVariants as keywords
 use Rattle.rg_text.specs.declared.kind.Junction.{Junction}
-use Rattle.rg_parse.specs.Grammar.{Lexeme, FormulaText, ChainText, ExpressionText, WordsText, ShowSpelling}
+use Rattle.rg_parse.specs.Grammar.{Lexeme, FormulaText, ChainText, ExpressionText, WordsText, ShowSpelling, SettingsText, MovesText}
 use Rattle.rg_parse.specs.Grammar as grammar
 use Rattle.rg_text.specs.Text.{Leaf}
-use Rattle.rg_parse.specs.Syntax.{Term, Claim, number, word, next_word, inverse, binary, shifted, choice, truth, negation, joined, implied, compared, DeclaredWord, ShownClaim}
-use Rattle.rg_parse.specs.Frames.{Piece, a_claim, a_term, Open, whole, negated, inverted, first, another, second, comparing, operating, chosen, condition, consequent, alternative, finished, after_claim, after_term, after_next, counted, closing, after_condition, after_consequent, declaring, declared, showing, finished_show}
+use Rattle.rg_parse.specs.Syntax.{Term, Claim, number, word, next_word, inverse, binary, shifted, choice, truth, negation, joined, implied, compared, DeclaredWord, ShownClaim, SettingTree, MoveTree}
+use Rattle.rg_parse.specs.Frames.{Piece, a_claim, a_term, Open, whole, negated, inverted, first, another, second, comparing, operating, chosen, condition, consequent, alternative, finished, after_claim, after_term, after_next, counted, closing, after_condition, after_consequent, declaring, declared, showing, finished_show, SetFor, for_start, for_move, setting_words, set_word, moving}
 
 -- the open parts, the innermost first, after a whole item; where it may not stand nothing changes
 abbrev pub with_claim : List Open → Claim → List Open
@@ -76,6 +76,15 @@ after_declarations (terminals.Section keywords.Fixed) ws b = declaring ws true
 after_declarations terminals.Show ws b = showing ws
 after_declarations _ ws b = declaring ws b
 
+-- an `at` ends the move before it
+abbrev pub after_at : SetFor → List SettingTree → Open
+after_at for_start ss = setting_words for_start ss
+after_at (for_move ms n) ss = moving (ms ++ record { number = n; settings = ss } ∷ [])
+
+abbrev pub after_some_settings : Terminal → SetFor → List SettingTree → Open
+after_some_settings (terminals.Section keywords.At) w ss = after_at w ss
+after_some_settings _ w ss = setting_words w ss
+
 abbrev pub between : Terminal → List Open → List Open
 between t [] = []
 between t (after_claim f ∷ os) = after_a_claim t f ∷ os
@@ -84,6 +93,7 @@ between t (after_next j f ∷ os) = after_an_operand t j f ∷ os
 between t (after_condition f ∷ os) = after_a_condition t f ∷ os
 between t (after_consequent f a ∷ os) = after_a_consequent t f a ∷ os
 between t (declaring ws b ∷ os) = after_declarations t ws b ∷ os
+between t (setting_words w ss ∷ os) = after_some_settings t w ss ∷ os
 between t (o ∷ os) = o ∷ os
 
 abbrev pub on_fixed : Terminal → List Open → List Open
@@ -100,11 +110,15 @@ abbrev pub is_apart : List Open → Bool
 is_apart (counted s a ∷ os) = true
 is_apart (declaring ws b ∷ os) = true
 is_apart (declared ws b n ∷ os) = true
+is_apart (setting_words w ss ∷ os) = true
+is_apart (set_word w ss l ∷ os) = true
+is_apart (moving ms ∷ os) = true
 is_apart [] = true
 is_apart _ = false
 
 abbrev pub with_name : List Open → Leaf → List Open
 with_name (declaring ws b ∷ os) leaf = declared ws b leaf ∷ os
+with_name (setting_words w ss ∷ os) leaf = set_word w ss leaf ∷ os
 with_name os leaf = os
 
 abbrev pub on_name : List Open → Leaf → List Open
@@ -113,6 +127,8 @@ on_name os leaf = cond (is_apart os) (with_name os leaf) (with_term os (word lea
 abbrev pub with_number : List Open → Leaf → List Open
 with_number (counted s a ∷ os) leaf = closing (a_term (shifted s a leaf)) ∷ os
 with_number (declared ws b n ∷ os) leaf = declaring (ws ++ record { fixed = b; name = n; width = leaf } ∷ []) false ∷ os
+with_number (set_word w ss l ∷ os) leaf = setting_words w (ss ++ record { word = l; value = leaf } ∷ []) ∷ os
+with_number (moving ms ∷ os) leaf = setting_words (for_move ms leaf) [] ∷ os
 with_number os leaf = os
 
 abbrev pub on_number : List Open → Leaf → List Open
@@ -137,6 +153,22 @@ whole_of _ = None
 abbrev pub whole_show_of : List Open → Option ShownClaim
 whole_show_of (finished_show ws f ∷ os) = Some (record { words = ws; formula = f })
 whole_show_of _ = None
+
+-- the words that a start sets
+abbrev pub whole_start_of : List Open → Option (List SettingTree)
+whole_start_of (setting_words for_start ss ∷ os) = Some ss
+whole_start_of _ = None
+
+-- the moves up to the one that sets these words
+abbrev pub with_last : SetFor → List SettingTree → Option (List MoveTree)
+with_last for_start ss = None
+with_last (for_move ms n) ss = Some (ms ++ record { number = n; settings = ss } ∷ [])
+
+-- all moves, with the last
+abbrev pub whole_moves_of : List Open → Option (List MoveTree)
+whole_moves_of (moving ms ∷ os) = Some ms
+whole_moves_of (setting_words w ss ∷ os) = with_last w ss
+whole_moves_of _ = None
 
 -- what a way to write a formula says
 abbrev mutual
@@ -168,3 +200,13 @@ declared_words (grammar.more ws w) = declared_words ws ++ w ∷ []
 -- what a way to write a text to show says
 abbrev pub shown_claim : ShowSpelling → ShownClaim
 shown_claim s = record { words = declared_words s.words; formula = claim_of s.formula }
+
+-- the words that are set, in their order
+abbrev pub settings_of : SettingsText → List SettingTree
+settings_of grammar.no_setting = []
+settings_of (grammar.and_setting ss s) = settings_of ss ++ s ∷ []
+
+-- the moves, in their order
+abbrev pub moves_of : MovesText → List MoveTree
+moves_of grammar.no_move = []
+moves_of (grammar.and_move ms n ss) = moves_of ms ++ record { number = n; settings = settings_of ss } ∷ []

@@ -6,9 +6,11 @@ use Rattle.rg_words.specs.declared.operators.Shift.{Shift}
 use Rattle.rg_text.specs.declared.kind.Junction.{Junction}
 use Rattle.rg_text.specs.declared.kind.Conditional.{Conditional}
 use Rattle.rg_text.specs.Text.{Leaf, leaf_of}
-use Rattle.rg_parse.specs.Syntax.{Term, Claim, DeclaredWord, term, claim, declared_word}
+use Rattle.rg_parse.specs.Syntax.{Term, Claim, DeclaredWord, SettingTree, MoveTree, term, claim, declared_word, setting, move_text}
 use Rattle.rg_parse.specs.declared.build.Item.{Item}
 use Rattle.rg_parse.specs.declared.build.Item.TheVariants as items
+use Rattle.rg_parse.specs.declared.build.Setter.{Setter}
+use Rattle.rg_parse.specs.declared.build.Setter.TheVariants as setters
 use Rattle.rg_parse.specs.declared.build.Frame.{Frame}
 use Rattle.rg_parse.specs.declared.build.Frame.TheVariants as frames
 
@@ -20,6 +22,15 @@ pub data Piece : Type 0 where
 abbrev pub piece : List ℕ → Item → Piece
 piece src (items.Formula f) = a_claim (claim src f)
 piece src (items.Expression e) = a_term (term src e)
+
+-- what words are set for: a start, or a move of this number after others
+pub data SetFor : Type 0 where
+  for_start : SetFor
+  for_move : List MoveTree → Leaf → SetFor
+
+abbrev pub setter_of : List ℕ → Setter → SetFor
+setter_of src setters.Start = for_start
+setter_of src (setters.Move ms n) = for_move (map (move_text src) ms.items) (leaf_of src n)
 
 -- a part of a text, up to what is wanted next
 pub data Open : Type 0 where
@@ -47,6 +58,9 @@ pub data Open : Type 0 where
   declared : List DeclaredWord → Bool → Leaf → Open
   showing : List DeclaredWord → Open
   finished_show : List DeclaredWord → Claim → Open
+  setting_words : SetFor → List SettingTree → Open
+  set_word : SetFor → List SettingTree → Leaf → Open
+  moving : List MoveTree → Open
 
 abbrev pub open_of : List ℕ → Frame → Open
 open_of src frames.Whole = whole
@@ -73,3 +87,6 @@ open_of src (frames.Declaring ws b) = declaring (map (declared_word src) ws.item
 open_of src (frames.Declared ws b n) = declared (map (declared_word src) ws.items) b (leaf_of src n)
 open_of src (frames.Showing ws) = showing (map (declared_word src) ws.items)
 open_of src (frames.ShowEnd ws f) = finished_show (map (declared_word src) ws.items) (claim src f)
+open_of src (frames.Settings w ss) = setting_words (setter_of src w) (map (setting src) ss.items)
+open_of src (frames.SettingWord w ss l) = set_word (setter_of src w) (map (setting src) ss.items) (leaf_of src l)
+open_of src (frames.Moves ms) = moving (map (move_text src) ms.items)

@@ -12,7 +12,8 @@ use Rattle.rg_words.specs.declared.operators.Shift.{Shift}
 use Rattle.rg_text.specs.declared.kind.Junction.{Junction}
 use Rattle.rg_text.specs.declared.kind.Conditional.{Conditional}
 use Rattle.rg_text.specs.declared.kind.Keyword.TheVariants as keywords
-use Rattle.rg_parse.specs.Syntax.{DeclaredWord}
+use Rattle.rg_parse.specs.Syntax.{DeclaredWord, SettingTree}
+use Rattle.rg_words.specs.declared.operators.Comparison.TheVariants as comparisons
 use Rattle.rg_parse.specs.declared.point.TextKind.{TextKind}
 use Rattle.rg_parse.specs.declared.point.TextKind.TheVariants as texts
 
@@ -108,15 +109,40 @@ words (more ws w) rest = words ws (declaration w rest)
 abbrev pub show : ShowSpelling → List Lexeme → List Lexeme
 show s rest = words s.words (fixed Show ∷ formula s.formula rest)
 
+-- the ways to set words
+pub data SettingsText : Type 0 where
+  no_setting : SettingsText
+  and_setting : SettingsText → SettingTree → SettingsText
+
+-- the ways to write moves, each with its number
+pub data MovesText : Type 0 where
+  no_move : MovesText
+  and_move : MovesText → Leaf → SettingsText → MovesText
+
+abbrev pub a_setting : SettingTree → List Lexeme → List Lexeme
+a_setting s rest = name s.word ∷ fixed (Compare comparisons.Equal) ∷ number s.value ∷ rest
+
+abbrev pub settings : SettingsText → List Lexeme → List Lexeme
+settings no_setting rest = rest
+settings (and_setting ss s) rest = settings ss (a_setting s rest)
+
+abbrev pub moves : MovesText → List Lexeme → List Lexeme
+moves no_move rest = rest
+moves (and_move ms n ss) rest = moves ms (fixed (Section keywords.At) ∷ number n ∷ settings ss rest)
+
 -- the ways to write a text of this kind
 abbrev pub Spelling : TextKind → Type 0
 Spelling texts.Formula = FormulaText
 Spelling texts.Show = ShowSpelling
+Spelling texts.Start = SettingsText
+Spelling texts.Moves = MovesText
 
 -- its tokens, and then the rest
 abbrev pub spelled : (k : TextKind) → Spelling k → List Lexeme → List Lexeme
 spelled texts.Formula f rest = formula f rest
 spelled texts.Show s rest = show s rest
+spelled texts.Start ss rest = settings ss rest
+spelled texts.Moves ms rest = moves ms rest
 
 -- the tokens spell a text of this kind
 abbrev pub IsText : TextKind → List Lexeme → Type 0

@@ -1,13 +1,13 @@
-//! The tree of a formula, built token by token.
+//! The trees of texts, built token by token.
 
 ghost use Rattle.std.specs.Prelude.{◌≡◌, ℕ, List, [], ◌∷◌, ◌++◌, map, reverse, OnOk, IfOk, IsSomeAnd, option_map};
-ghost use Rattle.rg_parse.specs.Syntax.{claim, term, show_text};
-ghost use Rattle.rg_parse.specs.Frames.{open_of, piece};
+ghost use Rattle.rg_parse.specs.Syntax.{claim, term, show_text, setting, move_text};
+ghost use Rattle.rg_parse.specs.Frames.{open_of, piece, setter_of};
 ghost use Rattle.rg_text.specs.Text.{leaf_of};
-ghost use Rattle.rg_parse.specs.Grammar.{FormulaText, ShowSpelling, formula, show, lexeme_of};
-ghost use Rattle.rg_parse.specs.Build.{with_claim, with_term, with_piece, close, on_if, between, on_fixed, on_name, on_number, step, steps, claim_of, shown_claim, whole_of, whole_show_of};
+ghost use Rattle.rg_parse.specs.Grammar.{FormulaText, ShowSpelling, SettingsText, MovesText, formula, show, settings, moves, lexeme_of};
+ghost use Rattle.rg_parse.specs.Build.{with_claim, with_term, with_piece, close, on_if, between, on_fixed, on_name, on_number, step, steps, claim_of, shown_claim, whole_of, whole_show_of, after_at, settings_of, moves_of, whole_start_of, whole_moves_of, with_last};
 
-use crate::syntax::{Declaration, Expr, Formula, ShowText};
+use crate::syntax::{Declaration, Expr, Formula, MoveText, Setting, ShowText};
 use rg_text::kind::{Conditional, Junction, Keyword, Kind, Terminal};
 use rg_text::token::Token;
 use rg_words::operators::{Comparison, Operator, Shift};
@@ -18,6 +18,13 @@ use std::alloc::{AllocError, Global};
 pub enum Item {
     Formula(Formula),
     Expression(Expr),
+}
+
+/// What words are set for: a start, or a move of this number after others.
+#[derive(Debug, Drop)]
+pub enum Setter {
+    Start,
+    Move(Vec<MoveText>, Token),
 }
 
 /// An open part of the text, with what was read of it. Each stands where the `Point` of its name
@@ -51,6 +58,12 @@ pub enum Frame {
     /// After `show`.
     Showing(Vec<Declaration>),
     ShowEnd(Vec<Declaration>, Formula),
+    /// Words that are set.
+    Settings(Setter, Vec<Setting>),
+    /// The same, and the next word.
+    SettingWord(Setter, Vec<Setting>, Token),
+    /// Whole moves, before the first `at` or after another.
+    Moves(Vec<MoveText>),
 }
 
 /// Takes a whole formula into the parts around it.
@@ -189,7 +202,30 @@ fn take_between(frames: &mut Vec<Frame>, terminal: Terminal) -> Result<(), Alloc
             frames.push(Frame::Declaring(words, true))?;
         }
         (Some(Frame::Declaring(words, _)), Terminal::Show) => frames.push(Frame::Showing(words))?,
+        (Some(Frame::Settings(setter, settings)), Terminal::Section(Keyword::At)) => {
+            take_at(frames, setter, settings)?;
+        }
         (Some(other), _) => frames.push(other)?,
+    }
+    Ok(())
+}
+
+/// Takes the `at` after words that are set, which ends a move.
+fn take_at(
+    frames: &mut Vec<Frame>,
+    setter: Setter,
+    settings: Vec<Setting>,
+) -> Result<(), AllocError>
+    ensures { (src : List ℕ) → OnOk result (map (open_of src) (reverse frames.new.items)
+        ≡ after_at (setter_of src setter) (map (setting src) settings.items) ∷ map (open_of src) (reverse frames.old.items)) }
+{
+    match setter {
+        Setter::Start => frames.push(Frame::Settings(Setter::Start, settings))?,
+        Setter::Move(moves, number) => {
+            let mut moves = moves;
+            moves.push(MoveText { number, settings })?;
+            frames.push(Frame::Moves(moves))?;
+        }
     }
     Ok(())
 }
@@ -215,7 +251,7 @@ fn take_terminal(
     Ok(())
 }
 
-/// Takes a name, which is an expression or declares a word.
+/// Takes a name, which is an expression, declares a word or sets one.
 fn take_name(alloc: Global, frames: &mut Vec<Frame>, token: Token) -> Result<(), AllocError>
     ensures { (src : List ℕ) → OnOk result (map (open_of src) (reverse frames.new.items)
         ≡ on_name (map (open_of src) (reverse frames.old.items)) (leaf_of src token)) }
@@ -225,6 +261,9 @@ fn take_name(alloc: Global, frames: &mut Vec<Frame>, token: Token) -> Result<(),
         Some(Frame::Declaring(words, fixed)) => {
             frames.push(Frame::Declared(words, fixed, token))?;
         }
+        Some(Frame::Settings(setter, settings)) => {
+            frames.push(Frame::SettingWord(setter, settings, token))?;
+        }
         Some(other) => {
             frames.push(other)?;
             take_expression(alloc, frames, Expr::Word(token))?;
@@ -233,7 +272,8 @@ fn take_name(alloc: Global, frames: &mut Vec<Frame>, token: Token) -> Result<(),
     Ok(())
 }
 
-/// Takes a number, which is an expression, counts the bits of a shift or is the width of a word.
+/// Takes a number, which is an expression, counts the bits of a shift, is the width or the value of
+/// a word, or numbers a move.
 fn take_number(alloc: Global, frames: &mut Vec<Frame>, token: Token) -> Result<(), AllocError>
     ensures { (src : List ℕ) → OnOk result (map (open_of src) (reverse frames.new.items)
         ≡ on_number (map (open_of src) (reverse frames.old.items)) (leaf_of src token)) }
@@ -252,6 +292,14 @@ fn take_number(alloc: Global, frames: &mut Vec<Frame>, token: Token) -> Result<(
                 width: token,
             })?;
             frames.push(Frame::Declaring(words, false))?;
+        }
+        Some(Frame::SettingWord(setter, settings, word)) => {
+            let mut settings = settings;
+            settings.push(Setting { word, value: token })?;
+            frames.push(Frame::Settings(setter, settings))?;
+        }
+        Some(Frame::Moves(moves)) => {
+            frames.push(Frame::Settings(Setter::Move(moves, token), Vec::new(alloc)))?;
         }
         Some(other) => {
             frames.push(other)?;
@@ -306,6 +354,29 @@ pub fn build_show(alloc: Global, tokens: &[Token]) -> Result<Option<ShowText>, A
     Ok(take_show(&mut frames))
 }
 
+/// The words that a start sets, where the tokens spell one.
+pub fn build_start(alloc: Global, tokens: &[Token]) -> Result<Option<Vec<Setting>>, AllocError>
+    ensures { (src : List ℕ) (s : SettingsText) → map (lexeme_of src) tokens.now ≡ settings s []
+        → IfOk result (λ built. IsSomeAnd built (λ r. map (setting src) r.items ≡ settings_of s)) }
+{
+    let mut frames = read(
+        alloc,
+        Frame::Settings(Setter::Start, Vec::new(alloc)),
+        tokens,
+    )?;
+    Ok(take_start(&mut frames))
+}
+
+/// The moves, where the tokens spell some or none.
+pub fn build_moves(alloc: Global, tokens: &[Token]) -> Result<Option<Vec<MoveText>>, AllocError>
+    ensures { (src : List ℕ) (s : MovesText) → map (lexeme_of src) tokens.now ≡ moves s []
+        → IfOk result (λ built. IsSomeAnd built (λ r. map (move_text src) r.items ≡ moves_of s)) }
+{
+    let mut frames = read(alloc, Frame::Moves(Vec::new(alloc)), tokens)?;
+    let built = take_moves(&mut frames)?;
+    Ok(built)
+}
+
 /// The formula, where nothing else is open.
 fn take_whole(frames: &mut Vec<Frame>) -> Option<Formula>
     ensures { (src : List ℕ) → option_map (claim src) result
@@ -332,6 +403,55 @@ fn take_show(frames: &mut Vec<Frame>) -> Option<ShowText>
         Some(other) => {
             discard(other);
             None
+        }
+    }
+}
+
+/// The words that a start sets.
+fn take_start(frames: &mut Vec<Frame>) -> Option<Vec<Setting>>
+    ensures { (src : List ℕ) → option_map (λ r. map (setting src) r.items) result
+        ≡ whole_start_of (map (open_of src) (reverse frames.old.items)) }
+{
+    match frames.pop() {
+        None => None,
+        Some(Frame::Settings(Setter::Start, settings)) => Some(settings),
+        Some(other) => {
+            discard(other);
+            None
+        }
+    }
+}
+
+/// All moves, with the last.
+fn take_moves(frames: &mut Vec<Frame>) -> Result<Option<Vec<MoveText>>, AllocError>
+    ensures { (src : List ℕ) → IfOk result (λ built. option_map (λ r. map (move_text src) r.items) built
+        ≡ whole_moves_of (map (open_of src) (reverse frames.old.items))) }
+{
+    match frames.pop() {
+        None => Ok(None),
+        Some(Frame::Moves(moves)) => Ok(Some(moves)),
+        Some(Frame::Settings(setter, settings)) => {
+            let moves = with_last(setter, settings)?;
+            Ok(moves)
+        }
+        Some(other) => {
+            discard(other);
+            Ok(None)
+        }
+    }
+}
+
+/// The moves up to the one that sets these words, where a move does.
+fn with_last(setter: Setter, settings: Vec<Setting>) -> Result<Option<Vec<MoveText>>, AllocError>
+    ensures { (src : List ℕ) → IfOk result (λ built. option_map (λ r. map (move_text src) r.items) built
+        ≡ with_last (setter_of src setter) (map (setting src) settings.items)) }
+{
+    match setter {
+        Setter::Start => Ok(None),
+        Setter::Move(moves, number) => {
+            let mut moves = moves;
+            moves.push(MoveText { number, settings })?;
+            Ok(Some(moves))
         }
     }
 }

@@ -4,12 +4,12 @@ ghost use Rattle.std.specs.Prelude.{◌≡◌, ◌-◌, ℕ, List, map, length, 
 ghost use Rattle.rg_words.specs.Refusals.{no_memory};
 ghost use Rattle.rg_parse.specs.Grammar.{lexeme_of};
 ghost use Rattle.rg_parse.specs.Limits.{IsTextWithin};
-ghost use Rattle.rg_parse.specs.Parse.{ParseFormulaIs, ParseShowIs, IsShapeRefusal, OneFormula, OneShow, refusal_of, unexpected_in, line_at, last_line};
+ghost use Rattle.rg_parse.specs.Parse.{ParseFormulaIs, ParseShowIs, ParseStartIs, ParseMovesIs, IsShapeRefusal, OneFormula, OneShow, OneStart, OneMoves, refusal_of, unexpected_in, line_at, last_line};
 
-use crate::build::{build_formula, build_show};
+use crate::build::{build_formula, build_moves, build_show, build_start};
 use crate::point::TextKind;
 use crate::shape::{ShapeFault, shape};
-use crate::syntax::{Formula, ShowText};
+use crate::syntax::{Formula, MoveText, Setting, ShowText};
 use rg_text::token::Token;
 use rg_words::{Place, Refusal, RefusalNumber, SourceFile};
 use std::alloc::Global;
@@ -60,10 +60,56 @@ pub fn parse_show(alloc: Global, file: SourceFile, tokens: &[Token]) -> Result<S
     }
 }
 
+/// The words that a start sets, which may be none.
+///
+/// # Errors
+///
+/// `Unexpected` (in a derivation `UnexpectedInDerivation`) at the line of the first token such that
+/// the tokens up to it begin no start. Then `Unfinished`, at the line of the last token, where the
+/// tokens end too early. `Memory` where memory is refused.
+pub fn parse_start(
+    alloc: Global,
+    file: SourceFile,
+    tokens: &[Token],
+) -> Result<Vec<Setting>, Refusal>
+    ensures answers { (src : List ℕ) → ParseStartIs file src tokens.now result }
+    ensures accepts { (src : List ℕ) → IsTextWithin TextKind.Start (map (lexeme_of src) tokens.now) → IfErr result (λ e. e ≡ no_memory) }
+{
+    check_shape(alloc, TextKind::Start, file, tokens)?;
+    match build_start(alloc, tokens)? {
+        Some(text) => Ok(text),
+        None => unreachable!(),
+    }
+}
+
+/// The moves of the environment, which may be none.
+///
+/// # Errors
+///
+/// `Unexpected` (in a derivation `UnexpectedInDerivation`) at the line of the first token such that
+/// the tokens up to it begin no moves. Then `Unfinished`, at the line of the last token, where the
+/// tokens end too early. `Memory` where memory is refused.
+pub fn parse_moves(
+    alloc: Global,
+    file: SourceFile,
+    tokens: &[Token],
+) -> Result<Vec<MoveText>, Refusal>
+    ensures answers { (src : List ℕ) → ParseMovesIs file src tokens.now result }
+    ensures accepts { (src : List ℕ) → IsTextWithin TextKind.Moves (map (lexeme_of src) tokens.now) → IfErr result (λ e. e ≡ no_memory) }
+{
+    check_shape(alloc, TextKind::Moves, file, tokens)?;
+    match build_moves(alloc, tokens)? {
+        Some(text) => Ok(text),
+        None => unreachable!(),
+    }
+}
+
 /// The same tokens say one thing: two spellings of them have one tree.
 pub fn one_tree()
     ensures formula { OneFormula }
     ensures show { OneShow }
+    ensures start { OneStart }
+    ensures moves { OneMoves }
 {}
 
 /// Refuses the first fault of shape.

@@ -1,10 +1,11 @@
 //! Where a parse stands: what has been read of each open part of the text.
 
 ghost use Rattle.std.specs.Prelude.{◌≡◌, ◌∷◌, []};
-ghost use Rattle.rg_parse.specs.Machine.{has, start, takes, is_prefix, resume, turn, at_compare, at_operate, at_shift, at_join, at_imply, at_close, at_if, at_then, at_else, at_number, at_name, at_colon, at_words, at_show, at_section, operand_of, start_of, is_opener, is_join, begins_word, has_operand_left, has_room_at};
+ghost use Rattle.rg_parse.specs.Machine.{has, start, takes, is_prefix, resume, turn, at_compare, at_operate, at_shift, at_join, at_imply, at_close, at_if, at_then, at_else, at_number, at_name, at_colon, at_words, at_show, at_section, operand_of, start_of, is_opener, is_join, is_end, begins_word, has_operand_left, has_room_at};
 
 use rg_text::kind::{Junction, Keyword, Kind, Terminal};
 use rg_words::limits::{MOST_OPERANDS, MOST_WORDS};
+use rg_words::operators::Comparison;
 
 /// A kind of text.
 #[derive(Clone, Copy, Debug, PartialEq, Eq)]
@@ -13,6 +14,10 @@ pub enum TextKind {
     Formula,
     /// Declared words, and a formula to show.
     Show,
+    /// Words and the numbers that they begin with.
+    Start,
+    /// The moves of the environment.
+    Moves,
 }
 
 /// A formula or an expression.
@@ -84,6 +89,16 @@ pub enum Point {
     WordWidth(u8),
     /// After so many words.
     AfterWord(u8),
+    /// Before a word that is set, in a move or in a start. The text may end.
+    Settings(bool),
+    /// After the word that is set.
+    SettingWord(bool),
+    /// After the `=` behind the word.
+    SettingValue(bool),
+    /// Before the first move. The text may end.
+    BeforeMoves,
+    /// After `at`.
+    MoveNumber,
 }
 
 /// How a token may begin an item.
@@ -118,6 +133,8 @@ impl TextKind {
         match self {
             TextKind::Formula => Point::Whole,
             TextKind::Show => Point::ShowStart,
+            TextKind::Start => Point::Settings(false),
+            TextKind::Moves => Point::BeforeMoves,
         }
     }
 }
@@ -199,6 +216,13 @@ impl Point {
         }
     }
 
+    /// Whether the text may end here.
+    pub fn is_end(self) -> bool
+        ensures { result ≡ is_end self }
+    {
+        matches!(self, Point::End | Point::Settings(_) | Point::BeforeMoves)
+    }
+
     /// Whether a chain may go on here.
     pub fn has_operand_left(self) -> bool
         ensures { result ≡ has_operand_left self }
@@ -235,7 +259,7 @@ impl Point {
         ensures { result ≡ turn self (Kind.Fixed terminal) }
     {
         match terminal {
-            Terminal::Compare(_) => self.at_compare(),
+            Terminal::Compare(comparison) => self.at_compare(comparison),
             Terminal::Operate(_) => self.at_operate(),
             Terminal::ShiftBy(_) => self.at_shift(),
             Terminal::Join(junction) => self.at_join(junction),
@@ -252,12 +276,15 @@ impl Point {
         }
     }
 
-    fn at_compare(self) -> Option<Turn>
-        ensures { result ≡ at_compare self }
+    fn at_compare(self, comparison: Comparison) -> Option<Turn>
+        ensures { result ≡ at_compare self comparison }
     {
         match self {
             Point::AfterExpression(sorts) if sorts.formula => {
                 Some(Turn::On(Point::Right(Sort::Formula)))
+            }
+            Point::SettingWord(in_move) if comparison == Comparison::Equal => {
+                Some(Turn::On(Point::SettingValue(in_move)))
             }
             _ => None,
         }
@@ -349,6 +376,8 @@ impl Point {
         match self {
             Point::Count => Some(Turn::On(Point::Closing(Sort::Expression))),
             Point::WordWidth(words) => Some(Turn::On(Point::AfterWord(words))),
+            Point::SettingValue(in_move) => Some(Turn::On(Point::Settings(in_move))),
+            Point::MoveNumber => Some(Turn::On(Point::Settings(true))),
             _ => None,
         }
     }
@@ -360,6 +389,7 @@ impl Point {
             Point::FirstWord => Some(Turn::On(Point::NamedWord(1))),
             Point::FixedWord(words) => Some(Turn::On(Point::NamedWord(words))),
             Point::AfterWord(words) => Some(Turn::On(Point::NamedWord(words.saturating_add(1)))),
+            Point::Settings(in_move) => Some(Turn::On(Point::SettingWord(in_move))),
             _ => None,
         }
     }
@@ -398,6 +428,9 @@ impl Point {
             (Point::FirstWord, Keyword::Fixed) => Some(Turn::On(Point::FixedWord(1))),
             (Point::AfterWord(words), Keyword::Fixed) => {
                 Some(Turn::On(Point::FixedWord(words.saturating_add(1))))
+            }
+            (Point::BeforeMoves | Point::Settings(true), Keyword::At) => {
+                Some(Turn::On(Point::MoveNumber))
             }
             _ => None,
         }

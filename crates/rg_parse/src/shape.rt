@@ -148,7 +148,7 @@ fn is_at_end(points: &[Point]) -> bool
     ensures { result ≡ is_at_end (reverse points.now) }
 {
     match points.split_last() {
-        Some((last, _)) => matches!(last, Point::End),
+        Some((last, _)) => last.is_end(),
         None => false,
     }
 }

@@ -1,7 +1,7 @@
 //! Rows of shapes and trees, with the expected answers written by hand.
 
-use crate::parse::{parse_formula, parse_show};
-use crate::syntax::{Expr, Formula, ShowText};
+use crate::parse::{parse_formula, parse_moves, parse_show, parse_start};
+use crate::syntax::{Expr, Formula, MoveText, Setting, ShowText};
 use rg_text::Tokens;
 use rg_text::kind::{Conditional, Junction};
 use rg_words::operators::{Comparison, Operator, Shift};
@@ -26,6 +26,18 @@ fn show(alloc: Global, text: &[u8]) -> Result<ShowText, Refusal> {
     let source = on_lines(alloc, text)?;
     let tokens = Tokens::read(alloc, &source, SourceFile::Text)?;
     parse_show(alloc, SourceFile::Text, tokens.as_slice())
+}
+
+fn start(alloc: Global, text: &[u8]) -> Result<Vec<Setting>, Refusal> {
+    let source = on_lines(alloc, text)?;
+    let tokens = Tokens::read(alloc, &source, SourceFile::Text)?;
+    parse_start(alloc, SourceFile::Text, tokens.as_slice())
+}
+
+fn moves(alloc: Global, text: &[u8]) -> Result<Vec<MoveText>, Refusal> {
+    let source = on_lines(alloc, text)?;
+    let tokens = Tokens::read(alloc, &source, SourceFile::Text)?;
+    parse_moves(alloc, SourceFile::Text, tokens.as_slice())
 }
 
 /// What is refused; `Err` for want of memory.
@@ -320,5 +332,74 @@ fn a_long_text_is_read(rt: HostRuntime) -> Result<(), Fail> {
     let mut letters = Vec::new(rt.alloc());
     write_formula(&mut letters, &tree)?;
     assert_eq!(rt; letters.len(), 65_535);
+    Ok(())
+}
+
+#[test]
+fn shapes_of_starts(rt: HostRuntime) -> Result<(), Fail> {
+    use RefusalNumber::{Unexpected, Unfinished};
+    let rows: [(&[u8], Option<Refusal>); 10] = [
+        (b"", None),
+        (b"x = 1", None),
+        (b"x = 1 y = 99 x = 0", None),
+        (b"x", at(Unfinished, 1)),
+        (b"x =", at(Unfinished, 2)),
+        (b"x != 1", at(Unexpected, 2)),
+        (b"x = y", at(Unexpected, 3)),
+        (b"x = 1 2", at(Unexpected, 4)),
+        (b"x' = 1", at(Unexpected, 1)),
+        (b"at 1", at(Unexpected, 1)),
+    ];
+    for (text, expected) in rows {
+        let found = refusal(start(rt.alloc(), text))?;
+        assert_eq!(rt; found, expected);
+    }
+    Ok(())
+}
+
+#[test]
+fn shapes_of_moves(rt: HostRuntime) -> Result<(), Fail> {
+    use RefusalNumber::{Unexpected, Unfinished};
+    let rows: [(&[u8], Option<Refusal>); 10] = [
+        (b"", None),
+        (b"at 1", None),
+        (b"at 0 at 0 x = 1 y = 2 at 7", None),
+        (b"at", at(Unfinished, 1)),
+        (b"at x", at(Unexpected, 2)),
+        (b"x = 1", at(Unexpected, 1)),
+        (b"at 1 2", at(Unexpected, 3)),
+        (b"at 1 x", at(Unfinished, 3)),
+        (b"at 1 x at", at(Unexpected, 4)),
+        (b"at 1 x = 1 =", at(Unexpected, 6)),
+    ];
+    for (text, expected) in rows {
+        let found = refusal(moves(rt.alloc(), text))?;
+        assert_eq!(rt; found, expected);
+    }
+    Ok(())
+}
+
+/// The lines of the tokens of settings.
+fn lines_of(alloc: Global, settings: &[Setting]) -> Result<Vec<(u32, u32)>, AllocError> {
+    settings
+        .iter()
+        .map(|setting| (setting.word.line, setting.value.line))
+        .collect(alloc)
+}
+
+#[test]
+fn settings_are_kept_in_order(rt: HostRuntime) -> Result<(), Fail> {
+    let settings = start(rt.alloc(), b"x = 1 y = 2")?;
+    let lines = lines_of(rt.alloc(), &settings)?;
+    assert_eq!(rt; lines.as_slice(), [(1, 3), (4, 6)].as_slice());
+    let moves = moves(rt.alloc(), b"at 3 at 3 x = 1 y = 2 at 4 z = 0")?;
+    let mut numbers = Vec::new(rt.alloc());
+    let mut lines = Vec::new(rt.alloc());
+    for one in &moves {
+        numbers.push(one.number.line)?;
+        lines.extend_from_slice(&lines_of(rt.alloc(), &one.settings)?)?;
+    }
+    assert_eq!(rt; numbers.as_slice(), [2, 4, 12].as_slice());
+    assert_eq!(rt; lines.as_slice(), [(5, 7), (8, 10), (13, 15)].as_slice());
     Ok(())
 }
