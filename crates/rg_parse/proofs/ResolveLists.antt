@@ -14,14 +14,14 @@ pub record AreDone {A B : Type 0} (tree : A → B) (faults : A → List Fault) (
   pub none : flat_map faults rest ≡ flat_map faults all
 
 -- the items from a place on, as written
-pub items_from : {I A : Type 0} → (I → A) → List I → ℕ → List A
+unfoldable pub items_from : {I A : Type 0} → (I → A) → List I → ℕ → List A
 items_from view items i = map view (drop i items)
 
-items_from-cons : {I A : Type 0} (view : I → A) (items : List I) (i : ℕ) (d : I) → i < length items → items_from view items i ≡ view (get_or items i d) ∷ items_from view items (suc i)
+pub items_from-cons : {I A : Type 0} (view : I → A) (items : List I) (i : ℕ) (d : I) → i < length items → items_from view items i ≡ view (get_or items i d) ∷ items_from view items (suc i)
 unfolding items_from
 items_from-cons view items i d inside = ap (λ xs. map view xs) (drop-cons items i d inside)
 
-items_from-end : {I A : Type 0} (view : I → A) (items : List I) (i : ℕ) → length items ≤ i → items_from view items i ≡ []
+pub items_from-end : {I A : Type 0} (view : I → A) (items : List I) (i : ℕ) → length items ≤ i → items_from view items i ≡ []
 unfolding items_from
 items_from-end view items i past = ap (λ xs. map view xs) (drop_of_length-le items past)
 

@@ -21,9 +21,9 @@ use Rattle.rg_tree.specs.declared.moves.WordValue.{WordValue}
 use Rattle.rg_tree.specs.Moves.{MoveTree, given, IsValueOf, OnePerWord, IsChange, AreMoves}
 use Rattle.rg_parse.specs.Syntax as written
 use Rattle.rg_parse.specs.Syntax.{SettingTree}
-use Rattle.rg_parse.specs.ResolveFaults.{number_of, width_at, group_at, number_faults, plain_faults, IsRefusal}
+use Rattle.rg_parse.specs.ResolveFaults.{number_of, width_at, group_at, number_faults, plain_faults, faults_in_turn, IsRefusal}
 use Rattle.rg_parse.specs.ResolveTrees.{place_of}
-use Rattle.rg_parse.specs.ResolveSettings.{is_named, named_faults, setting_faults, faults_after, settings_faults, move_faults, moves_faults, word_value, word_values, move_tree, move_trees, SettingStandsFor, StandBehind, SettingsStandFor, StartStandsFor, MoveStandsFor, MovesStandFor, OneStart, OneListOfMoves, FaultlessStart, FaultlessMoves}
+use Rattle.rg_parse.specs.ResolveSettings.{is_named, named_faults, setting_faults, settings_faults, move_faults, moves_faults, word_value, word_values, move_tree, move_trees, SettingStandsFor, StandBehind, SettingsStandFor, StartStandsFor, MoveStandsFor, MovesStandFor, OneStart, OneListOfMoves, FaultlessStart, FaultlessMoves}
 use Rattle.rg_parse.proofs.ResolveRefusals.{no_faults, no_test}
 use Rattle.rg_parse.proofs.ResolveTyped.{none_left, none_right, unless-none, found_within}
 
@@ -106,8 +106,8 @@ unfolding setting_faults
 fine_faultless words before s k e new small = rw e (no_faults _ _ (no_test (not (is_named before s.word.text)) NameTwice s.word.line (ap not new)) (no_test (nat_lt (number_of s.value.text) (2 ^ width_at words k)) NumberTooLarge s.value.line (lt-ltb _ _ small)))
 
 -- settings without faults stand for their values
-stand_behind : (words : List Word) (before : List SettingTree) (others : List WordValue) (ss : List SettingTree) → AreOf words before others → faults_after words before ss ≡ [] → StandBehind words others ss (word_values words ss)
-unfolding faults_after
+stand_behind : (words : List Word) (before : List SettingTree) (others : List WordValue) (ss : List SettingTree) → AreOf words before others → faults_in_turn (setting_faults words) before ss ≡ [] → StandBehind words others ss (word_values words ss)
+unfolding faults_in_turn
 stand_behind words before others [] of h = tt
 stand_behind words before others (s ∷ ss) of h =
     let here = fine words before s (none_left _ _ h) in (
@@ -117,8 +117,8 @@ stand_behind words before others (s ∷ ss) of h =
     )
 
 -- and what stands for values has no faults
-behind_faultless : (words : List Word) (before : List SettingTree) (others : List WordValue) (ss : List SettingTree) (vs : List WordValue) → AreOf words before others → StandBehind words others ss vs → faults_after words before ss ≡ []
-unfolding faults_after
+behind_faultless : (words : List Word) (before : List SettingTree) (others : List WordValue) (ss : List SettingTree) (vs : List WordValue) → AreOf words before others → StandBehind words others ss vs → faults_in_turn (setting_faults words) before ss ≡ []
+unfolding faults_in_turn
 behind_faultless words before others [] [] of h = refl
 behind_faultless words before others (s ∷ ss) (v ∷ vs) of h =
     let small = let P : ℕ → Type 0 = λ n. n < 2 ^ width_at words v.word in subst P (sym h.0.value) h.0.small in

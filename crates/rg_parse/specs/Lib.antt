@@ -13,3 +13,9 @@ pub mod Shown
 pub mod PrintedBack
 pub mod ResolveTyping
 pub mod ResolveSettings
+pub mod ResolvePrograms
+pub mod ResolveProgramTrees
+pub mod ResolveProgramTyping
+pub mod Spelled
+pub mod Inputs
+pub mod ResolveLimits

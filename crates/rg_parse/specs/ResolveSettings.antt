@@ -10,7 +10,7 @@ use Rattle.rg_tree.specs.declared.moves.WordValue.{WordValue}
 use Rattle.rg_tree.specs.Moves.{MoveTree, given}
 use Rattle.rg_parse.specs.Syntax as written
 use Rattle.rg_parse.specs.Syntax.{SettingTree}
-use Rattle.rg_parse.specs.ResolveFaults.{Fault, number_of, width_at, group_at, unless, number_faults, plain_faults}
+use Rattle.rg_parse.specs.ResolveFaults.{Fault, number_of, width_at, group_at, unless, number_faults, plain_faults, faults_in_turn}
 use Rattle.rg_parse.specs.ResolveTrees.{place_of}
 
 -- one of these settings names this word
@@ -27,14 +27,9 @@ unfoldable pub setting_faults : List Word → List SettingTree → SettingTree �
 setting_faults words before s =
     named_faults before s.word (index_of words s.word.text) ++ number_faults (group_at words (index_of words s.word.text)) s.value.line (number_of s.value.text)
 
--- the faults of settings behind these settings
-unfoldable pub faults_after : List Word → List SettingTree → List SettingTree → List Fault
-faults_after words before [] = []
-faults_after words before (s ∷ ss) = setting_faults words before s ++ faults_after words (before ++ s ∷ []) ss
-
 -- the faults of the settings of a start, or of one move
 abbrev pub settings_faults : List Word → List SettingTree → List Fault
-settings_faults words settings = faults_after words [] settings
+settings_faults words settings = faults_in_turn (setting_faults words) [] settings
 
 -- the faults of a move: its number is too large, or its settings have faults
 unfoldable pub move_faults : List Word → written.MoveTree → List Fault

@@ -3,6 +3,7 @@
 
 mod build;
 pub mod declare;
+pub mod inputs;
 pub mod parse;
 mod point;
 pub mod printed;
@@ -11,6 +12,7 @@ pub mod shape;
 pub mod show;
 pub mod syntax;
 
+pub use inputs::{moves, start};
 pub use point::TextKind;
 
 #[cfg(test)]

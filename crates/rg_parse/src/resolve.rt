@@ -11,15 +11,23 @@ ghost use Rattle.rg_tree.specs.Typing.{IsTyped};
 ghost use Rattle.rg_tree.specs.Fits.{FormulaFits};
 ghost use Rattle.rg_tree.specs.Primes.{speaks_of_two};
 ghost use Rattle.rg_tree.specs.Moves.{MoveTree, move, AreMoves};
-ghost use Rattle.rg_parse.specs.Syntax.{claim, declared_word, setting, move_text};
+ghost use Rattle.rg_tree.specs.Statements.{ProgramTree};
+ghost use Rattle.rg_tree.specs.ProgramTrees.{program};
+ghost use Rattle.rg_parse.specs.Syntax.{claim, declared_word, setting, move_text, program_text};
+ghost use Rattle.rg_parse.specs.ResolveLimits.{IsWithinLimits};
+ghost use Rattle.rg_parse.specs.ResolvePrograms.{program_faults};
+ghost use Rattle.rg_parse.specs.ResolveProgramTyping.{ProgramStandsFor, OneProgramTree};
 ghost use Rattle.rg_parse.specs.ResolveFaults.{claim_faults, IsRefusal};
 ghost use Rattle.rg_parse.specs.ResolveTyping.{ClaimStandsFor, OneTree, FaultlessStand};
 ghost use Rattle.rg_parse.specs.ResolveSettings.{settings_faults, moves_faults, StartStandsFor, MovesStandFor, OneStart, OneListOfMoves, FaultlessStart, FaultlessMoves};
 ghost use Rattle.rg_parse.specs.ResolveWords.{words_of, shown_faults};
 
+mod assigned;
+mod block;
 mod formula;
 mod group;
 pub(crate) mod leaf;
+mod part;
 mod scope;
 mod setting;
 #[cfg(test)]
@@ -27,9 +35,11 @@ mod tests;
 
 use crate::declare::declare;
 use crate::syntax;
-use crate::syntax::{Declaration, MoveText, Setting};
+use crate::syntax::{Declaration, MoveText, ProgramText, Setting};
 use formula::formula_tree;
+use part::{parts_of, spec_of};
 use rg_tree::moves::{Move, give};
+use rg_tree::program::Program;
 use rg_tree::tree::Formula;
 use rg_tree::typing::typed_trees_fit;
 use rg_words::limits::MOST_WORDS;
@@ -185,4 +195,54 @@ pub fn settings_stand_for_one_state()
     ensures one_list { OneListOfMoves }
     ensures faultless_start { FaultlessStart }
     ensures faultless_moves { FaultlessMoves }
+{}
+
+/// The typed tree of a program whose tokens are of the source: its words, its specification and its parts.
+///
+/// Refused at the least token that is at fault: those of the declarations, as `declare` refuses them, come first, then
+/// those of the specification, then of the parts. A part has 4 for a name that an earlier part has; a formula is refused
+/// as by `resolve_formula`, where a pre, a post, a guard, a test and an assigned value speak of one state; the target of
+/// an assignment has 3 where it isn't declared, 13 where it is fixed, and the group of its value has its width. 99 where
+/// memory was refused.
+pub fn resolve_program(
+    alloc: Global,
+    file: SourceFile,
+    source: &[u8],
+    written: &ProgramText,
+) -> Result<Program, Refusal>
+    requires names { All (λ d. IsName (text_of source.now d.name)) written.now.words.items }
+    requires count { length written.now.words.items ≤ MOST_WORDS }
+    requires part_names { All (λ p. IsName (text_of source.now p.name)) written.now.parts.items }
+    requires limits { IsWithinLimits (program_text source.now written.now) }
+    // Ok with the tree that the program stands for, exactly where there is one and memory was enough.
+    ensures stands { IfOk result (λ p. ProgramStandsFor (program_text source.now written.now) (program p)) }
+    ensures refused { IfErr result (λ refusal. (refusal ≡ no_memory)
+        ⊎ ((t : ProgramTree) → ProgramStandsFor (program_text source.now written.now) t → ⊥)) }
+    // The first fault in the order of the text.
+    ensures faultless { IfOk result (λ _. program_faults (program_text source.now written.now) ≡ []) }
+    ensures fault { IfErr result (λ refusal. IsRefusal file (program_faults (program_text source.now written.now)) refusal) }
+{
+    let layout = declare(alloc, file, source, &written.words)?;
+    let scope = Scope {
+        alloc,
+        layout: &layout,
+        file,
+        source,
+        one_state: true,
+    };
+    let spec = spec_of(&scope, &written.spec)?;
+    let parts = parts_of(&scope, &written.parts)?;
+    // The words are those of a layout.
+    let _count = layout.len();
+    Ok(Program {
+        layout,
+        spec,
+        parts,
+    })
+}
+
+/// A program stands for one tree at most.
+#[tactic(auto, using(crate::proofs::ResolvedStands::one_program_tree))]
+pub fn programs_stand_for_one_tree()
+    ensures { OneProgramTree }
 {}

@@ -37,7 +37,7 @@ fn conditional(conditional: Conditional) -> Connective
 /// The tree of an expression of this group.
 #[cycle(resolving)]
 #[tactic(auto, using(crate::proofs::ResolveRefusals::refusals, crate::proofs::ResolveParts::parts))]
-fn expression_tree(scope: &Scope, group: Group, e: &syntax::Expr) -> Result<Expr, Refusal>
+pub fn expression_tree(scope: &Scope, group: Group, e: &syntax::Expr) -> Result<Expr, Refusal>
     requires { width_of group ≤ MOST_WIDTH }
     ensures tree { IfOk result (λ tree. IsTermTree scope.now.layout.now scope.now.one_state group (term scope.now.source.now e.now) (expression tree)) }
     ensures fault { IfErr result (λ refusal. IsRefusal scope.now.file (term_faults scope.now.layout.now scope.now.one_state group (term scope.now.source.now e.now)) refusal) }

@@ -1,6 +1,6 @@
 //! The leaves of a formula, each against the declared words and the group in which it stands.
 
-ghost use Rattle.std.specs.Prelude.{◌≡◌, ◌≤◌, ◌<◌, ◌^◌, [], SomeIff, IfOk, IfErr, nat_le};
+ghost use Rattle.std.specs.Prelude.{false, ◌≡◌, ◌≤◌, ◌<◌, ◌^◌, [], SomeIff, IfOk, IfErr, nat_le};
 ghost use Rattle.rg_words.specs.Layout.{index_of};
 ghost use Rattle.rg_words.specs.declared.refusal.RefusalNumber.TheVariants.{NumberTooLarge};
 ghost use Rattle.rg_words.specs.Refusals.{refused_at};
@@ -32,6 +32,16 @@ pub struct Scope<'a> {
 }
 
 impl Scope<'_> {
+    /// The same for formulas that speak of two states.
+    pub fn of_two_states(&self) -> Self
+        ensures { result ≡ record self.now { one_state = false } }
+    {
+        Scope {
+            one_state: false,
+            ..*self
+        }
+    }
+
     /// A fault at a token.
     pub fn fault(&self, number: RefusalNumber, token: &Token) -> Refusal
         ensures { result ≡ refused_at number self.now.file token.now.line }

@@ -4,7 +4,7 @@ use Rattle.std.specs.Str.{bytes_eq}
 use Rattle.std.proofs.lemmas.Iterator.{YieldsList-from_slice}
 use Rattle.std.proofs.lemmas.Iterator.Search.{any_from_yields_List}
 use Rattle.rg_text.specs.Text.{text_of}
-use Rattle.rg_parse.proofs.ResolveSettings.{any-map}
+use Rattle.rg_parse.proofs.ResolveTurns.{any-map}
 use Rattle.rg_parse.proofs.resolve.setting.is_named.Goals as goal
 
 pub returns : goal.returns

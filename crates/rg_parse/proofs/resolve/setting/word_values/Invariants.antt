@@ -1,9 +1,12 @@
-use Rattle.std.proofs.Common.{◌≡◌, map, length}
+use Rattle.std.proofs.Common.{map}
 use Rattle.rg_parse.specs.Syntax.{setting}
-use Rattle.rg_parse.proofs.ResolveSettings.{AreSetSoFar, settings_from, settings_to}
+use Rattle.rg_parse.specs.ResolveSettings.{setting_faults, word_value}
+use Rattle.rg_parse.proofs.ResolveLists.{items_from}
+use Rattle.rg_parse.proofs.ResolveTurns.{AreTaken, items_to}
 use Rattle.rg_parse.proofs.resolve.setting.word_values.Given as goal
 
 abbrev pub invariant-loop-i : goal.invariant-loop-i
 invariant-loop-i l =
     let src = l.scope.source.now in
-    AreSetSoFar l.scope.layout.now (map (setting src) l.settings) (settings_to src l.settings l.i) (settings_from src l.settings l.i) l.values.items
+    let words = l.scope.layout.now in
+    AreTaken (word_value words) (setting_faults words) (map (setting src) l.settings) (items_to (setting src) l.settings l.i) (items_from (setting src) l.settings l.i) l.values.items
