@@ -6,3 +6,4 @@ pub mod LegalProof
 pub mod CodeTrees
 pub mod Listing
 pub mod Laws
+pub mod Lawful

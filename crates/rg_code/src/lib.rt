@@ -2,6 +2,7 @@
 #![tactic(auto)]
 
 pub mod block;
+pub mod checked;
 pub mod code;
 pub mod compile;
 mod emit;

@@ -1,3 +1,4 @@
 pub mod Machine
 pub mod Kept
 pub mod Replay
+pub mod EventRuns

@@ -3,6 +3,7 @@
 
 pub mod config;
 pub mod event;
+pub mod laws;
 mod lead;
 mod replace;
 mod replay;
