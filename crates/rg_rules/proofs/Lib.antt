@@ -8,3 +8,4 @@ pub mod Demands
 pub mod Typed
 pub mod Sound
 pub mod Counts
+pub mod Merely

@@ -1,5 +1,6 @@
 pub mod Derivations
 pub mod Faults
 pub mod Names
+pub mod OneProof
 pub mod Promises
 pub mod View

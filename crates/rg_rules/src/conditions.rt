@@ -231,7 +231,8 @@ impl Derivation {
     /// Refused only where memory was refused.
     pub fn conditions(&self, alloc: Global, program: &Program) -> Result<Vec<Condition>, AllocError>
         requires typed { AreTypedLines program.now.layout (map line_tree self.now.lines.items) }
-        requires derives { Derives (map part program.now.parts.items) (map line_tree self.now.lines.items) }
+        // The lines were read for this program: that there is a proof of it, as a type can keep.
+        requires derives { ∥ Derives (map part program.now.parts.items) (map line_tree self.now.lines.items) ∥₁ }
         // Exactly the rules' list.
         ensures list { IfOk result (λ all. map claim all.items ≡ map (obligation_claim program.now.layout) (obligations_of (statements_of_parts (map part program.now.parts.items)) (map line_tree self.now.lines.items) (map line_tree self.now.lines.items))) }
         // One for each name.

@@ -6,6 +6,9 @@ use Rattle.rg_tree.specs.ProgramTrees.{program}
 use Rattle.rg_rules.specs.View.{line_tree, referred}
 use Rattle.rg_rules.proofs.Typed.{statement_typed}
 use Rattle.rg_rules.proofs.Counts.{count_conditions}
+use Rattle.std.proofs.Math.Logic.{∥∥₁_elim, ∥∥₁_map}
+use Rattle.std.specs.Coded.{Coded-set, coded_ℕ}
+use Rattle.rg_rules.proofs.Merely.{satisfies_merely}
 use Rattle.rg_rules.proofs.Sound.{lines_hold, parts_satisfy}
 use Rattle.rg_rules.proofs.derivation.Derivation.conditions.Goals as goal
 
@@ -21,13 +24,18 @@ returns-clause-list c = search rules
 pub returns-clause-count : goal.returns-clause-count
 returns-clause-count c =
     let list = simp length-map at (ap length (returns-clause-list c)) in
-    list ∙ count_conditions (statements_of_parts (map part c.args.program.now.parts.items)) (map line_tree c.args.self.now.lines.items) c.requires.derives.lines_fit
+    let all = statements_of_parts (map part c.args.program.now.parts.items) in
+    let lines = map line_tree c.args.self.now.lines.items in
+    list ∙ ∥∥₁_elim c.requires.derives (Coded-set coded_ℕ _ _) (λ d. count_conditions all lines d.lines_fit)
 
 pub returns-clause-sound : goal.returns-clause-sound
-returns-clause-sound c h =
+returns-clause-sound c h k line s found number =
     let p = c.args.program.now in
-    lines_hold p.layout (map part p.parts.items) (map line_tree c.args.self.now.lines.items) c.requires.typed c.requires.derives (rw (returns-clause-list c) at h)
+    let typed = c.requires.typed in
+    let true_list = rw (returns-clause-list c) at h in
+    satisfies_merely p.layout line.spec s (∥∥₁_map c.requires.derives (λ d. lines_hold p.layout (map part p.parts.items) (map line_tree c.args.self.now.lines.items) typed d true_list k line s found number))
 
 pub returns-clause-parts : goal.returns-clause-parts
-returns-clause-parts c h =
-    parts_satisfy (program c.args.program.now) (map line_tree c.args.self.now.lines.items) c.requires.derives (returns-clause-sound c h)
+returns-clause-parts c h i p found =
+    let hold = returns-clause-sound c h in
+    satisfies_merely c.args.program.now.layout p.spec p.body (∥∥₁_map c.requires.derives (λ d. parts_satisfy (program c.args.program.now) (map line_tree c.args.self.now.lines.items) d hold i p found))
