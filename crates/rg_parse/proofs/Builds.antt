@@ -36,7 +36,7 @@ mutual
   builds_term (operation o a b) os r h =
       builds_term a (first ∷ os) (fixed (Operate o) ∷ expression b (fixed Close ∷ r)) refl ∙ builds_term b (operating o (term_of a) ∷ os) (fixed Close ∷ r) refl
   builds_term (shift s a text) os r h = builds_term a (first ∷ os) _ refl
-  builds_term (choice f a b) os r h =
+  builds_term (choice i f a b) os r h =
       builds_claim f (condition ∷ chosen ∷ os) (fixed Then ∷ expression a (fixed Else ∷ expression b (fixed Close ∷ r)))
       ∙ builds_term a (consequent (claim_of f) ∷ chosen ∷ os) (fixed Else ∷ expression b (fixed Close ∷ r)) refl
       ∙ builds_term b (alternative (claim_of f) (term_of a) ∷ chosen ∷ os) (fixed Close ∷ r) refl

@@ -1,5 +1,5 @@
 -- How a printed formula is written, and that it stands for the formula.
-use Rattle.std.proofs.Common.{◌≡◌, ℕ, ◌-◌, ◌<◌, ◌≤◌, ◌^◌, Bool, false, ◌||◌, List, [], ◌∷◌, ◌++◌, length, take, Option, Some, None, refl, sym, ap, subst, ◌∙◌, arith, length-append}
+use Rattle.std.proofs.Common.{◌≡◌, ℕ, ◌-◌, ◌<◌, ◌≤◌, ◌^◌, Bool, false, ◌||◌, List, [], ◌∷◌, ◌++◌, length, take, Option, Some, None, refl, sym, ap, subst, ◌∙◌, arith, codes, length-append}
 use Rattle.std.specs.Prelude.{is_some}
 use Rattle.std.specs.Option.{option_or}
 use Rattle.std.specs.Fmt.{decimal}
@@ -52,7 +52,7 @@ abbrev mutual
   printed_expression words (tree.inverse w a) = grammar.inverse (printed_expression words a)
   printed_expression words (tree.binary o w a b) = grammar.operation o (printed_expression words a) (printed_expression words b)
   printed_expression words (tree.shifted d w a k) = grammar.shift d (printed_expression words a) (printed_leaf (decimal k))
-  printed_expression words (tree.choice f a b) = grammar.choice (printed_formula words f) (printed_expression words a) (printed_expression words b)
+  printed_expression words (tree.choice f a b) = grammar.choice (printed_leaf (codes "if")) (printed_formula words f) (printed_expression words a) (printed_expression words b)
 
 -- a word, where one is asked for and none is read
 abbrev pub no_word : Word

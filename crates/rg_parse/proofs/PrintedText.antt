@@ -15,7 +15,7 @@ use Rattle.rg_tree.specs.Typing.{HasWidth, IsTyped}
 use Rattle.rg_tree.specs.Printed.{operator_text, shift_text, comparison_text, connective_text, truth_text, name_text, between, expression_text, formula_text}
 use Rattle.rg_text.specs.declared.token.Token.{Token}
 use Rattle.rg_text.specs.Tokenization.{IsTokenized}
-use Rattle.rg_parse.specs.Grammar.{Lexeme, FormulaText, fixed, name, primed, lexeme_of, formula, expression}
+use Rattle.rg_parse.specs.Grammar.{Lexeme, FormulaText, lexeme_as, opening, an_if, fixed, name, primed, lexeme_of, formula, expression}
 use Rattle.rg_parse.specs.Grammar as grammar
 use Rattle.rg_parse.proofs.PrintedStands.{printed_leaf, connected_as, printed_formula, printed_expression, no_word, within_word, printed_stands}
 use Rattle.rg_parse.proofs.PrintedCuts.{Cut, cut_token, cut_tokens}
@@ -23,7 +23,7 @@ use Rattle.rg_parse.proofs.PrintedTokens.{ends_word, name_token, primed_token, n
 use Rattle.rg_parse.specs.PrintedBack.{PrintedSpells}
 
 -- the tokens of two formulas with a connective
-connected_lexemes : (c : Connective) (s t : FormulaText) (ls : List Lexeme) → formula (connected_as c s t) ls ≡ fixed Open ∷ formula s (fixed (connective_terminal c) ∷ formula t (fixed Close ∷ ls))
+connected_lexemes : (c : Connective) (s t : FormulaText) (ls : List Lexeme) → formula (connected_as c s t) ls ≡ fixed Open ∷ formula s (lexeme_as (Fixed (connective_terminal c)) (printed_leaf (connective_text c)) ∷ formula t (fixed Close ∷ ls))
 connected_lexemes connectives.And s t ls = refl
 connected_lexemes connectives.Or s t ls = refl
 connected_lexemes connectives.Implies s t ls = refl
@@ -78,7 +78,7 @@ module _ (words : List Word) (layout : IsLayout words) where
         let other_lexemes = fixed Else ∷ expression (printed_expression words b) (fixed Close ∷ ls) in
         let chosen = between (codes "then") (expression_text words a other) in
         let chosen_lexemes = fixed Then ∷ expression (printed_expression words a) other_lexemes in
-        cut_open (codes "if" ++ 32 ∷ formula_text words f chosen) (fixed If ∷ formula (printed_formula words f) chosen_lexemes)
+        cut_open (codes "if" ++ 32 ∷ formula_text words f chosen) (opening an_if (printed_leaf (codes "if")) ∷ formula (printed_formula words f) chosen_lexemes)
         (cut_before_space (codes "if") If (formula_text words f chosen) (formula (printed_formula words f) chosen_lexemes) if_spaced
         (cut_formula f fits.0 chosen chosen_lexemes refl
         (cut_between (codes "then") Then (expression_text words a other) (expression (printed_expression words a) other_lexemes) then_spaced

@@ -31,7 +31,8 @@ use Rattle.rg_text.proofs.KeywordTables.{no_keyword}
 use Rattle.rg_text.proofs.Longest.{longest_number, longest_word, longest_primed}
 use Rattle.rg_text.proofs.Symbols.{longest_short, longest_long}
 use Rattle.rg_tree.specs.Printed.{operator_text, shift_text, comparison_text, connective_text, truth_text, between}
-use Rattle.rg_parse.specs.Grammar.{Lexeme, fixed}
+use Rattle.rg_parse.specs.Grammar.{Lexeme, fixed, lexeme_as}
+use Rattle.rg_parse.proofs.PrintedStands.{printed_leaf}
 use Rattle.rg_parse.proofs.PrintedCuts.{Cut, IsToken, cut_space, cut_token}
 
 -- what may stand behind a word or a number: nothing, or a byte that is no part of a word and no prime
@@ -199,12 +200,12 @@ cut_close s ls h = cut_token (41 ∷ []) s (Fixed Close) ls (record { longest = 
 abbrev pub IsSpaced : List ℕ → Terminal → Type 0
 IsSpaced text t = (s : List ℕ) → IsToken text (32 ∷ s) (Fixed t)
 
-pub cut_between : (text : List ℕ) (t : Terminal) (s : List ℕ) (ls : List Lexeme) → IsSpaced text t → Cut s ls → Cut (between text s) (fixed t ∷ ls)
+pub cut_between : (text : List ℕ) (t : Terminal) (s : List ℕ) (ls : List Lexeme) → IsSpaced text t → Cut s ls → Cut (between text s) (lexeme_as (Fixed t) (printed_leaf text) ∷ ls)
 cut_between text t s ls spaced h =
-    cut_space (fixed t ∷ ls) (text ++ 32 ∷ s) (cut_token text (32 ∷ s) (Fixed t) ls (spaced s) (cut_space ls s h))
+    cut_space (lexeme_as (Fixed t) (printed_leaf text) ∷ ls) (text ++ 32 ∷ s) (cut_token text (32 ∷ s) (Fixed t) ls (spaced s) (cut_space ls s h))
 
 -- a keyword or symbol, and a space behind it
-pub cut_before_space : (text : List ℕ) (t : Terminal) (s : List ℕ) (ls : List Lexeme) → IsSpaced text t → Cut s ls → Cut (text ++ 32 ∷ s) (fixed t ∷ ls)
+pub cut_before_space : (text : List ℕ) (t : Terminal) (s : List ℕ) (ls : List Lexeme) → IsSpaced text t → Cut s ls → Cut (text ++ 32 ∷ s) (lexeme_as (Fixed t) (printed_leaf text) ∷ ls)
 cut_before_space text t s ls spaced h = cut_token text (32 ∷ s) (Fixed t) ls (spaced s) (cut_space ls s h)
 
 one_byte : (a : ℕ) (t : Terminal) → is_word_start a ≡ false → is_ascii_digit a ≡ false → symbol_of (a ∷ 32 ∷ []) ≡ None → symbol_of (a ∷ []) ≡ Some t → (is_white_space a ≡ false) → (eqb a 35 ≡ false) → IsSpaced (a ∷ []) t

@@ -12,7 +12,8 @@ use Rattle.rg_words.specs.declared.refusal.SourceFile.{SourceFile}
 use Rattle.rg_text.specs.declared.token.Token.{Token}
 use Rattle.rg_text.specs.declared.kind.Kind.{Kind}
 use Rattle.rg_text.specs.declared.kind.Kind.TheVariants.{Name, Primed, Number, Fixed}
-use Rattle.rg_text.specs.declared.kind.Terminal.TheVariants.{Colon}
+use Rattle.rg_text.specs.declared.kind.Terminal.TheVariants.{Colon, If, Section}
+use Rattle.rg_text.specs.declared.kind.Keyword.TheVariants.{Skip}
 use Rattle.rg_text.specs.Text.{Leaf, leaf_of, text_of}
 use Rattle.rg_text.specs.Tokenization.{IsTokenOf, IsTokenized}
 use Rattle.rg_tree.specs.Trees.{Proposition}
@@ -62,7 +63,9 @@ lexeme_ok : (k : Kind) (leaf : Leaf) → (k ≡ Name → IsName leaf.text) → N
 lexeme_ok Name leaf h = h refl
 lexeme_ok Primed leaf h = tt
 lexeme_ok Number leaf h = tt
-lexeme_ok (Fixed t) leaf h = tt
+lexeme_ok (Fixed If) leaf h = tt
+lexeme_ok (Fixed (Section Skip)) leaf h = tt
+lexeme_ok (Fixed _) leaf h = tt
 
 names_ok : (src : List ℕ) (ts : List Token) → All (IsTokenOf src) ts → NamesOk (map (lexeme_of src) ts)
 names_ok src [] h = tt

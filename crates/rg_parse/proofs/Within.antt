@@ -1,26 +1,31 @@
 -- The machine with limits reads each way to write a text that is within them, and stops in each other.
-use Rattle.std.proofs.Common.{◌≡◌, ℕ, ◌+◌, ◌≤◌, min, Bool, true, false, ◌&&◌, ◌||◌, not, ltb, cond, length, arith, List, [], ◌∷◌, Option, Some, None, refl, sym, ap, ◌∙◌}
-use Rattle.rg_words.specs.declared.limits.TheConstants.{MOST_OPENERS, MOST_OPERANDS, MOST_WORDS}
+use Rattle.std.proofs.Common.{◌≡◌, ℕ, suc, ◌+◌, ◌≤◌, min, Bool, true, false, ◌&&◌, ◌||◌, not, ltb, cond, length, arith, List, [], ◌∷◌, Option, Some, None, refl, sym, ap, ◌∙◌}
+use Rattle.rg_words.specs.declared.limits.TheConstants.{MOST_OPENERS, MOST_OPERANDS, MOST_WORDS, MOST_PARTS, MOST_ASSIGNMENTS}
 use Rattle.rg_text.specs.Text.{Leaf}
 use Rattle.rg_text.specs.declared.kind.Kind.{Kind}
 use Rattle.rg_text.specs.declared.kind.Kind.TheVariants.{Name, Primed, Number, Fixed}
-use Rattle.rg_text.specs.declared.kind.Terminal.TheVariants.{Open, Close, Colon, Show, Section, Compare, Operate, ShiftBy, Join, Imply, Truth, Not, Inv, If}
+use Rattle.rg_text.specs.declared.kind.Terminal.TheVariants.{Open, Close, Colon, Semicolon, Assign, Show, Section, Compare, Operate, ShiftBy, Join, Imply, Truth, Not, Inv, If, Then, Else}
 use Rattle.rg_text.specs.declared.kind.Junction.{Junction}
-use Rattle.rg_text.specs.declared.kind.Keyword.TheVariants.{At}
+use Rattle.rg_text.specs.declared.kind.Keyword.TheVariants.{At, Pre, Rely, Guar, Post, Part, Begin, End as EndWord, Do}
 use Rattle.rg_parse.specs.declared.point.TextKind.{TextKind}
 use Rattle.rg_parse.specs.declared.point.TextKind.TheVariants as texts
 use Rattle.rg_parse.specs.declared.point.Sort.TheVariants.{Formula, Expression}
 use Rattle.rg_parse.specs.declared.point.Sorts.{Sorts}
 use Rattle.rg_parse.specs.declared.point.Point.{Point}
-use Rattle.rg_parse.specs.declared.point.Point.TheVariants.{Negated, Inverted, First, Next, Second, Right, Chosen, Condition, Consequent, Alternative, AfterExpression, AfterNext, Count, Whole, End, ShowStart, FirstWord, AfterWord, Settings, BeforeMoves}
-use Rattle.rg_parse.specs.Grammar.{Lexeme, fixed, name, number, WordsText, one, more, SettingsText, no_setting, and_setting, MovesText, no_move, and_move, settings, moves, a_setting, Spelling, marked, declaration, words, spelled, FormulaText, ChainText, ExpressionText, truth, negation, junction, conditional, comparison, pair, longer, numeral, word, next_word, inverse, operation, shift, choice, formula, chain, expression}
+use Rattle.rg_parse.specs.declared.point.Point.TheVariants.{Negated, Inverted, First, Next, Second, Right, Chosen, Condition, Consequent, Alternative, AfterExpression, AfterNext, Count, Whole, End, WordsStart, FirstWord, AfterWord, Settings, BeforeMoves, Claim, AfterClaim, AfterPart, Item, AfterItem, Value, AwaitGuard, AwaitTarget, AwaitValue, AfterAssignment, BranchGuard, LoopGuard}
+use Rattle.rg_parse.specs.declared.point.Owner.{Owner}
+use Rattle.rg_parse.specs.declared.point.Owner.TheVariants as owners
+use Rattle.rg_parse.specs.declared.point.Clause.TheVariants as clauses
+use Rattle.rg_parse.specs.declared.point.Block.{Block}
+use Rattle.rg_parse.specs.declared.point.Block.TheVariants as blocks
+use Rattle.rg_parse.specs.Grammar.{Lexeme, fixed, name, number, WordsText, one, more, SettingsText, no_setting, and_setting, MovesText, no_move, and_move, settings, moves, a_setting, AssignmentsText, one_assignment, and_assignment, StatementText, BlockText, skipping, assigning, awaiting, branching, looping, one_statement, and_statement, SpecSpelling, PartSpelling, PartsText, one_part, and_part, an_assignment, assignments, statement, block, a_part, parts, specification, Spelling, marked, declaration, words, spelled, FormulaText, ChainText, ExpressionText, truth, negation, junction, conditional, comparison, pair, longer, numeral, word, next_word, inverse, operation, shift, choice, formula, chain, expression}
 use Rattle.rg_parse.specs.Machine.{start, takes, complete, one_more, has_room_at, limited}
 use Rattle.rg_words.specs.declared.operators.Comparison.{Comparison}
 use Rattle.rg_words.specs.declared.operators.Operator.{Operator}
 use Rattle.rg_words.specs.declared.operators.Shift.{Shift}
 use Rattle.std.proofs.lemmas.Bool.Decides.{nat_tests}
-use Rattle.rg_parse.specs.Limits.{operand_count, formula_fits, chain_fits, expression_fits, word_count, IsShallow, IsShort}
-use Rattle.rg_parse.proofs.Spellings.{count_of, count_of_words, same_self, open_or, moves_end, last_point}
+use Rattle.rg_parse.specs.Limits.{operand_count, formula_fits, chain_fits, expression_fits, word_count, assignment_count, part_count, assignments_fit, statement_fits, block_fits, specification_fits, part_fits, parts_fit, IsShallow, IsShort}
+use Rattle.rg_parse.proofs.Spellings.{count_of, count_of_words, same_self, open_or, count_of_assignments, count_of_parts, clauses_of, moves_end, last_point}
 use Rattle.rg_parse.proofs.Steps.{kinds, and_both}
 
 -- the same, if the test holds
@@ -80,11 +85,15 @@ on_join lists j c ps ks = rw (same_self j) (ap (λ b. also b (limited lists (Nex
 
 -- where an item is wanted no list goes on
 room_formula : (p : Point) (k : Kind) → (takes p).formula ≡ true → has_room_at p k ≡ true
-room_formula (AfterWord n) k h = cc
+room_formula (AfterWord b n) k h = cc
+room_formula (AfterPart n) k h = cc
+room_formula (AfterAssignment b n) k h = cc
 room_formula _ k h = refl
 
 room_expression : (p : Point) (k : Kind) → (takes p).expression ≡ true → has_room_at p k ≡ true
-room_expression (AfterWord n) k h = cc
+room_expression (AfterWord b n) k h = cc
+room_expression (AfterPart n) k h = cc
+room_expression (AfterAssignment b n) k h = cc
 room_expression _ k h = refl
 
 mutual
@@ -112,7 +121,7 @@ mutual
       rw (room_expression p (Fixed Open) h) (rw (open_or (takes p).formula (takes p).expression h) (both _ _ _ _ (fits_expression lists a (First (takes p)) (p ∷ ps) _ refl ∙ both _ _ _ _ (on_operate lists (takes p) (p ∷ ps) _ o h ∙ fits_expression lists b (Right Expression) (p ∷ ps) (fixed Close ∷ r) refl))))
   fits_expression lists (shift s a text) p ps r h =
       rw (room_expression p (Fixed Open) h) (rw (open_or (takes p).formula (takes p).expression h) (both _ _ _ _ (fits_expression lists a (First (takes p)) (p ∷ ps) _ refl ∙ ap (also _) (on_shift lists (takes p) (p ∷ ps) (Number ∷ Fixed Close ∷ kinds r) s h))))
-  fits_expression lists (choice f a b) p ps r h =
+  fits_expression lists (choice i f a b) p ps r h =
       rw (room_expression p (Fixed Open) h) (rw (open_or (takes p).formula (takes p).expression h) (both _ _ _ _ (on_if lists (takes p) (p ∷ ps) _ h ∙ both _ _ _ _ (fits_formula lists f Condition (Chosen ∷ p ∷ ps) _ refl ∙ both _ _ _ _ (fits_expression lists a Consequent (Chosen ∷ p ∷ ps) _ refl ∙ both _ _ _ _ (fits_expression lists b Alternative (Chosen ∷ p ∷ ps) (fixed Close ∷ r) refl))))))
 
 -- the words are counted up to 255
@@ -125,17 +134,17 @@ abbrev words_short : Bool → WordsText → Bool
 words_short lists (one w) = true
 words_short lists (more ws w) = words_short lists ws && (ltb (count_of_words ws) MOST_WORDS || not lists)
 
-fits_first : (lists b : Bool) (n w : Leaf) (r : List Lexeme) → limited lists (FirstWord ∷ []) (kinds (marked b (name n ∷ fixed Colon ∷ number w ∷ r))) ≡ limited lists (AfterWord 1 ∷ []) (kinds r)
-fits_first lists true n w r = refl
-fits_first lists false n w r = refl
+fits_first : (lists q b : Bool) (n w : Leaf) (r : List Lexeme) → limited lists (FirstWord q ∷ []) (kinds (marked b (name n ∷ fixed Colon ∷ number w ∷ r))) ≡ limited lists (AfterWord q 1 ∷ []) (kinds r)
+fits_first lists q true n w r = refl
+fits_first lists q false n w r = refl
 
-fits_further : (lists b : Bool) (k : ℕ) (n w : Leaf) (r : List Lexeme) → limited lists (AfterWord k ∷ []) (kinds (marked b (name n ∷ fixed Colon ∷ number w ∷ r))) ≡ also (ltb k MOST_WORDS || not lists) (limited lists (AfterWord (one_more k) ∷ []) (kinds r))
-fits_further lists true k n w r = ap (λ c. cond c (limited lists (AfterWord (one_more k) ∷ []) (kinds r)) None) (and_true (ltb k MOST_WORDS || not lists))
-fits_further lists false k n w r = ap (λ c. cond c (limited lists (AfterWord (one_more k) ∷ []) (kinds r)) None) (and_true (ltb k MOST_WORDS || not lists))
+fits_further : (lists q b : Bool) (k : ℕ) (n w : Leaf) (r : List Lexeme) → limited lists (AfterWord q k ∷ []) (kinds (marked b (name n ∷ fixed Colon ∷ number w ∷ r))) ≡ also (ltb k MOST_WORDS || not lists) (limited lists (AfterWord q (one_more k) ∷ []) (kinds r))
+fits_further lists q true k n w r = ap (λ c. cond c (limited lists (AfterWord q (one_more k) ∷ []) (kinds r)) None) (and_true (ltb k MOST_WORDS || not lists))
+fits_further lists q false k n w r = ap (λ c. cond c (limited lists (AfterWord q (one_more k) ∷ []) (kinds r)) None) (and_true (ltb k MOST_WORDS || not lists))
 
-fits_words : (lists : Bool) (ws : WordsText) (r : List Lexeme) → limited lists (ShowStart ∷ []) (kinds (words ws r)) ≡ also (words_short lists ws) (limited lists (AfterWord (count_of_words ws) ∷ []) (kinds r))
-fits_words lists (one w) r = fits_first lists w.fixed w.name w.width r
-fits_words lists (more ws w) r = fits_words lists ws (declaration w r) ∙ both _ _ _ _ (fits_further lists w.fixed (count_of_words ws) w.name w.width r)
+fits_words : (lists q : Bool) (ws : WordsText) (r : List Lexeme) → limited lists (WordsStart q ∷ []) (kinds (words ws r)) ≡ also (words_short lists ws) (limited lists (AfterWord q (count_of_words ws) ∷ []) (kinds r))
+fits_words lists q (one w) r = fits_first lists q w.fixed w.name w.width r
+fits_words lists q (more ws w) r = fits_words lists q ws (declaration w r) ∙ both _ _ _ _ (fits_further lists q w.fixed (count_of_words ws) w.name w.width r)
 
 fits_settings : (lists m : Bool) (ss : SettingsText) (r : List Lexeme) → limited lists (Settings m ∷ []) (kinds (settings ss r)) ≡ limited lists (Settings m ∷ []) (kinds r)
 fits_settings lists m no_setting r = refl
@@ -149,18 +158,143 @@ fits_moves : (lists : Bool) (ms : MovesText) (r : List Lexeme) → limited lists
 fits_moves lists no_move r = refl
 fits_moves lists (and_move ms n ss) r = fits_moves lists ms (fixed (Section At) ∷ number n ∷ settings ss r) ∙ fits_at lists ms n (settings ss r) ∙ fits_settings lists true ss r
 
+-- the assignments of an await and the parts are counted up to 255
+capped_assignments : (as_ : AssignmentsText) → count_of_assignments as_ ≡ min (assignment_count as_) 255
+capped_assignments (one_assignment a) = refl
+capped_assignments (and_assignment as_ a) = ap one_more (capped_assignments as_) ∙ min_more (assignment_count as_)
+
+capped_parts : (ps : PartsText) → count_of_parts ps ≡ min (part_count ps) 255
+capped_parts (one_part p) = refl
+capped_parts (and_part ps p) = ap one_more (capped_parts ps) ∙ min_more (part_count ps)
+
+few_assignments : (n : ℕ) → ltb (min n 255) MOST_ASSIGNMENTS ≡ ltb n MOST_ASSIGNMENTS
+few_assignments n = grind (arith, nat_tests)
+
+few_parts : (n : ℕ) → ltb (min n 255) MOST_PARTS ≡ ltb n MOST_PARTS
+few_parts n = grind (arith, nat_tests)
+
+with_test : (lists a b : Bool) (x : Option (List Point)) → a ≡ b → cond ((a || not lists) && true) x None ≡ also (b || not lists) x
+with_test lists a b x e = ap (λ c. cond c x None) (and_true (a || not lists) ∙ ap (λ c. c || not lists) e)
+
+on_semicolon : (lists : Bool) (as_ : AssignmentsText) (b : Block) (ps : List Point) (ks : List Kind) → limited lists (AfterAssignment b (count_of_assignments as_) ∷ ps) (Fixed Semicolon ∷ Name ∷ Fixed Assign ∷ ks) ≡ also (ltb (assignment_count as_) MOST_ASSIGNMENTS || not lists) (limited lists (AwaitValue b (one_more (count_of_assignments as_)) ∷ ps) ks)
+on_semicolon lists as_ b ps ks =
+    with_test lists _ _ _ (ap (λ n. ltb n MOST_ASSIGNMENTS) (capped_assignments as_) ∙ few_assignments (assignment_count as_))
+
+on_part : (lists : Bool) (qs : PartsText) (ks : List Kind) → limited lists (AfterPart (count_of_parts qs) ∷ []) (Fixed (Section Part) ∷ Name ∷ Fixed (Section Pre) ∷ ks) ≡ also (ltb (part_count qs) MOST_PARTS || not lists) (limited lists (Claim clauses.Pre (owners.Part (one_more (count_of_parts qs))) ∷ []) ks)
+on_part lists qs ks = with_test lists _ _ _ (ap (λ n. ltb n MOST_PARTS) (capped_parts qs) ∙ few_parts (part_count qs))
+
+fits_assignments : (lists : Bool) (as_ : AssignmentsText) (b : Block) (ps : List Point) (r : List Lexeme) → limited lists (AwaitTarget b 0 ∷ ps) (kinds (assignments as_ r)) ≡ also (assignments_fit lists (length ps) as_) (limited lists (AfterAssignment b (count_of_assignments as_) ∷ ps) (kinds r))
+fits_assignments lists (one_assignment a) b ps r = fits_expression lists a.value (AwaitValue b 1) ps r refl
+fits_assignments lists (and_assignment as_ a) b ps r =
+    fits_assignments lists as_ b ps (fixed Semicolon ∷ an_assignment a r)
+    ∙ both _ _ _ _ (on_semicolon lists as_ b ps (kinds (expression a.value r)) ∙ both _ _ _ _ (fits_expression lists a.value (AwaitValue b (one_more (count_of_assignments as_))) ps r refl))
+
+mutual
+  pub fits_statement : (lists : Bool) (s : StatementText) (b : Block) (ps : List Point) (r : List Lexeme) → limited lists (Item b ∷ ps) (kinds (statement s r)) ≡ also (statement_fits lists (length ps) s) (limited lists (AfterItem b ∷ ps) (kinds r))
+  fits_statement lists (skipping i) b ps r = refl
+  fits_statement lists (assigning a) b ps r = fits_expression lists a.value (Value b) ps r refl
+  fits_statement lists (awaiting i f as_) b ps r =
+      fits_formula lists f (AwaitGuard b) ps (fixed (Section Do) ∷ assignments as_ (fixed (Section EndWord) ∷ r)) refl
+      ∙ both _ _ _ _ (fits_assignments lists as_ b ps (fixed (Section EndWord) ∷ r))
+  fits_statement lists (branching i f x y) b ps r =
+      both _ _ _ _ (fits_formula lists f BranchGuard (Item b ∷ ps) (fixed Then ∷ block x (fixed Else ∷ block y (fixed (Section EndWord) ∷ r))) refl
+      ∙ both _ _ _ _ (fits_block lists x blocks.Then (Item b ∷ ps) (fixed Else ∷ block y (fixed (Section EndWord) ∷ r))
+      ∙ both _ _ _ _ (fits_block lists y blocks.Else (Item b ∷ ps) (fixed (Section EndWord) ∷ r))))
+  fits_statement lists (looping i f x) b ps r =
+      both _ _ _ _ (fits_formula lists f LoopGuard (Item b ∷ ps) (fixed (Section Do) ∷ block x (fixed (Section EndWord) ∷ r)) refl
+      ∙ both _ _ _ _ (fits_block lists x blocks.Loop (Item b ∷ ps) (fixed (Section EndWord) ∷ r)))
+
+  pub fits_block : (lists : Bool) (x : BlockText) (b : Block) (ps : List Point) (r : List Lexeme) → limited lists (Item b ∷ ps) (kinds (block x r)) ≡ also (block_fits lists (length ps) x) (limited lists (AfterItem b ∷ ps) (kinds r))
+  fits_block lists (one_statement s) b ps r = fits_statement lists s b ps r
+  fits_block lists (and_statement x s) b ps r = fits_block lists x b ps (fixed Semicolon ∷ statement s r) ∙ both _ _ _ _ (fits_statement lists s b ps r)
+
+fits_clauses : (lists : Bool) (s : SpecSpelling) (o : Owner) (r : List Lexeme) → limited lists (Claim clauses.Pre o ∷ []) (kinds (clauses_of s r)) ≡ also (specification_fits s) (limited lists (AfterClaim clauses.Post o ∷ []) (kinds r))
+fits_clauses lists s o r =
+    fits_formula lists s.pre (Claim clauses.Pre o) [] (fixed (Section Rely) ∷ formula s.rely (fixed (Section Guar) ∷ formula s.guar (fixed (Section Post) ∷ formula s.post r))) refl
+    ∙ both _ _ _ _ (fits_formula lists s.rely (Claim clauses.Rely o) [] (fixed (Section Guar) ∷ formula s.guar (fixed (Section Post) ∷ formula s.post r)) refl
+    ∙ both _ _ _ _ (fits_formula lists s.guar (Claim clauses.Guar o) [] (fixed (Section Post) ∷ formula s.post r) refl
+    ∙ both _ _ _ _ (fits_formula lists s.post (Claim clauses.Post o) [] r refl)))
+
+fits_part : (lists : Bool) (n : ℕ) (p : PartSpelling) (r : List Lexeme) → limited lists (Claim clauses.Pre (owners.Part n) ∷ []) (kinds (clauses_of p.spec (fixed (Section Begin) ∷ block p.body (fixed (Section EndWord) ∷ r)))) ≡ also (part_fits lists p) (limited lists (AfterPart n ∷ []) (kinds r))
+fits_part lists n p r =
+    fits_clauses lists p.spec (owners.Part n) (fixed (Section Begin) ∷ block p.body (fixed (Section EndWord) ∷ r))
+    ∙ both _ _ _ _ (fits_block lists p.body (blocks.Body n) [] (fixed (Section EndWord) ∷ r))
+
+fits_parts : (lists : Bool) (qs : PartsText) (r : List Lexeme) → limited lists (AfterClaim clauses.Post owners.Program ∷ []) (kinds (parts qs r)) ≡ also (parts_fit lists qs) (limited lists (AfterPart (count_of_parts qs) ∷ []) (kinds r))
+fits_parts lists (one_part p) r = fits_part lists 1 p r
+fits_parts lists (and_part qs p) r =
+    fits_parts lists qs (a_part p r)
+    ∙ both _ _ _ _ (on_part lists qs (kinds (clauses_of p.spec (fixed (Section Begin) ∷ block p.body (fixed (Section EndWord) ∷ r)))) ∙ both _ _ _ _ (fits_part lists (one_more (count_of_parts qs)) p r))
+
+-- what is within the limits of lists too is within those of depth
+all_true : (a b : Bool) → a ≡ true → b ≡ true → (a && b) ≡ true
+all_true a b g h = rw (g, h) refl
+
+unasked : (a b : Bool) → b ≡ true → ((a || true) && b) ≡ true
+unasked a b h = rw (or_true a, h) refl
+
+assignments_shallow : (lists : Bool) (n : ℕ) (as_ : AssignmentsText) → assignments_fit lists n as_ ≡ true → assignments_fit false n as_ ≡ true
+assignments_shallow lists n (one_assignment a) h = h
+assignments_shallow lists n (and_assignment as_ a) h =
+    let room = ltb (assignment_count as_) MOST_ASSIGNMENTS in
+    let value = expression_fits n a.value in
+    let f = and_both (assignments_fit lists n as_) ((room || not lists) && value) h in
+    all_true (assignments_fit false n as_) ((room || true) && value) (assignments_shallow lists n as_ f.0) (unasked room value (and_both (room || not lists) value f.1).1)
+
+mutual
+  statement_shallow : (lists : Bool) (n : ℕ) (s : StatementText) → statement_fits lists n s ≡ true → statement_fits false n s ≡ true
+  statement_shallow lists n (skipping i) h = refl
+  statement_shallow lists n (assigning a) h = h
+  statement_shallow lists n (awaiting i f as_) h =
+      let g = and_both (formula_fits n f) (assignments_fit lists n as_) h in
+      all_true (formula_fits n f) (assignments_fit false n as_) g.0 (assignments_shallow lists n as_ g.1)
+  statement_shallow lists n (branching i f x y) h =
+      let a = and_both (ltb n MOST_OPENERS) (formula_fits (suc n) f && (block_fits lists (suc n) x && block_fits lists (suc n) y)) h in
+      let b = and_both (formula_fits (suc n) f) (block_fits lists (suc n) x && block_fits lists (suc n) y) a.1 in
+      let c = and_both (block_fits lists (suc n) x) (block_fits lists (suc n) y) b.1 in
+      all_true (ltb n MOST_OPENERS) (formula_fits (suc n) f && (block_fits false (suc n) x && block_fits false (suc n) y)) a.0
+      (all_true (formula_fits (suc n) f) (block_fits false (suc n) x && block_fits false (suc n) y) b.0
+      (all_true (block_fits false (suc n) x) (block_fits false (suc n) y) (block_shallow lists (suc n) x c.0) (block_shallow lists (suc n) y c.1)))
+  statement_shallow lists n (looping i f x) h =
+      let a = and_both (ltb n MOST_OPENERS) (formula_fits (suc n) f && block_fits lists (suc n) x) h in
+      let b = and_both (formula_fits (suc n) f) (block_fits lists (suc n) x) a.1 in
+      all_true (ltb n MOST_OPENERS) (formula_fits (suc n) f && block_fits false (suc n) x) a.0
+      (all_true (formula_fits (suc n) f) (block_fits false (suc n) x) b.0 (block_shallow lists (suc n) x b.1))
+
+  block_shallow : (lists : Bool) (n : ℕ) (x : BlockText) → block_fits lists n x ≡ true → block_fits false n x ≡ true
+  block_shallow lists n (one_statement s) h = statement_shallow lists n s h
+  block_shallow lists n (and_statement x s) h =
+      let g = and_both (block_fits lists n x) (statement_fits lists n s) h in
+      all_true (block_fits false n x) (statement_fits false n s) (block_shallow lists n x g.0) (statement_shallow lists n s g.1)
+
+part_shallow : (lists : Bool) (p : PartSpelling) → part_fits lists p ≡ true → part_fits false p ≡ true
+part_shallow lists p h =
+    let g = and_both (specification_fits p.spec) (block_fits lists 0 p.body) h in
+    all_true (specification_fits p.spec) (block_fits false 0 p.body) g.0 (block_shallow lists 0 p.body g.1)
+
+parts_shallow : (lists : Bool) (qs : PartsText) → parts_fit lists qs ≡ true → parts_fit false qs ≡ true
+parts_shallow lists (one_part p) h = part_shallow lists p h
+parts_shallow lists (and_part qs p) h =
+    let room = ltb (part_count qs) MOST_PARTS in
+    let f = and_both (parts_fit lists qs) ((room || not lists) && part_fits lists p) h in
+    all_true (parts_fit false qs) ((room || true) && part_fits false p) (parts_shallow lists qs f.0) (unasked room (part_fits false p) (part_shallow lists p (and_both (room || not lists) (part_fits lists p) f.1).1))
+
 -- whether a text is within the limits of depth, and where lists are asked about those of lists too
 abbrev pub fits : Bool → (k : TextKind) → Spelling k → Bool
 fits lists texts.Formula f = formula_fits 0 f
 fits lists texts.Show s = words_short lists s.words && formula_fits 0 s.formula
 fits lists texts.Start ss = true
 fits lists texts.Moves ms = true
+fits lists texts.Program p = words_short lists p.words && (specification_fits p.spec && parts_fit lists p.parts)
 
 pub fits_text : (lists : Bool) (k : TextKind) (s : Spelling k) → limited lists (start k) (kinds (spelled k s [])) ≡ also (fits lists k s) (Some (last_point k s ∷ []))
 fits_text lists texts.Formula f = fits_formula lists f Whole [] [] refl
-fits_text lists texts.Show s = fits_words lists s.words (fixed Show ∷ formula s.formula []) ∙ both _ _ _ _ (fits_formula lists s.formula Whole [] [] refl)
+fits_text lists texts.Show s = fits_words lists false s.words (fixed Show ∷ formula s.formula []) ∙ both _ _ _ _ (fits_formula lists s.formula Whole [] [] refl)
 fits_text lists texts.Start ss = fits_settings lists false ss []
 fits_text lists texts.Moves ms = fits_moves lists ms []
+fits_text lists texts.Program p =
+    fits_words lists true p.words (specification p.spec (parts p.parts []))
+    ∙ both _ _ _ _ (fits_clauses lists p.spec owners.Program (parts p.parts []) ∙ both _ _ _ _ (fits_parts lists p.parts []))
 
 -- what the test says of a text
 long_enough : (n : ℕ) → ltb (min n 255) MOST_WORDS ≡ true → n + 1 ≤ MOST_WORDS
@@ -187,21 +321,30 @@ fits_shallow lists texts.Formula f h = h
 fits_shallow lists texts.Show s h = (and_both _ _ h).1
 fits_shallow lists texts.Start ss h = tt
 fits_shallow lists texts.Moves ms h = tt
+fits_shallow lists texts.Program p h =
+    let f = and_both (specification_fits p.spec) (parts_fit lists p.parts) (and_both (words_short lists p.words) _ h).1 in
+    all_true (specification_fits p.spec) (parts_fit false p.parts) f.0 (parts_shallow lists p.parts f.1)
 
 pub fits_short : (k : TextKind) (s : Spelling k) → fits true k s ≡ true → IsShort k s
 fits_short texts.Formula f h = tt
 fits_short texts.Show s h = short_words s.words (and_both _ _ h).0
 fits_short texts.Start ss h = tt
 fits_short texts.Moves ms h = tt
+fits_short texts.Program p h =
+    let f = and_both (words_short true p.words) _ h in
+    (short_words p.words f.0, (and_both (specification_fits p.spec) (parts_fit true p.parts) f.1).1)
 
 pub shallow_fits : (k : TextKind) (s : Spelling k) → IsShallow k s → fits false k s ≡ true
 shallow_fits texts.Formula f h = h
 shallow_fits texts.Show s h = rw (words_unasked s.words) h
 shallow_fits texts.Start ss h = refl
 shallow_fits texts.Moves ms h = refl
+shallow_fits texts.Program p h = rw (words_unasked p.words) h
 
 pub within_fits : (k : TextKind) (s : Spelling k) → IsShallow k s → IsShort k s → fits true k s ≡ true
 within_fits texts.Formula f h short = h
 within_fits texts.Show s h short = rw (words_are_short s.words short) h
 within_fits texts.Start ss h short = refl
 within_fits texts.Moves ms h short = refl
+within_fits texts.Program p h short =
+    rw (words_are_short p.words short.0, (and_both (specification_fits p.spec) (parts_fit false p.parts) h).0, short.1) refl

@@ -101,9 +101,13 @@ on_fixed terminals.Open os = first ∷ os
 on_fixed terminals.Close os = close os
 on_fixed terminals.Not os = negated ∷ os
 on_fixed terminals.Inv os = inverted ∷ os
-on_fixed terminals.If os = on_if os
 on_fixed (terminals.Truth b) os = with_claim os (truth b)
 on_fixed t os = between t os
+
+-- a keyword that begins a statement, other than as a part of an expression
+abbrev pub on_opening : grammar.Opening → List Open → List Open
+on_opening grammar.an_if os = on_if os
+on_opening o os = between (grammar.terminal_of o) os
 
 -- where a name or a number is no expression
 abbrev pub is_apart : List Open → Bool
@@ -136,6 +140,7 @@ on_number os leaf = cond (is_apart os) (with_number os leaf) (with_term os (numb
 
 abbrev pub step : List Open → Lexeme → List Open
 step os (grammar.fixed t) = on_fixed t os
+step os (grammar.opening o leaf) = on_opening o os
 step os (grammar.name leaf) = on_name os leaf
 step os (grammar.primed leaf) = with_term os (next_word leaf)
 step os (grammar.number leaf) = on_number os leaf
@@ -190,7 +195,7 @@ abbrev mutual
   term_of (grammar.inverse a) = inverse (term_of a)
   term_of (grammar.operation o a b) = binary o (term_of a) (term_of b)
   term_of (grammar.shift s a leaf) = shifted s (term_of a) leaf
-  term_of (grammar.choice f a b) = choice (claim_of f) (term_of a) (term_of b)
+  term_of (grammar.choice i f a b) = choice (claim_of f) (term_of a) (term_of b)
 
 -- the words that are declared, in their order
 abbrev pub declared_words : WordsText → List DeclaredWord

@@ -5,7 +5,7 @@ use Rattle.rg_text.specs.declared.token.Token.{Token}
 use Rattle.rg_text.specs.declared.kind.Kind.{Kind}
 use Rattle.rg_text.specs.declared.kind.Kind.TheVariants.{Name, Primed, Number, Fixed}
 use Rattle.rg_text.specs.declared.kind.Terminal.{Terminal}
-use Rattle.rg_text.specs.declared.kind.Terminal.TheVariants.{Open, Close, Colon, Words, Show, Section, Compare, Operate, ShiftBy, Join, Imply, Truth, Not, Inv, If, Then, Else}
+use Rattle.rg_text.specs.declared.kind.Terminal.TheVariants.{Open, Close, Colon, Semicolon, Assign, Words, Show, Section, Compare, Operate, ShiftBy, Join, Imply, Truth, Not, Inv, If, Then, Else}
 use Rattle.rg_words.specs.declared.operators.Comparison.{Comparison}
 use Rattle.rg_words.specs.declared.operators.Operator.{Operator}
 use Rattle.rg_words.specs.declared.operators.Shift.{Shift}
@@ -17,20 +17,40 @@ use Rattle.rg_words.specs.declared.operators.Comparison.TheVariants as compariso
 use Rattle.rg_parse.specs.declared.point.TextKind.{TextKind}
 use Rattle.rg_parse.specs.declared.point.TextKind.TheVariants as texts
 
--- a token as the grammar sees it: a keyword or symbol, or a name or number with its text and line
+-- the keywords that begin a statement, other than as a part of one
+pub data Opening : Type 0 where
+  an_if : Opening
+  a_skip : Opening
+  an_await : Opening
+  a_while : Opening
+
+-- a token as the grammar sees it: a keyword or symbol, or a name or number with its text and line. A keyword that begins a
+-- statement has them too
 pub data Lexeme : Type 0 where
   fixed : Terminal → Lexeme
+  opening : Opening → Leaf → Lexeme
   name : Leaf → Lexeme
   primed : Leaf → Lexeme
   number : Leaf → Lexeme
 
+abbrev pub terminal_of : Opening → Terminal
+terminal_of an_if = If
+terminal_of a_skip = Section keywords.Skip
+terminal_of an_await = Section keywords.Await
+terminal_of a_while = Section keywords.While
+
 abbrev pub kind_of : Lexeme → Kind
 kind_of (fixed t) = Fixed t
+kind_of (opening o leaf) = Fixed (terminal_of o)
 kind_of (name leaf) = Name
 kind_of (primed leaf) = Primed
 kind_of (number leaf) = Number
 
 abbrev pub lexeme_as : Kind → Leaf → Lexeme
+lexeme_as (Fixed If) leaf = opening an_if leaf
+lexeme_as (Fixed (Section keywords.Skip)) leaf = opening a_skip leaf
+lexeme_as (Fixed (Section keywords.Await)) leaf = opening an_await leaf
+lexeme_as (Fixed (Section keywords.While)) leaf = opening a_while leaf
 lexeme_as (Fixed t) leaf = fixed t
 lexeme_as Name leaf = name leaf
 lexeme_as Primed leaf = primed leaf
@@ -60,7 +80,7 @@ mutual
     inverse : ExpressionText → ExpressionText
     operation : Operator → ExpressionText → ExpressionText → ExpressionText
     shift : Shift → ExpressionText → Leaf → ExpressionText
-    choice : FormulaText → ExpressionText → ExpressionText → ExpressionText
+    choice : Leaf → FormulaText → ExpressionText → ExpressionText → ExpressionText
 
 -- its tokens, and then the rest
 abbrev mutual
@@ -82,7 +102,7 @@ abbrev mutual
   expression (inverse a) rest = fixed Inv ∷ expression a rest
   expression (operation o a b) rest = fixed Open ∷ expression a (fixed (Operate o) ∷ expression b (fixed Close ∷ rest))
   expression (shift s a leaf) rest = fixed Open ∷ expression a (fixed (ShiftBy s) ∷ number leaf ∷ fixed Close ∷ rest)
-  expression (choice f a b) rest = fixed Open ∷ fixed If ∷ formula f (fixed Then ∷ expression a (fixed Else ∷ expression b (fixed Close ∷ rest)))
+  expression (choice i f a b) rest = fixed Open ∷ opening an_if i ∷ formula f (fixed Then ∷ expression a (fixed Else ∷ expression b (fixed Close ∷ rest)))
 
 -- the ways to write a declaration of words
 pub data WordsText : Type 0 where
@@ -130,12 +150,90 @@ abbrev pub moves : MovesText → List Lexeme → List Lexeme
 moves no_move rest = rest
 moves (and_move ms n ss) rest = moves ms (fixed (Section keywords.At) ∷ number n ∷ settings ss rest)
 
+-- the ways to write an assignment, and those of an await
+pub record AssignmentText : Type 0 where
+  pub target : Leaf
+  pub value : ExpressionText
+
+pub data AssignmentsText : Type 0 where
+  one_assignment : AssignmentText → AssignmentsText
+  and_assignment : AssignmentsText → AssignmentText → AssignmentsText
+
+-- the ways to write a statement, and a block
+mutual
+  pub data StatementText : Type 0 where
+    skipping : Leaf → StatementText
+    assigning : AssignmentText → StatementText
+    awaiting : Leaf → FormulaText → AssignmentsText → StatementText
+    branching : Leaf → FormulaText → BlockText → BlockText → StatementText
+    looping : Leaf → FormulaText → BlockText → StatementText
+
+  pub data BlockText : Type 0 where
+    one_statement : StatementText → BlockText
+    and_statement : BlockText → StatementText → BlockText
+
+-- the ways to write a specification, a part, some parts and a program
+pub record SpecSpelling : Type 0 where
+  pub pre : FormulaText
+  pub rely : FormulaText
+  pub guar : FormulaText
+  pub post : FormulaText
+
+pub record PartSpelling : Type 0 where
+  pub name : Leaf
+  pub spec : SpecSpelling
+  pub body : BlockText
+
+pub data PartsText : Type 0 where
+  one_part : PartSpelling → PartsText
+  and_part : PartsText → PartSpelling → PartsText
+
+pub record ProgramSpelling : Type 0 where
+  pub words : WordsText
+  pub spec : SpecSpelling
+  pub parts : PartsText
+
+abbrev pub an_assignment : AssignmentText → List Lexeme → List Lexeme
+an_assignment a rest = name a.target ∷ fixed Assign ∷ expression a.value rest
+
+abbrev pub assignments : AssignmentsText → List Lexeme → List Lexeme
+assignments (one_assignment a) rest = an_assignment a rest
+assignments (and_assignment as_ a) rest = assignments as_ (fixed Semicolon ∷ an_assignment a rest)
+
+abbrev mutual
+  pub statement : StatementText → List Lexeme → List Lexeme
+  statement (skipping i) rest = opening a_skip i ∷ rest
+  statement (assigning a) rest = an_assignment a rest
+  statement (awaiting i f as_) rest = opening an_await i ∷ formula f (fixed (Section keywords.Do) ∷ assignments as_ (fixed (Section keywords.End) ∷ rest))
+  statement (branching i f b c) rest = opening an_if i ∷ formula f (fixed Then ∷ block b (fixed Else ∷ block c (fixed (Section keywords.End) ∷ rest)))
+  statement (looping i f b) rest = opening a_while i ∷ formula f (fixed (Section keywords.Do) ∷ block b (fixed (Section keywords.End) ∷ rest))
+
+  pub block : BlockText → List Lexeme → List Lexeme
+  block (one_statement s) rest = statement s rest
+  block (and_statement b s) rest = block b (fixed Semicolon ∷ statement s rest)
+
+abbrev pub specification : SpecSpelling → List Lexeme → List Lexeme
+specification s rest =
+    fixed (Section keywords.Pre) ∷ formula s.pre (fixed (Section keywords.Rely) ∷ formula s.rely (fixed (Section keywords.Guar) ∷ formula s.guar (fixed (Section keywords.Post) ∷ formula s.post rest)))
+
+abbrev pub a_part : PartSpelling → List Lexeme → List Lexeme
+a_part p rest =
+    fixed (Section keywords.Part) ∷ name p.name ∷ specification p.spec (fixed (Section keywords.Begin) ∷ block p.body (fixed (Section keywords.End) ∷ rest))
+
+abbrev pub parts : PartsText → List Lexeme → List Lexeme
+parts (one_part p) rest = a_part p rest
+parts (and_part ps p) rest = parts ps (a_part p rest)
+
+abbrev pub program : ProgramSpelling → List Lexeme → List Lexeme
+program p rest = words p.words (specification p.spec (parts p.parts rest))
+
 -- the ways to write a text of this kind
 abbrev pub Spelling : TextKind → Type 0
 Spelling texts.Formula = FormulaText
 Spelling texts.Show = ShowSpelling
 Spelling texts.Start = SettingsText
 Spelling texts.Moves = MovesText
+Spelling texts.Program = ProgramSpelling
 
 -- its tokens, and then the rest
 abbrev pub spelled : (k : TextKind) → Spelling k → List Lexeme → List Lexeme
@@ -143,6 +241,7 @@ spelled texts.Formula f rest = formula f rest
 spelled texts.Show s rest = show s rest
 spelled texts.Start ss rest = settings ss rest
 spelled texts.Moves ms rest = moves ms rest
+spelled texts.Program p rest = program p rest
 
 -- the tokens spell a text of this kind
 abbrev pub IsText : TextKind → List Lexeme → Type 0

@@ -3,8 +3,8 @@
 ghost use Rattle.std.specs.Prelude.{◌≡◌, ℕ, List, [], ◌∷◌, ◌++◌, map, reverse, OnOk, IfOk, IsSomeAnd, option_map};
 ghost use Rattle.rg_parse.specs.Syntax.{claim, term, show_text, setting, move_text};
 ghost use Rattle.rg_parse.specs.Frames.{open_of, piece, setter_of};
-ghost use Rattle.rg_text.specs.Text.{leaf_of};
-ghost use Rattle.rg_parse.specs.Grammar.{FormulaText, ShowSpelling, SettingsText, MovesText, formula, show, settings, moves, lexeme_of};
+ghost use Rattle.rg_text.specs.Text.{Leaf, leaf_of};
+ghost use Rattle.rg_parse.specs.Grammar.{FormulaText, ShowSpelling, SettingsText, MovesText, formula, show, settings, moves, lexeme_as, lexeme_of};
 ghost use Rattle.rg_parse.specs.Build.{with_claim, with_term, with_piece, close, on_if, between, on_fixed, on_name, on_number, step, steps, claim_of, shown_claim, whole_of, whole_show_of, after_at, settings_of, moves_of, whole_start_of, whole_moves_of, with_last};
 
 use crate::syntax::{Declaration, Expr, Formula, MoveText, Setting, ShowText};
@@ -236,8 +236,8 @@ fn take_terminal(
     frames: &mut Vec<Frame>,
     terminal: Terminal,
 ) -> Result<(), AllocError>
-    ensures { (src : List ℕ) → OnOk result (map (open_of src) (reverse frames.new.items)
-        ≡ on_fixed terminal (map (open_of src) (reverse frames.old.items))) }
+    ensures { (leaf : Leaf) (src : List ℕ) → OnOk result (map (open_of src) (reverse frames.new.items)
+        ≡ step (map (open_of src) (reverse frames.old.items)) (lexeme_as (Kind.Fixed terminal) leaf)) }
 {
     match terminal {
         Terminal::Open => frames.push(Frame::First)?,

@@ -1,10 +1,10 @@
 //! Where a parse stands: what has been read of each open part of the text.
 
 ghost use Rattle.std.specs.Prelude.{◌≡◌, ◌∷◌, []};
-ghost use Rattle.rg_parse.specs.Machine.{has, start, takes, is_prefix, resume, turn, at_compare, at_operate, at_shift, at_join, at_imply, at_close, at_if, at_then, at_else, at_number, at_name, at_colon, at_words, at_show, at_section, operand_of, start_of, is_opener, is_join, is_end, begins_word, has_operand_left, has_room_at};
+ghost use Rattle.rg_parse.specs.Machine.{has, start, takes, is_prefix, resume, turn, at_compare, at_operate, at_shift, at_join, at_imply, at_close, at_if, at_then, at_else, at_number, at_name, at_colon, at_words, at_show, at_semicolon, at_assign, at_section, after_word, after_claim, after_specification, at_statement, block_end, after_statement, operand_of, start_of, is_opener, is_join, is_end, begins_word, begins_part, is_semicolon, has_operand_left, has_room_at};
 
 use rg_text::kind::{Junction, Keyword, Kind, Terminal};
-use rg_words::limits::{MOST_OPERANDS, MOST_WORDS};
+use rg_words::limits::{MOST_ASSIGNMENTS, MOST_OPERANDS, MOST_PARTS, MOST_WORDS};
 use rg_words::operators::Comparison;
 
 /// A kind of text.
@@ -18,6 +18,8 @@ pub enum TextKind {
     Start,
     /// The moves of the environment.
     Moves,
+    /// A program.
+    Program,
 }
 
 /// A formula or an expression.
@@ -32,6 +34,32 @@ pub enum Sort {
 pub struct Sorts {
     pub formula: bool,
     pub expression: bool,
+}
+
+/// Whose specification it is: the program's own, or that of the part of this number, from 1.
+#[derive(Clone, Copy, Debug, PartialEq, Eq)]
+pub enum Owner {
+    Program,
+    Part(u8),
+}
+
+/// A formula of a specification.
+#[derive(Clone, Copy, Debug, PartialEq, Eq)]
+pub enum Clause {
+    Pre,
+    Rely,
+    Guar,
+    Post,
+}
+
+/// What a block of statements is: the body of the part of this number, or a block of an `if` or a
+/// `while`.
+#[derive(Clone, Copy, Debug, PartialEq, Eq)]
+pub enum Block {
+    Body(u8),
+    Then,
+    Else,
+    Loop,
 }
 
 /// A place between two tokens, as seen from one open part of the text.
@@ -77,18 +105,18 @@ pub enum Point {
     AfterCondition,
     /// Before `else`.
     AfterConsequent,
-    /// Before `words`.
-    ShowStart,
+    /// Before `words`, in a program or in a text to show.
+    WordsStart(bool),
     /// After `words`.
-    FirstWord,
+    FirstWord(bool),
     /// After `fixed`, in the declaration of the word of this number, from 1.
-    FixedWord(u8),
+    FixedWord(bool, u8),
     /// After the name of the word of this number.
-    NamedWord(u8),
+    NamedWord(bool, u8),
     /// After the colon of the word of this number.
-    WordWidth(u8),
+    WordWidth(bool, u8),
     /// After so many words.
-    AfterWord(u8),
+    AfterWord(bool, u8),
     /// Before a word that is set, in a move or in a start. The text may end.
     Settings(bool),
     /// After the word that is set.
@@ -99,6 +127,44 @@ pub enum Point {
     BeforeMoves,
     /// After `at`.
     MoveNumber,
+    /// A formula of a specification is wanted.
+    Claim(Clause, Owner),
+    /// After that formula.
+    AfterClaim(Clause, Owner),
+    /// After the `part` of the part of this number.
+    PartName(u8),
+    /// After its name.
+    NamedPart(u8),
+    /// After so many parts. The text may end.
+    AfterPart(u8),
+    /// A statement of a block is wanted.
+    Item(Block),
+    /// After a statement of a block.
+    AfterItem(Block),
+    /// After the target of an assignment.
+    Target(Block),
+    /// After its `:=`.
+    Value(Block),
+    /// After `await`.
+    AwaitGuard(Block),
+    /// After the formula of an `await`.
+    AfterAwaitGuard(Block),
+    /// After so many assignments of an `await`, before another.
+    AwaitTarget(Block, u8),
+    /// After the target of the assignment of this number.
+    AwaitName(Block, u8),
+    /// After its `:=`.
+    AwaitValue(Block, u8),
+    /// After so many assignments of an `await`.
+    AfterAssignment(Block, u8),
+    /// After the `if` of a statement, which is open inside its block.
+    BranchGuard,
+    /// After the formula of an `if`.
+    AfterBranchGuard,
+    /// After `while`, which is open inside its block.
+    LoopGuard,
+    /// After the formula of a `while`.
+    AfterLoopGuard,
 }
 
 /// How a token may begin an item.
@@ -123,6 +189,8 @@ pub enum Turn {
     Inside(Point, Point),
     /// An item of this sort is complete.
     Closed(Sort),
+    /// The innermost `if` or `while` of statements is complete.
+    Ended,
 }
 
 impl TextKind {
@@ -132,7 +200,8 @@ impl TextKind {
     {
         match self {
             TextKind::Formula => Point::Whole,
-            TextKind::Show => Point::ShowStart,
+            TextKind::Show => Point::WordsStart(false),
+            TextKind::Program => Point::WordsStart(true),
             TextKind::Start => Point::Settings(false),
             TextKind::Moves => Point::BeforeMoves,
         }
@@ -172,10 +241,18 @@ impl Point {
         ensures { result ≡ takes self }
     {
         match self {
-            Point::Whole | Point::Negated | Point::Next(..) | Point::Second | Point::Condition => {
-                Sorts::FORMULA
-            }
-            Point::Inverted
+            Point::Whole
+            | Point::Negated
+            | Point::Next(..)
+            | Point::Second
+            | Point::Condition
+            | Point::Claim(..)
+            | Point::AwaitGuard(_)
+            | Point::BranchGuard
+            | Point::LoopGuard => Sorts::FORMULA,
+            Point::Value(_)
+            | Point::AwaitValue(..)
+            | Point::Inverted
             | Point::Right(_)
             | Point::Chosen
             | Point::Consequent
@@ -212,6 +289,22 @@ impl Point {
             Point::Chosen => Point::Closing(Sort::Expression),
             Point::Condition => Point::AfterCondition,
             Point::Consequent => Point::AfterConsequent,
+            Point::Claim(clause, owner) => Point::AfterClaim(clause, owner),
+            Point::Value(block) => Point::AfterItem(block),
+            Point::AwaitGuard(block) => Point::AfterAwaitGuard(block),
+            Point::AwaitValue(block, assignments) => Point::AfterAssignment(block, assignments),
+            Point::BranchGuard => Point::AfterBranchGuard,
+            Point::LoopGuard => Point::AfterLoopGuard,
+            _ => Point::End,
+        }
+    }
+
+    /// The place after a statement of a block.
+    pub fn after_statement(self) -> Point
+        ensures { result ≡ after_statement self }
+    {
+        match self {
+            Point::Item(block) => Point::AfterItem(block),
             _ => Point::End,
         }
     }
@@ -220,7 +313,10 @@ impl Point {
     pub fn is_end(self) -> bool
         ensures { result ≡ is_end self }
     {
-        matches!(self, Point::End | Point::Settings(_) | Point::BeforeMoves)
+        matches!(
+            self,
+            Point::End | Point::Settings(_) | Point::BeforeMoves | Point::AfterPart(_)
+        )
     }
 
     /// Whether a chain may go on here.
@@ -238,7 +334,11 @@ impl Point {
         ensures { result ≡ has_room_at self kind }
     {
         match self {
-            Point::AfterWord(words) if begins_word(kind) => usize::from(words) < MOST_WORDS,
+            Point::AfterWord(_, words) if begins_word(kind) => usize::from(words) < MOST_WORDS,
+            Point::AfterPart(parts) if begins_part(kind) => usize::from(parts) < MOST_PARTS,
+            Point::AfterAssignment(_, assignments) if is_semicolon(kind) => {
+                usize::from(assignments) < MOST_ASSIGNMENTS
+            }
             _ => true,
         }
     }
@@ -271,6 +371,8 @@ impl Point {
             Terminal::Colon => self.at_colon(),
             Terminal::Words => self.at_words(),
             Terminal::Show => self.at_show(),
+            Terminal::Semicolon => self.at_semicolon(),
+            Terminal::Assign => self.at_assign(),
             Terminal::Section(keyword) => self.at_section(keyword),
             _ => None,
         }
@@ -348,6 +450,7 @@ impl Point {
             Point::First(sorts) if sorts.expression => {
                 Some(Turn::Inside(Point::Condition, Point::Chosen))
             }
+            Point::Item(block) => Some(Turn::Inside(Point::BranchGuard, Point::Item(block))),
             _ => None,
         }
     }
@@ -357,6 +460,7 @@ impl Point {
     {
         match self {
             Point::AfterCondition => Some(Turn::On(Point::Consequent)),
+            Point::AfterBranchGuard => Some(Turn::On(Point::Item(Block::Then))),
             _ => None,
         }
     }
@@ -366,6 +470,7 @@ impl Point {
     {
         match self {
             Point::AfterConsequent => Some(Turn::On(Point::Alternative)),
+            Point::AfterItem(Block::Then) => Some(Turn::On(Point::Item(Block::Else))),
             _ => None,
         }
     }
@@ -375,7 +480,7 @@ impl Point {
     {
         match self {
             Point::Count => Some(Turn::On(Point::Closing(Sort::Expression))),
-            Point::WordWidth(words) => Some(Turn::On(Point::AfterWord(words))),
+            Point::WordWidth(program, words) => Some(Turn::On(Point::AfterWord(program, words))),
             Point::SettingValue(in_move) => Some(Turn::On(Point::Settings(in_move))),
             Point::MoveNumber => Some(Turn::On(Point::Settings(true))),
             _ => None,
@@ -386,9 +491,18 @@ impl Point {
         ensures { result ≡ at_name self }
     {
         match self {
-            Point::FirstWord => Some(Turn::On(Point::NamedWord(1))),
-            Point::FixedWord(words) => Some(Turn::On(Point::NamedWord(words))),
-            Point::AfterWord(words) => Some(Turn::On(Point::NamedWord(words.saturating_add(1)))),
+            Point::FirstWord(program) => Some(Turn::On(Point::NamedWord(program, 1))),
+            Point::FixedWord(program, words) => Some(Turn::On(Point::NamedWord(program, words))),
+            Point::AfterWord(program, words) => {
+                let number = words.saturating_add(1);
+                Some(Turn::On(Point::NamedWord(program, number)))
+            }
+            Point::PartName(parts) => Some(Turn::On(Point::NamedPart(parts))),
+            Point::Item(block) => Some(Turn::On(Point::Target(block))),
+            Point::AwaitTarget(block, assignments) => {
+                let number = assignments.saturating_add(1);
+                Some(Turn::On(Point::AwaitName(block, number)))
+            }
             Point::Settings(in_move) => Some(Turn::On(Point::SettingWord(in_move))),
             _ => None,
         }
@@ -398,7 +512,7 @@ impl Point {
         ensures { result ≡ at_colon self }
     {
         match self {
-            Point::NamedWord(words) => Some(Turn::On(Point::WordWidth(words))),
+            Point::NamedWord(program, words) => Some(Turn::On(Point::WordWidth(program, words))),
             _ => None,
         }
     }
@@ -407,7 +521,7 @@ impl Point {
         ensures { result ≡ at_words self }
     {
         match self {
-            Point::ShowStart => Some(Turn::On(Point::FirstWord)),
+            Point::WordsStart(program) => Some(Turn::On(Point::FirstWord(program))),
             _ => None,
         }
     }
@@ -416,7 +530,31 @@ impl Point {
         ensures { result ≡ at_show self }
     {
         match self {
-            Point::AfterWord(_) => Some(Turn::On(Point::Whole)),
+            Point::AfterWord(program, _) if !program => Some(Turn::On(Point::Whole)),
+            _ => None,
+        }
+    }
+
+    fn at_semicolon(self) -> Option<Turn>
+        ensures { result ≡ at_semicolon self }
+    {
+        match self {
+            Point::AfterItem(block) => Some(Turn::On(Point::Item(block))),
+            Point::AfterAssignment(block, assignments) => {
+                Some(Turn::On(Point::AwaitTarget(block, assignments)))
+            }
+            _ => None,
+        }
+    }
+
+    fn at_assign(self) -> Option<Turn>
+        ensures { result ≡ at_assign self }
+    {
+        match self {
+            Point::Target(block) => Some(Turn::On(Point::Value(block))),
+            Point::AwaitName(block, assignments) => {
+                Some(Turn::On(Point::AwaitValue(block, assignments)))
+            }
             _ => None,
         }
     }
@@ -424,16 +562,102 @@ impl Point {
     fn at_section(self, keyword: Keyword) -> Option<Turn>
         ensures { result ≡ at_section self keyword }
     {
-        match (self, keyword) {
-            (Point::FirstWord, Keyword::Fixed) => Some(Turn::On(Point::FixedWord(1))),
-            (Point::AfterWord(words), Keyword::Fixed) => {
-                Some(Turn::On(Point::FixedWord(words.saturating_add(1))))
+        match self {
+            Point::FirstWord(program) if keyword == Keyword::Fixed => {
+                Some(Turn::On(Point::FixedWord(program, 1)))
             }
-            (Point::BeforeMoves | Point::Settings(true), Keyword::At) => {
+            Point::AfterWord(program, words) => after_word(program, words, keyword),
+            Point::BeforeMoves | Point::Settings(true) if keyword == Keyword::At => {
                 Some(Turn::On(Point::MoveNumber))
+            }
+            Point::AfterClaim(clause, owner) => after_claim(clause, owner, keyword),
+            Point::NamedPart(part) if keyword == Keyword::Pre => {
+                Some(Turn::On(Point::Claim(Clause::Pre, Owner::Part(part))))
+            }
+            Point::AfterPart(parts) if keyword == Keyword::Part => {
+                Some(Turn::On(Point::PartName(parts.saturating_add(1))))
+            }
+            Point::Item(block) => at_statement(block, keyword),
+            Point::AfterItem(block) if keyword == Keyword::End => block.end(),
+            Point::AfterAwaitGuard(block) if keyword == Keyword::Do => {
+                Some(Turn::On(Point::AwaitTarget(block, 0)))
+            }
+            Point::AfterAssignment(block, _) if keyword == Keyword::End => {
+                Some(Turn::On(Point::AfterItem(block)))
+            }
+            Point::AfterLoopGuard if keyword == Keyword::Do => {
+                Some(Turn::On(Point::Item(Block::Loop)))
             }
             _ => None,
         }
+    }
+}
+
+impl Block {
+    /// Where the `end` behind the block leads.
+    fn end(self) -> Option<Turn>
+        ensures { result ≡ block_end self }
+    {
+        match self {
+            Block::Body(part) => Some(Turn::On(Point::AfterPart(part))),
+            Block::Then => None,
+            Block::Else | Block::Loop => Some(Turn::Ended),
+        }
+    }
+}
+
+/// Where a keyword leads after so many words.
+fn after_word(program: bool, words: u8, keyword: Keyword) -> Option<Turn>
+    ensures { result ≡ after_word program words keyword }
+{
+    match keyword {
+        Keyword::Fixed => Some(Turn::On(Point::FixedWord(program, words.saturating_add(1)))),
+        Keyword::Pre if program => Some(Turn::On(Point::Claim(Clause::Pre, Owner::Program))),
+        _ => None,
+    }
+}
+
+/// Where a keyword leads after a formula of a specification.
+fn after_claim(clause: Clause, owner: Owner, keyword: Keyword) -> Option<Turn>
+    ensures { result ≡ after_claim clause owner keyword }
+{
+    match clause {
+        Clause::Pre if keyword == Keyword::Rely => {
+            Some(Turn::On(Point::Claim(Clause::Rely, owner)))
+        }
+        Clause::Rely if keyword == Keyword::Guar => {
+            Some(Turn::On(Point::Claim(Clause::Guar, owner)))
+        }
+        Clause::Guar if keyword == Keyword::Post => {
+            Some(Turn::On(Point::Claim(Clause::Post, owner)))
+        }
+        Clause::Post => after_specification(owner, keyword),
+        _ => None,
+    }
+}
+
+/// Where a keyword leads after a specification.
+fn after_specification(owner: Owner, keyword: Keyword) -> Option<Turn>
+    ensures { result ≡ after_specification owner keyword }
+{
+    match owner {
+        Owner::Program if keyword == Keyword::Part => Some(Turn::On(Point::PartName(1))),
+        Owner::Part(part) if keyword == Keyword::Begin => {
+            Some(Turn::On(Point::Item(Block::Body(part))))
+        }
+        _ => None,
+    }
+}
+
+/// Where a keyword leads where a statement is wanted.
+fn at_statement(block: Block, keyword: Keyword) -> Option<Turn>
+    ensures { result ≡ at_statement block keyword }
+{
+    match keyword {
+        Keyword::Skip => Some(Turn::On(Point::AfterItem(block))),
+        Keyword::Await => Some(Turn::On(Point::AwaitGuard(block))),
+        Keyword::While => Some(Turn::Inside(Point::LoopGuard, Point::Item(block))),
+        _ => None,
     }
 }
 
@@ -467,7 +691,13 @@ pub fn is_opener(kind: Kind) -> bool
 {
     matches!(
         kind,
-        Kind::Fixed(Terminal::Open | Terminal::Not | Terminal::Inv | Terminal::If)
+        Kind::Fixed(
+            Terminal::Open
+                | Terminal::Not
+                | Terminal::Inv
+                | Terminal::If
+                | Terminal::Section(Keyword::While)
+        )
     )
 }
 
@@ -479,6 +709,20 @@ pub fn begins_word(kind: Kind) -> bool
         kind,
         Kind::Name | Kind::Fixed(Terminal::Section(Keyword::Fixed))
     )
+}
+
+/// Whether the token begins a part.
+pub fn begins_part(kind: Kind) -> bool
+    ensures { result ≡ begins_part kind }
+{
+    matches!(kind, Kind::Fixed(Terminal::Section(Keyword::Part)))
+}
+
+/// Whether another item of a block or of an `await` follows.
+pub fn is_semicolon(kind: Kind) -> bool
+    ensures { result ≡ is_semicolon kind }
+{
+    matches!(kind, Kind::Fixed(Terminal::Semicolon))
 }
 
 /// Whether the token goes on with a chain.

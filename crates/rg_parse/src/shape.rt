@@ -2,7 +2,7 @@
 
 ghost use Rattle.std.specs.Prelude.{◌≡◌, ℕ, List, [], ◌∷◌, map, reverse, cond, Some, None, IfOk, IfErr, OnOk};
 ghost use Rattle.rg_parse.specs.Grammar.{lexeme_of};
-ghost use Rattle.rg_parse.specs.Machine.{complete, after_turn, next, is_shallow, has_room, is_at_end};
+ghost use Rattle.rg_parse.specs.Machine.{complete, end_statement, after_turn, next, is_shallow, has_room, is_at_end};
 ghost use Rattle.rg_parse.specs.Limits.{IsTextWithin};
 ghost use Rattle.rg_parse.specs.Shape.{ShapeIs, OneFault, NoFaultWithin};
 ghost use Rattle.rg_parse.specs.declared.shape.ShapeFault.TheVariants.{Memory};
@@ -65,6 +65,16 @@ fn complete(points: &mut Vec<Point>, sort: Sort) -> Result<(), AllocError>
     Ok(())
 }
 
+/// Takes note of a whole statement at the innermost place.
+fn end_statement(points: &mut Vec<Point>) -> Result<(), AllocError>
+    ensures { OnOk result (reverse points.new.items ≡ end_statement (reverse points.old.items)) }
+{
+    if let Some(point) = points.pop() {
+        points.push(point.after_statement())?;
+    }
+    Ok(())
+}
+
 /// Goes where a token leads that begins no item, and says whether it leads anywhere.
 fn follow(points: &mut Vec<Point>, turn: Option<Turn>) -> Result<bool, AllocError>
     ensures { IfOk result (λ moved. after_turn (reverse points.old.items) turn
@@ -83,6 +93,10 @@ fn follow(points: &mut Vec<Point>, turn: Option<Turn>) -> Result<bool, AllocErro
         }
         Some(Turn::Closed(sort)) => {
             complete(points, sort)?;
+            Ok(true)
+        }
+        Some(Turn::Ended) => {
+            end_statement(points)?;
             Ok(true)
         }
     }

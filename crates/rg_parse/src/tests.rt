@@ -1,6 +1,8 @@
 //! Rows of shapes and trees, with the expected answers written by hand.
 
 use crate::parse::{parse_formula, parse_moves, parse_show, parse_start};
+use crate::point::TextKind;
+use crate::shape::{ShapeFault, shape};
 use crate::syntax::{Expr, Formula, MoveText, Setting, ShowText};
 use rg_text::Tokens;
 use rg_text::kind::{Conditional, Junction};
@@ -401,5 +403,110 @@ fn settings_are_kept_in_order(rt: HostRuntime) -> Result<(), Fail> {
     }
     assert_eq!(rt; numbers.as_slice(), [2, 4, 12].as_slice());
     assert_eq!(rt; lines.as_slice(), [(5, 7), (8, 10), (13, 15)].as_slice());
+    Ok(())
+}
+
+/// A program with one part, up to its first statement: 23 tokens.
+const HEAD: &[u8] =
+    b"words x:1 pre true rely true guar true post true part p pre true rely true guar true post true begin ";
+
+/// What is found in the shape of a program: the number of its refusal and the place of the token,
+/// from 0.
+fn program_fault(alloc: Global, text: &[u8]) -> Result<Option<(u32, usize)>, Refusal> {
+    let tokens = Tokens::read(alloc, text, SourceFile::Text)?;
+    match shape(alloc, TextKind::Program, tokens.as_slice()) {
+        Ok(()) => Ok(None),
+        Err(ShapeFault::Memory) => Err(Refusal::new(RefusalNumber::Memory)),
+        Err(ShapeFault::Unexpected(place)) => Ok(Some((2, place))),
+        Err(ShapeFault::TooDeep(place)) => Ok(Some((10, place))),
+        Err(ShapeFault::TooMany(place)) => Ok(Some((11, place))),
+        Err(ShapeFault::Unfinished) => Ok(Some((12, tokens.as_slice().len()))),
+    }
+}
+
+#[test]
+fn shapes_of_statements(rt: HostRuntime) -> Result<(), Fail> {
+    let rows: [(&[u8], Option<(u32, usize)>); 17] = [
+        (b"skip end", None),
+        (b"x := 1; skip end", None),
+        (b"await true do x := 1; x := inv x end end", None),
+        (b"if true then skip; skip else skip end end", None),
+        (
+            b"while (x = 1) do if true then skip else skip end end; skip end",
+            None,
+        ),
+        (b"skip", Some((12, 24))),
+        (b"end", Some((2, 23))),
+        (b"skip; end", Some((2, 25))),
+        (b"if true then skip end", Some((2, 27))),
+        (b"(", Some((2, 23))),
+        (b"x = 1", Some((2, 24))),
+        (b"await true do end", Some((2, 26))),
+        (b"while true skip", Some((2, 25))),
+        (b"skip end skip", Some((2, 25))),
+        (b"skip end part q", Some((12, 27))),
+        (b"skip end show", Some((2, 25))),
+        (b"await true do x := 1 else", Some((2, 29))),
+    ];
+    for (text, expected) in rows {
+        let whole = repeated(rt.alloc(), HEAD, text, 1, b"")?;
+        let found = program_fault(rt.alloc(), &whole)?;
+        assert_eq!(rt; found, expected);
+    }
+    Ok(())
+}
+
+#[test]
+fn shapes_of_programs(rt: HostRuntime) -> Result<(), Fail> {
+    let rows: [(&[u8], Option<(u32, usize)>); 8] = [
+        (b"", Some((12, 0))),
+        (b"words x:1 show true", Some((2, 4))),
+        (
+            b"words fixed x:1 pre true rely true guar true post true",
+            Some((12, 13)),
+        ),
+        (b"words x:1 pre true guar", Some((2, 6))),
+        (
+            b"words x:1 pre true rely true guar true post true begin",
+            Some((2, 12)),
+        ),
+        (
+            b"words x:1 pre true rely true guar true post true part part",
+            Some((2, 13)),
+        ),
+        (b"words x:1 pre (x' = x) rely", Some((12, 11))),
+        (b"words x:1 pre x", Some((2, 5))),
+    ];
+    for (text, expected) in rows {
+        let found = program_fault(rt.alloc(), text)?;
+        assert_eq!(rt; found, expected);
+    }
+    Ok(())
+}
+
+#[test]
+fn limits_of_programs(rt: HostRuntime) -> Result<(), Fail> {
+    let part: &[u8] = b" part p pre true rely true guar true post true begin skip end";
+    let rows: [(&[u8], &[u8], usize, &[u8], Option<(u32, usize)>); 7] = [
+        (b"await true do x:=1", b"; x:=1", 15, b" end end", None),
+        (
+            b"await true do x:=1",
+            b"; x:=1",
+            16,
+            b" end end",
+            Some((11, 89)),
+        ),
+        (b"skip end", part, 31, b"", None),
+        (b"skip end", part, 32, b"", Some((11, 428))),
+        (b"", b"while true do ", 201, b"", Some((10, 623))),
+        (b"", b"if true then ", 201, b"", Some((10, 623))),
+        (b"", b"while true do ", 200, b"skip", Some((12, 624))),
+    ];
+    for (front, middle, count, back, expected) in rows {
+        let text = repeated(rt.alloc(), front, middle, count, back)?;
+        let whole = repeated(rt.alloc(), HEAD, &text, 1, b"")?;
+        let found = program_fault(rt.alloc(), &whole)?;
+        assert_eq!(rt; found, expected);
+    }
     Ok(())
 }
