@@ -2,14 +2,30 @@
 #![tactic(auto)]
 
 use clap::error::ErrorKind;
+use rg_words::limits::{MOST_PROOF_BYTES, MOST_TEXT_BYTES};
 use rg_words::{Buffered, Device};
 use rgc::{Command, Files, Line, LineFault, perform};
+use std::alloc::AllocError;
+use std::fs::File;
+use std::io::Read;
 use std::process::ExitCode;
-use std::{env, fs, io};
+use std::{env, io};
+
+/// A file's bytes, but no more than one past its limit: that one shows that it has too many.
+fn read(rt: &HostRuntime, name: &str, most: usize) -> io::Result<Vec<u8>> {
+    let mut bytes = Vec::new(rt.alloc());
+    let mut file = File::open(rt, name)?.take((most as u64).saturating_add(1));
+    file.read_to_end(&mut bytes)?;
+    Ok(bytes)
+}
 
 /// A file's bytes, or none where it can't be read.
-fn bytes_of(rt: &HostRuntime, name: &str) -> Option<Vec<u8>> {
-    fs::read(rt, name).ok()
+fn bytes_of(rt: &HostRuntime, name: &str, most: usize) -> Result<Option<Vec<u8>>, AllocError> {
+    match read(rt, name, most) {
+        Ok(bytes) => Ok(Some(bytes)),
+        Err(error) if error.kind() == io::ErrorKind::OutOfMemory => Err(AllocError),
+        Err(_) => Ok(None),
+    }
 }
 
 /// Prints what is wrong with the words, or the help that they ask for; the status.
@@ -34,25 +50,28 @@ fn tell(rt: &HostRuntime, text: &str) -> u8 {
     3
 }
 
-/// Reads the files that the command names, does it, and writes what it printed.
-fn run(rt: &HostRuntime, line: &Line<'_>) -> u8 {
+/// Reads the files that the command names, does it, and writes what it printed; the status.
+fn run(rt: &HostRuntime, line: &Line<'_>) -> Result<u8, AllocError> {
     let (text, proofs) = match line.command {
-        Command::Valid { text, proofs } => (bytes_of(rt, text), bytes_of(rt, proofs)),
-        Command::Clauses { text } => (bytes_of(rt, text), None),
+        Command::Valid { text, proofs } => (text, Some(proofs)),
+        Command::Clauses { text } => (text, None),
+    };
+    let text = bytes_of(rt, text, MOST_TEXT_BYTES)?;
+    let proofs = match proofs {
+        Some(name) => bytes_of(rt, name, MOST_PROOF_BYTES)?,
+        None => None,
     };
     let files = Files {
         text: text.as_ref().map(|bytes| bytes.as_slice()),
         proofs: proofs.as_ref().map(|bytes| bytes.as_slice()),
     };
-    let Ok(mut out) = Buffered::new(rt.alloc(), Device::new(rt.stdout())) else {
-        return tell(rt, "refused 99");
-    };
+    let mut out = Buffered::new(rt.alloc(), Device::new(rt.stdout()))?;
     let mut faults = Device::new(rt.stderr());
     let status = perform(rt.alloc(), line, &files, &mut out, &mut faults);
     if status == 0 && out.flush().is_err() {
-        return tell(rt, "refused 63");
+        return Ok(tell(rt, "refused 63"));
     }
-    status
+    Ok(status)
 }
 
 /// The words of the command line, with the program's name as its users know it.
@@ -64,13 +83,25 @@ fn words_of(rt: &HostRuntime) -> io::Result<Vec<String>> {
     Ok(words)
 }
 
-fn main(rt: HostRuntime) -> ExitCode {
-    let Ok(words) = words_of(&rt) else {
-        let _ = eprintln!(rt; "error: the words can't be read");
-        return ExitCode::from(2);
+/// Reads the words, and does what they ask for; the status.
+fn work(rt: &HostRuntime) -> Result<u8, AllocError> {
+    let words = match words_of(rt) {
+        Ok(words) => words,
+        Err(error) if error.kind() == io::ErrorKind::OutOfMemory => return Err(AllocError),
+        Err(_) => {
+            let _ = eprintln!(rt; "error: the words can't be read");
+            return Ok(2);
+        }
     };
     match Line::read(rt.alloc(), words.as_slice()) {
-        Ok(line) => ExitCode::from(run(&rt, &line)),
-        Err(fault) => ExitCode::from(usage(&rt, &fault)),
+        Ok(line) => run(rt, &line),
+        Err(fault) => Ok(usage(rt, &fault)),
+    }
+}
+
+fn main(rt: HostRuntime) -> ExitCode {
+    match work(&rt) {
+        Ok(status) => ExitCode::from(status),
+        Err(AllocError) => ExitCode::from(tell(&rt, "refused 99")),
     }
 }
