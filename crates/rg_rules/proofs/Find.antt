@@ -1,5 +1,5 @@
 -- What stands at a number of a list.
-use Rattle.std.proofs.Common.{◌≡◌, ℕ, zero, suc, ◌+◌, ◌-◌, ◌<◌, ◌≤◌, List, ◌∷◌, length, map, drop, get_or, add-one, Some, ap, ◌∙◌, sym, arith}
+use Rattle.std.proofs.Common.{◌≡◌, ℕ, zero, suc, ◌+◌, ◌-◌, ◌<◌, ◌≤◌, List, ◌∷◌, length, map, drop, get_or, add-one, Some, ap, ◌∙◌, sym, arith, []}
 use Rattle.std.specs.Prelude.{slice_get}
 use Rattle.std.specs.Option.{option_map}
 use Rattle.std.proofs.lemmas.Option.{slice_get-map, slice_get-get_or}
@@ -22,3 +22,21 @@ pub nth-at : {X Y : Type 0} → (f : X → Y) (xs : List X) (i n : ℕ) (x : X) 
 nth-at f xs i n x next less at =
     let back : n - 1 ≡ i = omega arith in
     nth-map f xs n x (omega arith) (omega arith) ∙ ap (λ k. Some (f (get_or xs k x))) back ∙ ap (λ y. Some (f y)) (sym at)
+
+pub nth_least : {X : Type 0} (xs : List X) (n : ℕ) (x : X) → nth xs n ≡ Some x → 1 ≤ n
+nth_least xs zero x h = cc h
+nth_least xs (suc n) x h = omega arith
+
+get_less : {X : Type 0} (xs : List X) (i : ℕ) (x : X) → slice_get xs i ≡ Some x → suc i ≤ length xs
+get_less [] i x e = cc e
+get_less (y ∷ ys) zero x e = omega arith
+get_less (y ∷ ys) (suc i) x e = omega (arith, get_less ys i x e)
+
+pub nth_most : {X : Type 0} (xs : List X) (n : ℕ) (x : X) → nth xs n ≡ Some x → n ≤ length xs
+nth_most xs zero x h = omega arith
+nth_most xs (suc n) x h = get_less xs n x h
+
+pub nth-get : {X : Type 0} → (xs : List X) (n : ℕ) (d : X) → 0 < n → n ≤ length xs → nth xs n ≡ Some (get_or xs (n - 1) d)
+nth-get xs n d low high = nth_later xs n low ∙ slice_get-get_or xs (n - 1) d (omega arith)
+
+pub ruleset numbers = (nth_least, nth_most, nth-get)

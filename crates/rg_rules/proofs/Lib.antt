@@ -9,3 +9,4 @@ pub mod Typed
 pub mod Sound
 pub mod Counts
 pub mod Merely
+pub mod Sizes

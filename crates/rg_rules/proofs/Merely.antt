@@ -1,11 +1,11 @@
 -- That a statement satisfies its specification follows from that there is a proof of it.
-use Rattle.std.proofs.Common.{◌≡◌, ℕ, Bool, true, false, List, [], ◌∷◌, Some, ◌⊎◌, inl, inr, refl, ⊎_elim, ◌∙◌, sym}
+use Rattle.std.proofs.Common.{◌≡◌, Bool, true, false, List, [], ◌∷◌, inl, inr, refl, ⊎_elim}
 use Rattle.std.proofs.Math.Logic.{∥∥₁_elim, ∥∥₁_map}
 use Rattle.std.specs.Coded.{Coded-set, coded_ℕ, coded_bool, coded_list}
 use Rattle.rg_words.specs.Layout.{Word}
 use Rattle.rg_tree.specs.Statements.{Statement, Specification}
 use Rattle.rg_tree.specs.Meaning.{holds}
-use Rattle.rg_tree.specs.Traces.{State, Move, Own, Env, holds_at, last, Inside, OwnInside}
+use Rattle.rg_tree.specs.Traces.{State, Move, Own, Env, Inside, OwnInside}
 use Rattle.rg_tree.specs.Satisfaction.{StatementSatisfies}
 
 same_state : {s t : State} → IsProp (s ≡ t)

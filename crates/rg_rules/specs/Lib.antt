@@ -3,4 +3,5 @@ pub mod Faults
 pub mod Names
 pub mod OneProof
 pub mod Promises
+pub mod Sizes
 pub mod View

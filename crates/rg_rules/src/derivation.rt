@@ -4,7 +4,7 @@ ghost use Rattle.std.specs.Prelude.{◌≡◌, ◌⊎◌, map, IfOk, IfErr};
 ghost use Rattle.rg_words.specs.Refusals.{no_memory};
 
 use crate::fits::{are_parts_derived, first_bad_line};
-use crate::table::statements_by_number;
+use crate::table::{sizes_of, statements_by_number};
 use rg_tree::part::Spec;
 use rg_tree::program::Program;
 use rg_words::{Place, Refusal, RefusalNumber, SourceFile};
@@ -75,7 +75,8 @@ impl Derivation {
     {
         let parts = program.parts.as_slice();
         let list = statements_by_number(alloc, parts)?;
-        if let Some(refusal) = first_bad_line(list.as_slice(), lines.as_slice()) {
+        let sizes = sizes_of(alloc, list.as_slice())?;
+        if let Some(refusal) = first_bad_line(list.as_slice(), sizes.as_slice(), lines.as_slice()) {
             return Err(refusal);
         }
         if !are_parts_derived(lines.as_slice(), parts) {

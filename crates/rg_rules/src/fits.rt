@@ -11,6 +11,7 @@ ghost use Rattle.rg_tree.specs.Numbering.{statements, statements_of_items, state
 ghost use Rattle.rg_tree.specs.ProgramView.{specification, statement, items, part};
 ghost use Rattle.rg_rules.specs.View.{line_tree, referred};
 ghost use Rattle.rg_rules.specs.Faults.{count_items, premise_count, item_numbers, premise_numbers, AreEarlier, lines_at, AreChained, AreChoices, AreTurn, TreesFit, IsLineAnswer, IsDerived, PartsDerived, AreFaultlessBefore, IsFirstBadLine};
+ghost use Rattle.rg_rules.specs.Sizes.{AreSized, IsSizedInside};
 
 use crate::derivation::{Line, Rule};
 use crate::table::{size, statement_at};
@@ -74,11 +75,22 @@ fn are_earlier(premises: &[u64], k: u64) -> bool
     true
 }
 
+/// The size of the statement of a number.
+#[tactic(auto, using(crate::proofs::Find::numbers))]
+fn size_at(sizes: &[u64], number: u64) -> u64
+    requires least { 1 ≤ number }
+    requires most { number ≤ length sizes.now }
+    ensures { nth sizes.now number ≡ Some result }
+{
+    sizes[(number - 1) as usize]
+}
+
 /// Whether the premises are lines of the items, the first of which is statement `number`.
-fn are_of_items(lines: &[Line], number: u64, rest: &Items, premises: &[u64]) -> bool
+#[tactic(auto, using(crate::proofs::Find::numbers))]
+fn are_of_items(lines: &[Line], sizes: &[u64], number: u64, rest: &Items, premises: &[u64]) -> bool
     requires earlier { AreEarlier (length lines.now + 1) premises.now }
+    requires sizes { AreSized sizes.now number (items rest.now) }
     requires room { number + length (statements_of_items (items rest.now)) < 2 ^ 64 }
-    requires most { length (statements_of_items (items rest.now)) ≤ MOST_STATEMENTS }
     ensures { IsTrue result ↔ (map (λ l. l.number) (lines_at (map line_tree lines.now) premises.now) ≡ item_numbers number (items rest.now)) }
 {
     let Some((first, others)) = premises.split_first() else {
@@ -87,8 +99,9 @@ fn are_of_items(lines: &[Line], number: u64, rest: &Items, premises: &[u64]) -> 
     let line = line_at(lines, *first);
     match rest {
         Items::One(_) => line.number == number && others.is_empty(),
-        Items::More(s, rest) => {
-            line.number == number && are_of_items(lines, number + size(s), rest, others)
+        Items::More(_, rest) => {
+            let next = number + size_at(sizes, number);
+            line.number == number && are_of_items(lines, sizes, next, rest, others)
         }
     }
 }
@@ -109,23 +122,34 @@ fn are_of(lines: &[Line], premises: &[u64], numbers: &[u64]) -> bool
 }
 
 /// Whether the premises are lines of the items of a sequence, the first of which is statement `number`.
-fn are_of_sequence(lines: &[Line], number: u64, s: &Stmt, rest: &Items, premises: &[u64]) -> bool
+#[tactic(auto, using(crate::proofs::Find::numbers))]
+fn are_of_sequence(
+    lines: &[Line],
+    sizes: &[u64],
+    number: u64,
+    s: &Stmt,
+    rest: &Items,
+    premises: &[u64],
+) -> bool
     requires earlier { AreEarlier (length lines.now + 1) premises.now }
+    requires sizes { AreSized sizes.now number (more (statement s.now) (items rest.now)) }
     requires room { number + (length (statements (statement s.now)) + length (statements_of_items (items rest.now))) < 2 ^ 64 }
-    requires most { length (statements (statement s.now)) + length (statements_of_items (items rest.now)) ≤ MOST_STATEMENTS }
     ensures { IsTrue result ↔ (map (λ l. l.number) (lines_at (map line_tree lines.now) premises.now) ≡ item_numbers number (more (statement s.now) (items rest.now))) }
 {
     let Some((first, others)) = premises.split_first() else {
         return false;
     };
     let line = line_at(lines, *first);
-    line.number == number && are_of_items(lines, number + size(s), rest, others)
+    let next = number + size_at(sizes, number);
+    line.number == number && are_of_items(lines, sizes, next, rest, others)
 }
 
 /// Whether the premises are lines of the statements that the rule asks.
-fn are_asked(lines: &[Line], line: &Line, s: &Stmt) -> bool
+#[tactic(auto, using(crate::proofs::Find::numbers))]
+fn are_asked(lines: &[Line], sizes: &[u64], line: &Line, s: &Stmt) -> bool
     requires earlier { AreEarlier (length lines.now + 1) line.now.premises.items }
     requires number { line.now.number ≤ MOST_STATEMENTS }
+    requires sizes { IsSizedInside sizes.now line.now.number (statement s.now) }
     requires most { length (statements (statement s.now)) ≤ MOST_STATEMENTS }
     ensures { IsTrue result ↔ (map (λ l. l.number) (lines_at (map line_tree lines.now) line.now.premises.items) ≡ premise_numbers line.now.number line.now.rule (statement s.now)) }
 {
@@ -133,10 +157,10 @@ fn are_asked(lines: &[Line], line: &Line, s: &Stmt) -> bool
     let inner = line.number + 1;
     match (line.rule, s) {
         (Rule::Seq, Stmt::Seq(_, first, rest)) => {
-            are_of_sequence(lines, inner, first, rest, premises)
+            are_of_sequence(lines, sizes, inner, first, rest, premises)
         }
-        (Rule::If, Stmt::If(_, _, first, _)) => {
-            are_of(lines, premises, &[inner, inner + size(first)])
+        (Rule::If, Stmt::If(_, _, _, _)) => {
+            are_of(lines, premises, &[inner, inner + size_at(sizes, inner)])
         }
         (Rule::Loop, Stmt::While(_, _, _)) => are_of(lines, premises, &[inner]),
         (Rule::Conseq, _) => are_of(lines, premises, &[line.number]),
@@ -258,10 +282,17 @@ fn trees_fit(lines: &[Line], line: &Line, s: &Stmt) -> bool
 
 /// The first demand on a line that it doesn't meet.
 #[tactic(auto, using(crate::proofs::Fitting::earlier_more))]
-fn line_fault(list: &[&Stmt], lines: &[Line], place: u64, line: &Line) -> Option<RefusalNumber>
+fn line_fault(
+    list: &[&Stmt],
+    sizes: &[u64],
+    lines: &[Line],
+    place: u64,
+    line: &Line,
+) -> Option<RefusalNumber>
     requires place { place ≤ length lines.now }
     requires most { length list.now ≤ MOST_STATEMENTS }
-    requires sizes { (n : ℕ) (s : Statement) → nth (map referred list.now) n ≡ Some s → length (statements s) ≤ MOST_STATEMENTS }
+    requires within { (n : ℕ) (s : Statement) → nth (map referred list.now) n ≡ Some s → length (statements s) ≤ MOST_STATEMENTS }
+    requires sizes { (n : ℕ) (s : Statement) → nth (map referred list.now) n ≡ Some s → IsSizedInside sizes.now n s }
     ensures { IsLineAnswer (map referred list.now) (map line_tree lines.now) place (line_tree line.now) result }
 {
     if line.own_number != place {
@@ -277,7 +308,7 @@ fn line_fault(list: &[&Stmt], lines: &[Line], place: u64, line: &Line) -> Option
     if !are_earlier(premises, place) {
         return Some(RefusalNumber::NotEarlier);
     }
-    if !are_asked(lines, line, s) {
+    if !are_asked(lines, sizes, line, s) {
         return Some(RefusalNumber::WrongStatement);
     }
     if !trees_fit(lines, line, s) {
@@ -321,14 +352,15 @@ pub(crate) fn are_parts_derived(lines: &[Line], parts: &[Part]) -> bool
 }
 
 /// The first line that doesn't meet its demands, as a refusal.
-pub(crate) fn first_bad_line(list: &[&Stmt], lines: &[Line]) -> Option<Refusal>
+pub(crate) fn first_bad_line(list: &[&Stmt], sizes: &[u64], lines: &[Line]) -> Option<Refusal>
     requires most { length list.now ≤ MOST_STATEMENTS }
-    requires sizes { (n : ℕ) (s : Statement) → nth (map referred list.now) n ≡ Some s → length (statements s) ≤ MOST_STATEMENTS }
+    requires within { (n : ℕ) (s : Statement) → nth (map referred list.now) n ≡ Some s → length (statements s) ≤ MOST_STATEMENTS }
+    requires sizes { (n : ℕ) (s : Statement) → nth (map referred list.now) n ≡ Some s → IsSizedInside sizes.now n s }
     ensures some { IfSome result (IsFirstBadLine (map referred list.now) (map line_tree lines.now)) }
     ensures none { IsNone result → AreFaultlessBefore (map referred list.now) (map line_tree lines.now) (suc (length lines.now)) }
 {
     for (i, line) in lines.iter().enumerate() {
-        if let Some(number) = line_fault(list, lines, (i + 1) as u64, line) {
+        if let Some(number) = line_fault(list, sizes, lines, (i + 1) as u64, line) {
             let place = Place::Line(u64::from(line.source_line));
             return Some(Refusal::at(number, SourceFile::Derivation, place));
         }

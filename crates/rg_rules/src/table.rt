@@ -1,6 +1,6 @@
 //! The statements of a program by their numbers.
 
-ghost use Rattle.std.specs.Prelude.{◌≡◌, ◌++◌, ◌≤◌, [], ◌∷◌, length, map, OnOk, IfOk, IfSome};
+ghost use Rattle.std.specs.Prelude.{All, ◌≡◌, ◌++◌, ◌≤◌, [], ◌∷◌, length, map, OnOk, IfOk, IfSome};
 ghost use Rattle.std.specs.Option.{option_map};
 ghost use Rattle.rg_words.specs.declared.limits.TheConstants.{MOST_STATEMENTS};
 ghost use Rattle.rg_tree.specs.Programs.{nth};
@@ -64,6 +64,18 @@ fn push_items<'a>(list: &mut Vec<&'a Stmt>, rest: &'a Items) -> Result<(), Alloc
         }
     }
     Ok(())
+}
+
+/// How many statements there are in each of these, itself among them.
+pub(crate) fn sizes_of(alloc: Global, list: &[&Stmt]) -> Result<Vec<u64>, AllocError>
+    requires { All (λ s. length (statements (referred s)) ≤ MOST_STATEMENTS) list.now }
+    ensures { IfOk result (λ sizes. sizes.items ≡ map (λ s. length (statements s)) (map referred list.now)) }
+{
+    let mut sizes = Vec::new(alloc);
+    for s in list {
+        sizes.push(size(s))?;
+    }
+    Ok(sizes)
 }
 
 /// The statement of a number, from 1.
