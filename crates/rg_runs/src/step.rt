@@ -81,12 +81,12 @@ fn put_items<'a>(todo: &mut VecDeque<&'a Stmt>, rest: &'a Items) -> Result<(), A
     ensures { OnOk result (todo_of todo.new.items ≡ list_of (items rest.now) ++ todo_of todo.old.items) }
 {
     match rest {
-        Items::One(s) => {
-            todo.push_front(s)?;
+        Items::One(item) => {
+            todo.push_front(item)?;
         }
-        Items::More(s, rest) => {
+        Items::More(item, rest) => {
             put_items(todo, rest)?;
-            todo.push_front(s)?;
+            todo.push_front(item)?;
         }
     }
     Ok(())
