@@ -1,6 +1,5 @@
 -- A text has one list of clauses, and a proof over it is one section.
-use Rattle.std.proofs.Common.{◌≡◌, ◌∙◌, ℕ, List, length, sym, ap, subst, ◌⊎◌, ⊎_elim, Ok, Err}
-use Rattle.std.specs.Prelude.{Result}
+use Rattle.std.proofs.Common.{◌≡◌, ◌∙◌, ℕ, List, length, sym, ap, subst, ⊎_elim, Ok, Err}
 use Rattle.rg_words.specs.Layout.{Word}
 use Rattle.rg_words.specs.Refusals.{no_memory}
 use Rattle.rg_words.specs.declared.refusal.Refusal.{Refusal}

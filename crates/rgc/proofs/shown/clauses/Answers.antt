@@ -1,7 +1,5 @@
-use Rattle.std.proofs.Common.{◌≡◌, ◌<◌, ◌∙◌, ℕ, List, inl, inr, sym, ap, subst, ⊎_elim, arith, Err}
-use Rattle.rg_words.specs.Layout.{Word}
-use Rattle.rg_tree.specs.Trees.{Proposition}
-use Rattle.rg_tree.specs.Conditions.{shown, ConditionHolds, Claim}
+use Rattle.std.proofs.Common.{◌<◌, inl, inr, ap, subst, ⊎_elim, arith, Err}
+use Rattle.rg_tree.specs.Conditions.{ConditionHolds, Claim}
 use Rattle.rg_clauses.specs.Conditions.{clauses_of_claim}
 use Rattle.rg_words.specs.declared.limits.TheConstants.{MOST_VARIABLES}
 use Rattle.rgc.proofs.OneList.{shown_moves}
