@@ -1,5 +1,5 @@
 -- The builder makes of each way to write a formula what it says.
-use Rattle.std.proofs.Common.{◌≡◌, Bool, true, false, cond, List, [], ◌∷◌, ◌++◌, Option, Some, refl, sym, ap, ◌∙◌}
+use Rattle.std.proofs.Common.{◌≡◌, Bool, true, false, cond, List, [], ◌∷◌, ◌++◌, Some, refl, sym, ap, ◌∙◌}
 use Rattle.rg_text.specs.Text.{Leaf}
 use Rattle.rg_text.specs.declared.kind.Terminal.TheVariants.{Colon, Show, Section, Close, Compare, Operate, Join, Imply, Then, Else}
 use Rattle.rg_text.specs.declared.kind.Junction.{Junction}

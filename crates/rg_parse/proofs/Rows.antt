@@ -5,7 +5,7 @@ use Rattle.rg_text.specs.Text.{leaf_of}
 use Rattle.rg_text.specs.declared.token.Token.{Token}
 use Rattle.rg_parse.specs.declared.syntax.Formula.{Formula}
 use Rattle.rg_parse.specs.declared.syntax.Statement.{Statement, If, If', While, While', Row_of-Statement, end_of-Statement, more_of-Statement, items-the_row-Statement, items_hidden-the_row-Statement-0}
-use Rattle.rg_parse.specs.Syntax.{StatementTree, branch, loop, also, listed, claim, statement, statements}
+use Rattle.rg_parse.specs.Syntax.{branch, loop, also, listed, claim, statement, statements}
 
 statements-row : (src : List ℕ) (n : _) (row : Row_of-Statement n) → statements src row ≡ listed (map (statement src) (items-the_row-Statement n row))
 statements-row src n end_of-Statement = refl

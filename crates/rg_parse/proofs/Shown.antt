@@ -1,5 +1,5 @@
 -- From the tokens of a text to its meaning.
-use Rattle.std.proofs.Common.{◌≡◌, ◌≤◌, ◌+◌, length-append, ℕ, List, [], ◌∷◌, ◌++◌, map, length, ◌⊎◌, inl, inr, refl, sym, subst, ap, ◌∙◌, ⊎_elim, arith}
+use Rattle.std.proofs.Common.{◌≡◌, ◌≤◌, ◌+◌, length-append, ℕ, List, [], ◌∷◌, map, length, ◌⊎◌, inl, inr, refl, sym, subst, ap, ◌∙◌, ⊎_elim, arith}
 use Rattle.std.specs.List.{All}
 use Rattle.std.proofs.lemmas.List.{length-map}
 use Rattle.std.proofs.lemmas.List.Elements.{All-head, All-tail, All-cons, All-append}
@@ -18,13 +18,13 @@ use Rattle.rg_text.specs.Text.{Leaf, leaf_of, text_of}
 use Rattle.rg_text.specs.Tokenization.{IsTokenOf, IsTokenized}
 use Rattle.rg_tree.specs.Trees.{Proposition}
 use Rattle.rg_parse.specs.declared.syntax.Declaration.{Declaration}
-use Rattle.rg_parse.specs.Grammar.{Lexeme, fixed, name, primed, number, lexeme_as, lexeme_of, WordsText, one, more, ShowSpelling, FormulaText, marked, declaration, words, show, formula}
+use Rattle.rg_parse.specs.Grammar.{Lexeme, fixed, name, number, lexeme_as, lexeme_of, WordsText, one, more, ShowSpelling, FormulaText, marked, declaration, words, show, formula}
 use Rattle.rg_parse.specs.Syntax.{Claim, DeclaredWord, ShownClaim, declared_word}
 use Rattle.rg_parse.specs.Frames.{whole, declaring, finished, finished_show}
 use Rattle.rg_parse.specs.Build.{steps, claim_of, declared_words, shown_claim}
 use Rattle.rg_parse.proofs.Builds.{builds_formula, builds_show}
 use Rattle.rg_parse.specs.Parse.{OneFormula, OneShow}
-use Rattle.rg_parse.specs.ResolveFaults.{Fault, claim_faults, IsFirst, IsRefusal}
+use Rattle.rg_parse.specs.ResolveFaults.{claim_faults, IsFirst, IsRefusal}
 use Rattle.rg_parse.specs.ResolveTyping.{ClaimStandsFor}
 use Rattle.rg_parse.proofs.ResolveStands.{one_tree}
 use Rattle.rg_parse.specs.ResolveWords.{words_of, shown_faults}

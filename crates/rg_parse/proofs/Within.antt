@@ -12,7 +12,7 @@ use Rattle.rg_parse.specs.declared.point.TextKind.TheVariants as texts
 use Rattle.rg_parse.specs.declared.point.Sort.TheVariants.{Formula, Expression}
 use Rattle.rg_parse.specs.declared.point.Sorts.{Sorts}
 use Rattle.rg_parse.specs.declared.point.Point.{Point}
-use Rattle.rg_parse.specs.declared.point.Point.TheVariants.{Negated, Inverted, First, Next, Second, Right, Chosen, Condition, Consequent, Alternative, AfterExpression, AfterNext, Count, Whole, End, WordsStart, FirstWord, AfterWord, Settings, BeforeMoves, Claim, AfterClaim, AfterPart, Item, AfterItem, Value, AwaitGuard, AwaitTarget, AwaitValue, AfterAssignment, BranchGuard, LoopGuard}
+use Rattle.rg_parse.specs.declared.point.Point.TheVariants.{Negated, Inverted, First, Next, Second, Right, Chosen, Condition, Consequent, Alternative, AfterExpression, AfterNext, Count, Whole, WordsStart, FirstWord, AfterWord, Settings, BeforeMoves, Claim, AfterClaim, AfterPart, Item, AfterItem, Value, AwaitGuard, AwaitTarget, AwaitValue, AfterAssignment, BranchGuard, LoopGuard}
 use Rattle.rg_parse.specs.declared.point.Owner.{Owner}
 use Rattle.rg_parse.specs.declared.point.Owner.TheVariants as owners
 use Rattle.rg_parse.specs.declared.point.Clause.TheVariants as clauses

@@ -21,7 +21,7 @@ use Rattle.rg_parse.specs.declared.point.Clause.{Clause}
 use Rattle.rg_parse.specs.declared.point.Clause.TheVariants as clauses
 use Rattle.rg_parse.specs.declared.point.Block.{Block}
 use Rattle.rg_parse.specs.declared.point.Block.TheVariants as blocks
-use Rattle.rg_parse.specs.Grammar.{Lexeme, fixed, name, number, FormulaText, ChainText, ExpressionText, WordsText, negation, pair, longer, inverse, one, more, formula, chain, expression, marked, words, SettingsText, MovesText, settings, moves, opening, an_if, a_skip, an_await, a_while, AssignmentText, AssignmentsText, one_assignment, and_assignment, StatementText, BlockText, assigning, one_statement, and_statement, SpecSpelling, PartsText, assignments, statement, block, specification, parts}
+use Rattle.rg_parse.specs.Grammar.{Lexeme, fixed, name, number, FormulaText, ChainText, ExpressionText, WordsText, negation, pair, longer, inverse, one, more, formula, chain, expression, marked, words, SettingsText, MovesText, settings, moves, opening, an_if, an_await, a_while, AssignmentsText, one_assignment, and_assignment, BlockText, assigning, one_statement, and_statement, SpecSpelling, PartsText, assignments, block, specification, parts}
 use Rattle.rg_words.specs.declared.operators.Comparison.TheVariants as comparisons
 use Rattle.rg_parse.specs.Machine.{only_formula, only_expression, takes, complete, one_more}
 use Rattle.rg_parse.proofs.Spellings.{count_of, count_of_words, count_of_assignments, count_of_parts}
@@ -193,14 +193,6 @@ before_item (Some b) r = block b (fixed Semicolon ∷ r)
 abbrev pub before_assignment : Option AssignmentsText → List Lexeme → List Lexeme
 before_assignment None r = r
 before_assignment (Some as_) r = assignments as_ (fixed Semicolon ∷ r)
-
-abbrev pub with_item : Option BlockText → StatementText → BlockText
-with_item None s = one_statement s
-with_item (Some b) s = and_statement b s
-
-abbrev pub with_assignment : Option AssignmentsText → AssignmentText → AssignmentsText
-with_assignment None a = one_assignment a
-with_assignment (Some as_) a = and_assignment as_ a
 
 abbrev pub before_whose : Whose → List Lexeme → List Lexeme
 before_whose (own ws) r = words ws r

@@ -10,7 +10,6 @@ use Rattle.rg_tree.specs.Trees.{Proposition}
 use Rattle.rg_parse.specs.declared.point.TextKind.TheVariants as texts
 use Rattle.rg_parse.specs.Grammar.{FormulaText, ShowSpelling, formula, show, lexeme_of}
 use Rattle.rg_parse.specs.Limits.{IsShallow, IsShort}
-use Rattle.rg_parse.specs.Syntax.{ShownClaim}
 use Rattle.rg_parse.specs.Build.{claim_of, shown_claim}
 use Rattle.rg_parse.specs.Parse.{IsShapeRefusal}
 use Rattle.rg_parse.specs.ResolveFaults.{Fault, claim_faults, IsFirst}

@@ -24,7 +24,8 @@ pub enum ShapeFault {
     /// an opener inside too many others, or the connective before one operand too many.
     TooDeep(usize),
     /// The first token such that the tokens up to it begin no text within the limits of lists:
-    /// the first token of one word too many.
+    /// the first token of one word or of one part too many, or the `;` of an `await` before one
+    /// assignment too many.
     TooMany(usize),
     /// The tokens begin a text and aren't a whole one.
     Unfinished,

@@ -1,4 +1,4 @@
-use Rattle.std.proofs.Common.{◌≡◌, ◌∙◌, List, map, inl, inr, refl, sym, ap, subst}
+use Rattle.std.proofs.Common.{◌∙◌, List, map, inl, inr, sym, ap, subst}
 use Rattle.rg_text.specs.Tokenization.{IsTokenized}
 use Rattle.rg_words.specs.declared.refusal.SourceFile.TheVariants.{Text}
 use Rattle.rg_text.specs.declared.token.Token.{Token}

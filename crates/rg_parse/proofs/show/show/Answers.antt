@@ -1,11 +1,11 @@
-use Rattle.std.proofs.Common.{◌≡◌, ◌∙◌, List, map, inl, inr, refl, sym, ap, subst}
+use Rattle.std.proofs.Common.{◌∙◌, List, map, inl, inr, sym, ap, subst}
 use Rattle.std.specs.List.{All}
 use Rattle.rg_text.specs.Tokenization.{IsTokenized, IsTokenOf}
 use Rattle.rg_parse.specs.declared.syntax.Declaration.{Declaration}
 use Rattle.rg_words.specs.declared.refusal.SourceFile.TheVariants.{Text}
 use Rattle.rg_text.specs.declared.token.Token.{Token}
 use Rattle.rg_parse.specs.Grammar.{lexeme_of}
-use Rattle.rg_parse.specs.Syntax.{declared_word, claim}
+use Rattle.rg_parse.specs.Syntax.{declared_word}
 use Rattle.rg_parse.proofs.Shown.{declarations_named, declarations_count, show_spells, show_refused, show_accepted}
 use Rattle.rg_parse.proofs.show.show.Goals as goal
 
