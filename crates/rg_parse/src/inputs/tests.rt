@@ -1,6 +1,7 @@
 //! Rows of starts and moves, with the expected answers written by hand.
 
 use crate::inputs::{moves, start};
+use crate::show::show;
 use rg_tree::moves::WordValue;
 use rg_words::{Layout, Place, Refusal, RefusalNumber, SourceFile};
 use std::alloc::Global;
@@ -9,9 +10,7 @@ use std::test::Fail;
 
 /// Two words: x of 1 bit and y of 8.
 fn words(alloc: Global) -> Result<Layout, Refusal> {
-    let mut layout = Layout::new(alloc);
-    layout.add("x", 1)?;
-    layout.add("y", 8)?;
+    let (layout, _formula) = show(alloc, b"words x:1 y:8 show true")?;
     Ok(layout)
 }
 
