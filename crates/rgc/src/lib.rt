@@ -12,7 +12,7 @@ pub use command::Command;
 pub use commands::{Files, perform};
 pub use fields::FieldFault;
 pub use line::{Line, LineFault};
-pub use shown::{clauses, valid};
+pub use shown::{clauses, find, valid};
 
 #[cfg(test)]
 mod tests;

@@ -38,7 +38,7 @@ fn tell(rt: &HostRuntime, text: &str) -> u8 {
 fn run(rt: &HostRuntime, line: &Line<'_>) -> u8 {
     let (text, proofs) = match line.command {
         Command::Valid { text, proofs } => (bytes_of(rt, text), bytes_of(rt, proofs)),
-        Command::Clauses { text } => (bytes_of(rt, text), None),
+        Command::Clauses { text } | Command::Find { text, .. } => (bytes_of(rt, text), None),
     };
     let files = Files {
         text: text.as_ref().map(|bytes| bytes.as_slice()),
