@@ -1,4 +1,4 @@
-use Rattle.std.proofs.Common.{◌≡◌, ◌∙◌, ap, ap₂, sym, refl, List, Option, Some, None, option_map, true, subst, []}
+use Rattle.std.proofs.Common.{◌≡◌, ℕ, ◌∙◌, ap, ap₂, sym, refl, List, Option, Some, None, option_map, true, subst, []}
 use Rattle.std.specs.Prelude.{Box}
 use Rattle.std.specs.Box.{box_value}
 use Rattle.clap.specs.Words.{App, AddsSubcommand, Shape, Text, Row, app_of, with_subcommand, subcommand_rows, subcommand_rows_of, subcommand_of, fault_of, HasKind, HasMatchesOf, is_simple, is_simple_and_free}
@@ -16,6 +16,11 @@ use Rattle.rgc.specs.declared.command.Command.{Command as RgCommand}
 pub subcommand_added : (old sub new : Command) (a : App) (s : Shape) → app_of old ≡ a → IsLeaf s sub → AddsSubcommand old sub new → app_of new ≡ with_subcommand a s
 subcommand_added old sub new a s is leaf adds =
     adds.shape leaf.1 ∙ ap₂ with_subcommand is (ap (λ (x : App). x.top) leaf.0)
+
+-- a number that is read has a text
+pub number_read : (o : Option Text) (n : ℕ) (P : Text → Type 0) → (o ≡ None → Some n ≡ None) → ((t : Text) → o ≡ Some t → P t) → (t : Text) × (o ≡ Some t) × P t
+number_read None n P none value = let e : Some n ≡ None = none refl in cc
+number_read (Some t) n P none value = (t, refl, value t refl)
 
 -- a subcommand's name and rows, from two readings of it
 pub rows_read : {Z : Type 0} (o : Option (Box SubCommand Z)) (name : Text) (rows : List Row) → Some name ≡ option_map (λ b. (out-SubCommand (box_value b)).name.now) o

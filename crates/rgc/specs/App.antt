@@ -1,19 +1,32 @@
 -- The commands as `clap`'s words have them.
-use Rattle.std.specs.Prelude.{◌≡◌, List, [], ◌∷◌, ◌++◌, true, false, codes}
+use Rattle.std.specs.Prelude.{◌≡◌, List, [], ◌∷◌, ◌++◌, Some, true, false, codes}
 use Rattle.clap.specs.Words.{App, Rule, Shape, Text, new_rule, app_of}
 use Rattle.clap.specs.declared.builder.command.Command.TheViews.{out-Command}
 use Rattle.clap.specs.Simple.{new_shape}
 use Rattle.clap.specs.declared.builder.command.Command.{Command}
+use Rattle.clap.specs.declared.builder.value_parser.ValueParser.TheVariants as parser
 
 -- a file that has to be named
 abbrev pub file_rule : Text → Rule
 file_rule id = record (new_rule id) { required = true }
+
+-- an option with a number, which is 1000000 where it isn't given
+abbrev pub default_rule : Text → Rule
+default_rule id = record (new_rule id) {
+  long = Some id;
+  value_names = 1;
+  parser = Some (parser.Unsigned 0 18446744073709551615);
+  defaults = codes "1000000" ∷ [];
+}
 
 abbrev pub text_files : List Rule
 text_files = file_rule (codes "TEXT") ∷ []
 
 abbrev pub valid_files : List Rule
 valid_files = text_files ++ file_rule (codes "PROOFS") ∷ []
+
+abbrev pub find_rules : List Rule
+find_rules = text_files ++ default_rule (codes "steps") ∷ []
 
 -- a command with these arguments and no subcommands
 abbrev pub leaf : Text → List Rule → Shape
@@ -34,5 +47,5 @@ rgc_top = record {
 unfoldable pub rgc_app : App
 rgc_app = record {
   top = record rgc_top.top { is_leaf = false };
-  subs = leaf (codes "valid") valid_files ∷ leaf (codes "clauses") text_files ∷ [];
+  subs = leaf (codes "valid") valid_files ∷ leaf (codes "clauses") text_files ∷ leaf (codes "find") find_rules ∷ [];
 }

@@ -1,14 +1,14 @@
 -- When a text and its hint lines prove a formula, and why they are refused.
 use Rattle.std.specs.Prelude.{◌≡◌, ◌⊎◌, ℕ, ◌<◌, ◌≤◌, List, length, Ok, Err}
-use Rattle.rg_words.specs.declared.limits.TheConstants.{MOST_VARIABLES, MOST_PROOF_BYTES}
+use Rattle.rg_words.specs.declared.limits.TheConstants.{MOST_VARIABLES, MOST_DECISIONS, MOST_PROOF_BYTES}
 use Rattle.rg_words.specs.declared.refusal.Refusal.{Refusal}
 use Rattle.rg_words.specs.declared.refusal.RefusalNumber.TheVariants.{Limit}
 use Rattle.rg_words.specs.declared.refusal.SourceFile.TheVariants.{Text, Proofs}
 use Rattle.rg_words.specs.declared.refusal.Place.TheVariants.{Condition}
-use Rattle.rg_words.specs.Refusals.{refused_in, refused_at}
+use Rattle.rg_words.specs.Refusals.{refused, refused_in, refused_at}
 use Rattle.rg_words.specs.Layout.{Word}
 use Rattle.rg_tree.specs.Trees.{Proposition}
-use Rattle.rg_tree.specs.Conditions.{shown, ConditionHolds}
+use Rattle.rg_tree.specs.Conditions.{Claim, shown, ConditionHolds}
 use Rattle.rg_parse.specs.Shown.{SpellsShow, IsShowRefusal}
 use Rattle.rg_clauses.specs.Formula.{Formula}
 use Rattle.rg_clauses.specs.Conditions.{clauses_of_claim}
@@ -37,6 +37,17 @@ abbrev pub IsClausesRefusal : List ℕ → Refusal → Type 0
 IsClausesRefusal text e =
     IsShowRefusal Text text e
     ⊎ ((words : List Word) × (f : Proposition) × SpellsShow text words f × (MOST_VARIABLES < (clauses_shown words f).variables) × (e ≡ refused_in Limit Text (Condition 1)))
+
+-- the text spells a formula to show, and this is its condition
+pub record IsShown (text : List ℕ) (c : Claim) : Type 0 where
+  pub words : List Word
+  pub formula : Proposition
+  pub spells : SpellsShow text words formula
+  pub is : c ≡ shown words formula
+
+-- the text spells no formula to show, or one with too many variables, or too many decisions are asked for
+abbrev pub IsFindRefusal : List ℕ → ℕ → Refusal → Type 0
+IsFindRefusal text steps e = IsClausesRefusal text e ⊎ ((MOST_DECISIONS < steps) × (e ≡ refused Limit))
 
 -- the text spells a formula to show, and the proofs, within their size, have the form of hint lines and close its clauses
 pub record IsProved (text proofs : List ℕ) : Type 0 where

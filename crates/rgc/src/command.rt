@@ -7,4 +7,6 @@ pub enum Command<'a> {
     Valid { text: &'a str, proofs: &'a str },
     /// The clauses of the `show` formula of a text.
     Clauses { text: &'a str },
+    /// Hint lines for the `show` formula of a text, or states at which it fails, with at most so many decisions.
+    Find { text: &'a str, steps: u64 },
 }

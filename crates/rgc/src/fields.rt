@@ -2,7 +2,7 @@
 
 ghost use Rattle.std.specs.Prelude.{◌≡◌, codes, IfOk, IfErr};
 ghost use Rattle.clap.specs.Words.{found_of, rows_of};
-ghost use Rattle.rgc.specs.Line.{HasFile, HasOption, HasFields, name_of};
+ghost use Rattle.rgc.specs.Line.{HasFile, HasOption, HasNumber, HasFields, name_of};
 ghost use Rattle.rgc.specs.declared.fields.FieldFault.TheVariants.{Incomplete};
 
 use crate::command::Command;
@@ -33,6 +33,16 @@ fn file<'a>(matches: &ArgMatches<'a>, id: &str) -> Result<&'a str, FieldFault>
     }
 }
 
+fn given_number(matches: &ArgMatches<'_>, id: &str) -> Result<u64, FieldFault>
+    ensures number { IfOk result (HasNumber (rows_of (found_of matches.now)) id.now) }
+    ensures fault { IfErr result (λ f. f ≡ Incomplete) }
+{
+    match matches.get_one::<u64>(id) {
+        Some(number) => Ok(number),
+        None => Err(FieldFault::Incomplete),
+    }
+}
+
 fn valid<'a>(matches: &ArgMatches<'a>) -> Result<Command<'a>, FieldFault>
     ensures name { IfOk result (λ c. name_of c ≡ codes "valid") }
     ensures fields { IfOk result (HasFields (rows_of (found_of matches.now))) }
@@ -52,6 +62,16 @@ fn clauses<'a>(matches: &ArgMatches<'a>) -> Result<Command<'a>, FieldFault>
     })
 }
 
+fn find<'a>(matches: &ArgMatches<'a>) -> Result<Command<'a>, FieldFault>
+    ensures name { IfOk result (λ c. name_of c ≡ codes "find") }
+    ensures fields { IfOk result (HasFields (rows_of (found_of matches.now))) }
+{
+    Ok(Command::Find {
+        text: file(matches, "TEXT")?,
+        steps: given_number(matches, "steps")?,
+    })
+}
+
 /// The command of a subcommand's name and matches.
 pub fn command_of<'a>(name: &str, matches: &ArgMatches<'a>) -> Result<Command<'a>, FieldFault>
     ensures name { IfOk result (λ c. name_of c ≡ name.now) }
@@ -60,6 +80,7 @@ pub fn command_of<'a>(name: &str, matches: &ArgMatches<'a>) -> Result<Command<'a
     match name {
         "valid" => valid(matches),
         "clauses" => clauses(matches),
+        "find" => find(matches),
         _ => Err(FieldFault::Incomplete),
     }
 }

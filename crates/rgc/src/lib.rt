@@ -14,7 +14,7 @@ pub use commands::{Files, perform};
 pub use fields::FieldFault;
 pub use line::{Line, LineFault};
 pub use numbers::write_numbers;
-pub use shown::{clauses, valid};
+pub use shown::{clauses, find, valid};
 
 #[cfg(test)]
 mod tests;

@@ -7,9 +7,13 @@ ghost use Rattle.rg_words.specs.Refusals.{no_memory};
 ghost use Rattle.rg_tree.specs.Trees.{Proposition};
 ghost use Rattle.rg_clauses.specs.Formula.{IsUnsatisfiable};
 ghost use Rattle.rg_parse.specs.Shown.{SpellsShow};
-ghost use Rattle.rgc.specs.Valid.{clauses_shown, HasClauses, ShownHolds, IsClausesRefusal, IsProved, IsValidRefusal};
+ghost use Rattle.rg_tree.specs.Conditions.{claim, ConditionHolds};
+ghost use Rattle.rg_clauses.specs.Conditions.{clauses_of_claim};
+ghost use Rattle.rg_find.specs.Judged.{IsJudged};
+ghost use Rattle.rgc.specs.Valid.{clauses_shown, HasClauses, ShownHolds, IsShown, IsClausesRefusal, IsFindRefusal, IsProved, IsValidRefusal};
 
 use rg_clauses::Clauses;
+use rg_find::{Judged, judge};
 use rg_hints::{Lines, check};
 use rg_parse::show::{one_meaning, show};
 use rg_tree::condition::Condition;
@@ -40,6 +44,32 @@ pub fn clauses(alloc: Global, text: &[u8]) -> Result<Clauses, Refusal>
     let condition = Condition::show(alloc, layout, formula);
     match Clauses::of(alloc, &condition, SourceFile::Text, 1) {
         Ok(clauses) => Ok(clauses),
+        Err(refusal) => Err(refusal),
+    }
+}
+
+/// What a search says of the formula that the text spells, with the condition that it is: lines that prove it, or the states at which it
+/// fails, or nothing after so many decisions.
+///
+/// # Errors
+///
+/// As `clauses`; then `Limit`, without a file and a place, where more than `MOST_DECISIONS` are asked for.
+pub fn find(alloc: Global, text: &[u8], steps: u64) -> Result<(Condition, Judged), Refusal>
+    ensures formula { IfOk result (λ r. IsShown text.now (claim r.0)) }
+    ensures judged { IfOk result (λ r. IsJudged (claim r.0) r.1) }
+    ensures clauses { IfOk result (λ r. HasClauses text.now (clauses_of_claim (claim r.0))) }
+    ensures holds { IfOk result (λ r. ConditionHolds (claim r.0) → ShownHolds text.now) }
+    ensures refused { IfErr result (IsFindRefusal text.now steps) }
+{
+    // The text spells one formula.
+    one_meaning();
+    let (layout, formula) = match show(alloc, text) {
+        Ok(shown) => shown,
+        Err(refusal) => return Err(refusal),
+    };
+    let condition = Condition::show(alloc, layout, formula);
+    match judge(alloc, &condition, SourceFile::Text, 1, steps) {
+        Ok(judged) => Ok((condition, judged)),
         Err(refusal) => Err(refusal),
     }
 }

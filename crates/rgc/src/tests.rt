@@ -56,6 +56,28 @@ fn valid_of(alloc: Global, text: Option<&[u8]>, proofs: Option<&[u8]>, most: usi
     }
 }
 
+/// The answer of `find` on a text, with at most so many decisions.
+fn find_of(alloc: Global, text: &str, steps: u64) -> Answer {
+    let line = Line {
+        command: Command::Find {
+            text: "text",
+            steps,
+        },
+    };
+    let files = Files {
+        text: Some(text.as_bytes()),
+        proofs: None,
+    };
+    let mut out = Taker::new(alloc, 1 << 20);
+    let mut faults = Taker::new(alloc, 1 << 20);
+    let status = perform(alloc, &line, &files, &mut out, &mut faults);
+    Answer {
+        status,
+        out,
+        faults,
+    }
+}
+
 /// A text of a front, a piece so many times, and an end.
 fn repeated(
     alloc: Global,
@@ -354,6 +376,16 @@ fn reads_the_command_line(rt: HostRuntime) -> Result<(), Fail> {
     let found =
         matches!(&read, Some(line) if matches!(&line.command, Command::Valid { text: "a", proofs: "b" }));
     assert!(rt; found);
+    let asked = ["rgc", "find", "a", "--steps", "7"];
+    let read = Line::read(rt.alloc(), asked.as_slice()).ok();
+    let found =
+        matches!(&read, Some(line) if matches!(&line.command, Command::Find { text: "a", steps: 7 }));
+    assert!(rt; found);
+    let plain = ["rgc", "find", "a"];
+    let read = Line::read(rt.alloc(), plain.as_slice()).ok();
+    let found =
+        matches!(&read, Some(line) if matches!(&line.command, Command::Find { text: "a", steps: 1_000_000 }));
+    assert!(rt; found);
     Ok(())
 }
 
@@ -417,6 +449,98 @@ fn prints_numbered_statements(rt: HostRuntime) -> Result<(), Fail> {
             kind,
         };
         assert_eq!(rt; line_of(rt.alloc(), "a", &statement)?.as_str(), text);
+    }
+    Ok(())
+}
+
+#[test]
+fn finds_lines_that_are_taken(rt: HostRuntime) -> Result<(), Fail> {
+    let rows = [
+        (FIRST, 0),
+        (FIRST, 1_000_000),
+        ("words x:1 show ((x = 1) or not (x = 1))", 0),
+        ("words x:8 y:8 show (((x + y) - y) = x)", 0),
+        (
+            "words x:4 fixed n:4 show (((x < n) and (x' = (x + 1))) implies (x' <= n'))",
+            1_000,
+        ),
+    ];
+    for (text, steps) in rows {
+        let found = find_of(rt.alloc(), text, steps);
+        assert!(rt; found.status == 0 && found.faults.bytes().is_empty());
+        let lines = found.out.bytes();
+        let taken = valid_of(rt.alloc(), Some(text.as_bytes()), Some(lines), 1 << 20);
+        assert!(rt; taken.status == 0);
+    }
+    Ok(())
+}
+
+#[test]
+fn finds_states_at_which_a_formula_fails(rt: HostRuntime) -> Result<(), Fail> {
+    let rows = [
+        ("words x:1 show (x = 1)", 0, "fails\nbefore x=0\n"),
+        ("words x:1 show false", 0, "fails\nbefore x=0\n"),
+        (
+            "words x:1 show (x' = 1)",
+            0,
+            "fails\nbefore x=0\nafter x=0\n",
+        ),
+        (
+            "words fixed n:64 x:1 show ((n' != 18446744073709551615) or (x' = 0))",
+            0,
+            "fails\nbefore n=18446744073709551615 x=0\nafter n=18446744073709551615 x=1\n",
+        ),
+        ("words x:1 y:1 show ((x = 1) iff (y = 1))", 0, "gave up\n"),
+    ];
+    for (text, steps, printed) in rows {
+        let found = find_of(rt.alloc(), text, steps);
+        assert!(rt; found.status == 1 && found.faults.bytes().is_empty());
+        assert!(rt; found.out.bytes() == printed.as_bytes());
+    }
+    Ok(())
+}
+
+#[test]
+fn counts_the_decisions_of_a_search(rt: HostRuntime) -> Result<(), Fail> {
+    let text = "words x:1 y:1 show ((x = 1) iff (y = 1))";
+    let found = find_of(rt.alloc(), text, 1);
+    let one = b"fails\nbefore x=1 y=0\n".as_slice();
+    let other = b"fails\nbefore x=0 y=1\n".as_slice();
+    assert!(rt; found.status == 1);
+    assert!(rt; found.out.bytes() == one || found.out.bytes() == other);
+    let many = find_of(rt.alloc(), text, 1_000_000_001);
+    assert!(rt; many.status == 1 && many.faults.bytes() == b"refused 11\n".as_slice());
+    Ok(())
+}
+
+#[test]
+fn never_gives_up_on_four_input_bits(rt: HostRuntime) -> Result<(), Fail> {
+    let texts = [
+        "words x:2 show (x = 3)",
+        "words x:2 show ((x' = x) or (x' = (x + 1)))",
+        "words x:2 y:2 show ((x + y) = (y + x))",
+        "words x:2 y:2 show (((x + y) - y) = x)",
+        "words x:2 y:2 show ((x - y) = (y - x))",
+        "words x:2 y:2 show ((x < y) implies (x != y))",
+        "words x:2 y:2 show ((x < y) iff (y < x))",
+        "words x:2 y:2 show ((x band y) <= x)",
+        "words x:2 y:2 show ((x bor y) = (x + y))",
+        "words x:2 y:2 show ((x bxor y) = ((x bor y) - (x band y)))",
+        "words x:2 show (((x = 0) and (x' = (x + 1))) implies (x' = 1))",
+        "words x:2 show ((x' = (x + 1)) implies (x < x'))",
+        "words x:2 fixed n:2 show (((x < n) and (x' = (x + 1))) implies (x' <= n))",
+        "words x:1 y:1 show ((x' = x) or (y' = y))",
+        "words x:1 y:1 show (((x = y) and (x' = x) and (y' = y)) implies (x' = y'))",
+        "words x:4 show ((x + 1) != 0)",
+        "words x:4 show ((x shr 2) < 4)",
+        "words x:4 show ((x shl 1) = (x + x))",
+        "words a:1 b:1 c:1 d:1 show (((a = b) and (c = d)) implies ((a = c) iff (b = d)))",
+        "words a:1 b:1 c:1 d:1 show (((a != b) and (b != c) and (c != d)) implies (a = d))",
+    ];
+    for text in texts {
+        let found = find_of(rt.alloc(), text, 100);
+        let gave_up = found.out.bytes() == b"gave up\n".as_slice();
+        assert!(rt; found.status <= 1 && found.faults.bytes().is_empty() && !gave_up);
     }
     Ok(())
 }

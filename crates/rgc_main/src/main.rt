@@ -54,7 +54,7 @@ fn tell(rt: &HostRuntime, text: &str) -> u8 {
 fn run(rt: &HostRuntime, line: &Line<'_>) -> Result<u8, AllocError> {
     let (text, proofs) = match line.command {
         Command::Valid { text, proofs } => (text, Some(proofs)),
-        Command::Clauses { text } => (text, None),
+        Command::Clauses { text } | Command::Find { text, .. } => (text, None),
     };
     let text = bytes_of(rt, text, MOST_TEXT_BYTES)?;
     let proofs = match proofs {
@@ -68,7 +68,7 @@ fn run(rt: &HostRuntime, line: &Line<'_>) -> Result<u8, AllocError> {
     let mut out = Buffered::new(rt.alloc(), Device::new(rt.stdout()))?;
     let mut faults = Device::new(rt.stderr());
     let status = perform(rt.alloc(), line, &files, &mut out, &mut faults);
-    if status == 0 && out.flush().is_err() {
+    if status <= 1 && out.flush().is_err() {
         return Ok(tell(rt, "refused 63"));
     }
     Ok(status)
