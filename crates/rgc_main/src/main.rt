@@ -50,7 +50,23 @@ fn tell(rt: &HostRuntime, text: &str) -> u8 {
     3
 }
 
-/// Reads the files that the command names, does it, and writes what it printed; the status.
+/// Does the command over its files, and writes what it printed; the status. What `find` prints goes out at once, all else
+/// through a buffer.
+fn done(rt: &HostRuntime, line: &Line<'_>, files: &Files<'_>) -> Result<u8, AllocError> {
+    let mut faults = Device::new(rt.stderr());
+    if matches!(line.command, Command::Find { .. }) {
+        let mut out = Device::new(rt.stdout());
+        return Ok(perform(rt.alloc(), line, files, &mut out, &mut faults));
+    }
+    let mut out = Buffered::new(rt.alloc(), Device::new(rt.stdout()))?;
+    let status = perform(rt.alloc(), line, files, &mut out, &mut faults);
+    if status == 0 && out.flush().is_err() {
+        return Ok(tell(rt, "refused 63"));
+    }
+    Ok(status)
+}
+
+/// Reads the files that the command names, and does it; the status.
 fn run(rt: &HostRuntime, line: &Line<'_>) -> Result<u8, AllocError> {
     let (text, proofs) = match line.command {
         Command::Valid { text, proofs } => (text, Some(proofs)),
@@ -65,13 +81,7 @@ fn run(rt: &HostRuntime, line: &Line<'_>) -> Result<u8, AllocError> {
         text: text.as_ref().map(|bytes| bytes.as_slice()),
         proofs: proofs.as_ref().map(|bytes| bytes.as_slice()),
     };
-    let mut out = Buffered::new(rt.alloc(), Device::new(rt.stdout()))?;
-    let mut faults = Device::new(rt.stderr());
-    let status = perform(rt.alloc(), line, &files, &mut out, &mut faults);
-    if status <= 1 && out.flush().is_err() {
-        return Ok(tell(rt, "refused 63"));
-    }
-    Ok(status)
+    done(rt, line, &files)
 }
 
 /// The words of the command line, with the program's name as its users know it.
