@@ -6,6 +6,7 @@ use Rattle.rg_words.specs.declared.operators.Shift.{Shift}
 use Rattle.rg_text.specs.declared.kind.Junction.{Junction}
 use Rattle.rg_text.specs.declared.kind.Conditional.{Conditional}
 use Rattle.rg_text.specs.Text.{Leaf, leaf_of}
+use Rattle.rg_tree.specs.declared.line.Rule.{Rule}
 use Rattle.rg_parse.specs.declared.syntax.Expr.{Expr}
 use Rattle.rg_parse.specs.declared.syntax.Expr.TheVariants.{Number, Word, NextWord, Inverse', Binary', Shifted', If'}
 use Rattle.rg_parse.specs.declared.syntax.Formula.{Formula}
@@ -20,6 +21,7 @@ use Rattle.rg_parse.specs.declared.syntax.Statement.TheVariants as variants
 use Rattle.rg_parse.specs.declared.syntax.SpecText.{SpecText}
 use Rattle.rg_parse.specs.declared.syntax.PartText.{PartText}
 use Rattle.rg_parse.specs.declared.syntax.ProgramText.{ProgramText}
+use Rattle.rg_parse.specs.declared.syntax.LineText.{LineText}
 
 -- an expression and a formula as written
 mutual
@@ -154,3 +156,23 @@ pub record ProgramTree : Type 0 where
 
 abbrev pub program_text : List ℕ → ProgramText → ProgramTree
 program_text src p = record { words = map (declared_word src) p.words.items; spec = spec_text src p.spec; parts = map (part_text src) p.parts.items }
+
+-- a line of a derivation as written: the word it begins with, its number, its rule, its statement's number, its premises,
+-- and its four formulas
+pub record DerivationLine : Type 0 where
+  pub begin : Leaf
+  pub number : Leaf
+  pub rule : Rule
+  pub statement : Leaf
+  pub premises : List Leaf
+  pub spec : SpecTree
+
+abbrev pub line_text : List ℕ → LineText → DerivationLine
+line_text src l = record {
+  begin = leaf_of src l.begin;
+  number = leaf_of src l.number;
+  rule = l.rule;
+  statement = leaf_of src l.statement;
+  premises = map (leaf_of src) l.premises.items;
+  spec = spec_text src l.spec;
+}

@@ -2,6 +2,7 @@
 
 use rg_text::kind::{Conditional, Junction};
 use rg_text::token::Token;
+use rg_tree::line::Rule;
 use rg_words::operators::{Comparison, Operator, Shift};
 
 /// An expression.
@@ -124,4 +125,16 @@ pub struct ProgramText {
     pub words: Vec<Declaration>,
     pub spec: SpecText,
     pub parts: Vec<PartText>,
+}
+
+/// A line of a derivation: the word `line`, its number, its rule, its statement's number, the numbers of its premises, and
+/// its four formulas.
+#[derive(Debug, Drop)]
+pub struct LineText {
+    pub begin: Token,
+    pub number: Token,
+    pub rule: Rule,
+    pub statement: Token,
+    pub premises: Vec<Token>,
+    pub spec: SpecText,
 }

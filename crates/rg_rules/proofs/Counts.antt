@@ -3,9 +3,10 @@ use Rattle.std.proofs.Common.{◌≡◌, ℕ, suc, ◌+◌, List, [], ◌∷◌,
 use Rattle.std.proofs.lemmas.List.{length-map}
 use Rattle.std.specs.Prelude.{slice_get}
 use Rattle.rg_tree.specs.Statements.{Statement, skip, assign, await, sequence, branch, loop, Specification}
-use Rattle.rg_rules.specs.declared.derivation.Rule.{Rule}
-use Rattle.rg_rules.specs.declared.derivation.Rule.TheVariants.{Basic, Atomic, Seq, If, Loop, Conseq}
-use Rattle.rg_rules.specs.Derivations.{LineTree, spec_of, first_spec, ConseqFits, RuleFits, LineFits, DerivationFits, obligations_from, rule_obligations, obligations_at, line_obligations, obligations_of}
+use Rattle.rg_tree.specs.declared.line.Rule.{Rule}
+use Rattle.rg_tree.specs.declared.line.Rule.TheVariants.{Basic, Atomic, Seq, If, Loop, Conseq}
+use Rattle.rg_tree.specs.Lines.{LineTree}
+use Rattle.rg_rules.specs.Derivations.{spec_of, first_spec, ConseqFits, RuleFits, LineFits, DerivationFits, obligations_from, rule_obligations, obligations_at, line_obligations, obligations_of}
 use Rattle.rg_rules.specs.Names.{condition_names, named, line_names}
 
 conseq_count : (lines : List LineTree) (k n : ℕ) (spec : Specification) (is : List ℕ) → ConseqFits lines k n is → length (obligations_from spec (first_spec lines is)) ≡ 4

@@ -6,13 +6,14 @@ use Rattle.rg_tree.specs.Trees.{Proposition}
 use Rattle.rg_tree.specs.Statements.{Statement, skip, assign, await, sequence, branch, loop, Items, one, more, Specification, PartTree}
 use Rattle.rg_tree.specs.Numbering.{statements, statements_of_parts}
 use Rattle.rg_tree.specs.Programs.{nth}
-use Rattle.rg_rules.specs.declared.derivation.Rule.{Rule}
-use Rattle.rg_rules.specs.declared.derivation.Rule.TheVariants.{Basic, Atomic, Seq, If, Loop, Conseq}
-use Rattle.rg_rules.specs.Derivations.{LineTree, IsPremise, ItemsFit, ChoiceFits, LoopFits, ConseqFits, RuleFits, LineFits}
+use Rattle.rg_tree.specs.declared.line.Rule.{Rule}
+use Rattle.rg_tree.specs.declared.line.Rule.TheVariants.{Basic, Atomic, Seq, If, Loop, Conseq}
+use Rattle.rg_rules.specs.Derivations.{IsPremise, ItemsFit, ChoiceFits, LoopFits, ConseqFits, RuleFits, LineFits}
 use Rattle.rg_rules.specs.Faults.{count_items, premise_count, item_numbers, premise_numbers, AreEarlier, found_first, lines_at, AreChained, AreChoices, AreTurn, TreesFit, Asks, IsStatementAnswer, IsLineAnswer, PartsDerived, AreFaultlessBefore, Derives, DerivationsHaveNoFault}
 use Rattle.std.specs.Prelude.{slice_get}
 use Rattle.std.proofs.Common.{length-append}
 use Rattle.rg_tree.proofs.Stands.{Stands}
+use Rattle.rg_tree.specs.Lines.{LineTree}
 use Rattle.rg_rules.proofs.Places.{closed_parts}
 use Rattle.rg_rules.proofs.Fitting.{nth_within, numbered_items, chained_split, chained_join}
 

@@ -2,7 +2,7 @@
 use Rattle.std.proofs.Common.{◌≡◌, ℕ, zero, suc, ◌<◌, List, [], ◌∷◌, Some, None, ◌↔◌, refl, ap, subst, ◌∙◌, sym, ⊎_elim, ◌⊎◌, inl, inr, arith}
 use Rattle.rg_tree.specs.Statements.{Statement, Specification}
 use Rattle.rg_tree.specs.Programs.{nth}
-use Rattle.rg_rules.specs.Derivations.{LineTree}
+use Rattle.rg_tree.specs.Lines.{LineTree}
 use Rattle.rg_rules.specs.Faults.{IsLineAnswer, IsDerived, AreFaultlessBefore}
 
 pub derived_here : (line : LineTree) (lines : List LineTree) (n : ℕ) (spec : Specification) → line.number ≡ n → line.spec ≡ spec → IsDerived (line ∷ lines) n spec

@@ -5,7 +5,7 @@ use Rattle.std.proofs.lemmas.Bool.Decides.{nat_tests}
 use Rattle.std.specs.Prelude.{slice_get}
 use Rattle.rg_tree.specs.Statements.{Items, one, more, Specification}
 use Rattle.rg_tree.specs.Programs.{nth}
-use Rattle.rg_rules.specs.Derivations.{LineTree}
+use Rattle.rg_tree.specs.Lines.{LineTree}
 use Rattle.rg_rules.specs.Faults.{count_items, item_numbers, AreEarlier, lines_at, found_first, AreChained}
 
 pub some_items : (items : Items) → 1 ≤ count_items items

@@ -14,11 +14,12 @@ use Rattle.rg_tree.specs.Runs.{runs, runs_of_items, always, Atomic as AtomicRun}
 use Rattle.rg_tree.specs.Obligations.{AllMet}
 use Rattle.rg_tree.proofs.Asked.{met_front, met_back}
 use Rattle.rg_tree.proofs.Guards.{Sound, StatementSound, Sound-Satisfies}
-use Rattle.rg_rules.specs.declared.derivation.Rule.{Rule}
-use Rattle.rg_rules.specs.declared.derivation.Rule.TheVariants.{Basic, Atomic, Seq, If, Loop, Conseq}
-use Rattle.rg_rules.specs.Derivations.{LineTree, IsPremise, ItemsFit, ChoiceFits, LoopFits, ConseqFits, RuleFits, DerivationFits, spec_of, first_spec, step_obligations, obligations_from, rule_obligations, obligations_at, line_obligations, obligations_of, RulesAreSound}
+use Rattle.rg_tree.specs.declared.line.Rule.{Rule}
+use Rattle.rg_tree.specs.declared.line.Rule.TheVariants.{Basic, Atomic, Seq, If, Loop, Conseq}
+use Rattle.rg_rules.specs.Derivations.{IsPremise, ItemsFit, ChoiceFits, LoopFits, ConseqFits, RuleFits, DerivationFits, spec_of, first_spec, step_obligations, obligations_from, rule_obligations, obligations_at, line_obligations, obligations_of, RulesAreSound}
 use Rattle.rg_rules.proofs.Rules.{atomic_sound, then_sound, choice_sound, loop_sound, conseq_sound}
 use Rattle.rg_tree.proofs.Stands.{Stands, stands_get, stands_tail, stands_front, stands_back}
+use Rattle.rg_tree.specs.Lines.{LineTree}
 use Rattle.rg_rules.proofs.Places.{closed_parts}
 
 and_both : (a b : Bool) → a ≡ true → b ≡ true → (a && b) ≡ true

@@ -6,17 +6,17 @@ use Rattle.rg_words.specs.Layout.{Word}
 use Rattle.rg_tree.specs.Trees.{Proposition, Assignment}
 use Rattle.rg_tree.specs.Statements.{Statement, assign, await, loop, Specification, PartTree, ProgramTree}
 use Rattle.rg_tree.specs.Numbering.{statements, statements_of_parts}
-use Rattle.rg_tree.specs.Programs.{nth}
+use Rattle.rg_tree.specs.Programs.{nth, PartsSatisfy}
 use Rattle.rg_tree.specs.Satisfaction.{StatementSatisfies}
 use Rattle.rg_tree.specs.TypedPrograms.{IsTypedSpecification}
 use Rattle.rg_tree.specs.Obligations.{ArePlain, obligation_claim, AllConditionsHold}
 use Rattle.rg_tree.proofs.Asked.{all_met, plain_append}
 use Rattle.rg_tree.proofs.Stands.{Stands, stands_front, stands_back}
-use Rattle.rg_rules.specs.declared.derivation.Rule.{Rule}
-use Rattle.rg_rules.specs.declared.derivation.Rule.TheVariants.{Basic, Atomic, If, Loop, Conseq}
-use Rattle.rg_rules.specs.Derivations.{LineTree, first_spec, step_obligations, obligations_from, rule_obligations, obligations_at, line_obligations, obligations_of, LinesHold}
+use Rattle.rg_tree.specs.declared.line.Rule.{Rule}
+use Rattle.rg_tree.specs.declared.line.Rule.TheVariants.{Basic, Atomic, If, Loop, Conseq}
+use Rattle.rg_tree.specs.Lines.{LineTree, AreTypedLines}
+use Rattle.rg_rules.specs.Derivations.{first_spec, step_obligations, obligations_from, rule_obligations, obligations_at, line_obligations, obligations_of, LinesHold}
 use Rattle.rg_rules.specs.Faults.{IsDerived, PartsDerived, Derives}
-use Rattle.rg_rules.specs.Promises.{AreTypedLines, PartsSatisfy}
 use Rattle.rg_rules.proofs.Places.{closed_parts}
 use Rattle.rg_rules.proofs.Lines.{number_of, rules_are_sound}
 

@@ -7,10 +7,9 @@ use Rattle.rg_tree.specs.Numbering.{statements, statements_of_items, statements_
 use Rattle.rg_tree.specs.Programs.{nth}
 use Rattle.rg_tree.specs.ProgramView.{specification}
 use Rattle.rg_tree.specs.TypedPrograms.{IsTypedSpecification, IsTypedStatement, AreTypedItems, AreTypedParts}
-use Rattle.rg_rules.specs.declared.derivation.Line.{Line}
-use Rattle.rg_rules.specs.Derivations.{LineTree, spec_of, first_spec}
-use Rattle.rg_rules.specs.View.{line_tree}
-use Rattle.rg_rules.specs.Promises.{AreTypedLines}
+use Rattle.rg_tree.specs.declared.line.Line.{Line}
+use Rattle.rg_tree.specs.Lines.{LineTree, line_tree, AreTypedLines}
+use Rattle.rg_rules.specs.Derivations.{spec_of, first_spec}
 
 abbrev AllTyped : List Word → List Statement → Type 0
 AllTyped words [] = Unit {0}

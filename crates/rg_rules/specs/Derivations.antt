@@ -8,18 +8,9 @@ use Rattle.rg_tree.specs.Numbering.{statements, statements_of_parts}
 use Rattle.rg_tree.specs.Programs.{nth}
 use Rattle.rg_tree.specs.Satisfaction.{StatementSatisfies}
 use Rattle.rg_tree.specs.Obligations.{Obligation, reaches, makes, keeps, allows, AllMet}
-use Rattle.rg_rules.specs.declared.derivation.Rule.{Rule}
-use Rattle.rg_rules.specs.declared.derivation.Rule.TheVariants.{Basic, Atomic, Seq, If, Loop, Conseq}
-
--- a line, with the number that it gives itself and the line of the source that it begins on; its premises are numbers of
--- lines, from 1
-pub record LineTree : Type 0 where
-  pub own_number : ℕ
-  pub source_line : ℕ
-  pub rule : Rule
-  pub number : ℕ
-  pub premises : List ℕ
-  pub spec : Specification
+use Rattle.rg_tree.specs.declared.line.Rule.{Rule}
+use Rattle.rg_tree.specs.declared.line.Rule.TheVariants.{Basic, Atomic, Seq, If, Loop, Conseq}
+use Rattle.rg_tree.specs.Lines.{LineTree}
 
 -- of a line whose statement makes one step, the assignments, where the given formulas hold
 abbrev pub step_obligations : Specification → List Proposition → List Assignment → List Obligation

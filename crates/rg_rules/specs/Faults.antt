@@ -10,9 +10,10 @@ use Rattle.rg_tree.specs.Trees.{Proposition, negation, connected}
 use Rattle.rg_tree.specs.Statements.{Statement, skip, assign, await, sequence, branch, loop, Items, one, more, Specification, PartTree}
 use Rattle.rg_tree.specs.Numbering.{statements, statements_of_parts}
 use Rattle.rg_tree.specs.Programs.{nth}
-use Rattle.rg_rules.specs.declared.derivation.Rule.{Rule}
-use Rattle.rg_rules.specs.declared.derivation.Rule.TheVariants.{Basic, Atomic, Seq, If, Loop, Conseq}
-use Rattle.rg_rules.specs.Derivations.{LineTree, DerivationFits}
+use Rattle.rg_tree.specs.declared.line.Rule.{Rule}
+use Rattle.rg_tree.specs.declared.line.Rule.TheVariants.{Basic, Atomic, Seq, If, Loop, Conseq}
+use Rattle.rg_tree.specs.Lines.{LineTree}
+use Rattle.rg_rules.specs.Derivations.{DerivationFits}
 
 abbrev pub count_items : Items → ℕ
 count_items (one s) = 1

@@ -2,6 +2,5 @@ pub mod Derivations
 pub mod Faults
 pub mod Names
 pub mod OneProof
-pub mod Promises
 pub mod Sizes
 pub mod View

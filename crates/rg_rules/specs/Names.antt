@@ -1,9 +1,9 @@
 -- The printed names of the conditions of a derivation's lines.
 use Rattle.std.specs.Prelude.{ℕ, ◌+◌, List, [], ◌∷◌, ◌++◌, map, codes}
 use Rattle.std.specs.Fmt.{decimal}
-use Rattle.rg_rules.specs.declared.derivation.Rule.{Rule}
-use Rattle.rg_rules.specs.declared.derivation.Rule.TheVariants.{Basic, Atomic, Seq, If, Loop, Conseq}
-use Rattle.rg_rules.specs.Derivations.{LineTree}
+use Rattle.rg_tree.specs.declared.line.Rule.{Rule}
+use Rattle.rg_tree.specs.declared.line.Rule.TheVariants.{Basic, Atomic, Seq, If, Loop, Conseq}
+use Rattle.rg_tree.specs.Lines.{LineTree}
 
 -- what each condition of a line is called, by its rule
 abbrev pub condition_names : Rule → List (List ℕ)

@@ -6,8 +6,7 @@ use Rattle.rg_tree.specs.Trees.{Proposition}
 use Rattle.rg_tree.specs.OneProof.{IsTyped-prop}
 use Rattle.rg_tree.specs.Statements.{Specification}
 use Rattle.rg_tree.specs.TypedPrograms.{IsTypedPredicate, IsTypedSpecification}
-use Rattle.rg_rules.specs.Derivations.{LineTree}
-use Rattle.rg_rules.specs.Promises.{AreTypedLines}
+use Rattle.rg_tree.specs.Lines.{LineTree, AreTypedLines}
 
 same_bool : {a b : Bool} → IsProp (a ≡ b)
 same_bool = Coded-set coded_bool _ _

@@ -5,39 +5,10 @@ ghost use Rattle.rg_words.specs.Refusals.{no_memory};
 
 use crate::fits::{are_parts_derived, first_bad_line};
 use crate::table::{sizes_of, statements_by_number};
-use rg_tree::part::Spec;
+use rg_tree::line::Line;
 use rg_tree::program::Program;
 use rg_words::{Place, Refusal, RefusalNumber, SourceFile};
 use std::alloc::Global;
-
-/// A rule for the statements of a part.
-#[derive(Clone, Copy, Debug, PartialEq, Eq)]
-pub enum Rule {
-    /// For `skip` and an assignment.
-    Basic,
-    /// For `await`.
-    Atomic,
-    Seq,
-    If,
-    Loop,
-    /// For any statement, from another line of the same statement.
-    Conseq,
-}
-
-/// A line: that a statement satisfies four formulas, by a rule and earlier lines.
-#[derive(Drop)]
-pub struct Line {
-    /// The number that the line gives itself.
-    pub own_number: u64,
-    /// The line of the source on which it begins, from 1.
-    pub source_line: u32,
-    pub rule: Rule,
-    /// The statement's number, from 1.
-    pub number: u64,
-    /// The numbers of the lines that it follows from, each from 1.
-    pub premises: Vec<u64>,
-    pub spec: Spec,
-}
 
 /// Lines that derive the parts of a program: each line is numbered by its place and fits its rule, and each part has a line
 /// of its whole body with the part's four formulas.
@@ -48,7 +19,7 @@ pub struct Derivation {
 
 impl Derivation {
     ghost use Rattle.rg_tree.specs.ProgramView.{part};
-    ghost use Rattle.rg_rules.specs.View.{line_tree};
+    ghost use Rattle.rg_tree.specs.Lines.{line_tree};
     ghost use Rattle.rg_rules.specs.Faults.{Derives, IsFirstFault};
 
     /// These lines as a derivation of a program's parts, where they are one. `last_line` is the last line of their source,

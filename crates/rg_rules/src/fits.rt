@@ -9,13 +9,14 @@ ghost use Rattle.rg_tree.specs.View.{formula};
 ghost use Rattle.rg_tree.specs.Programs.{nth};
 ghost use Rattle.rg_tree.specs.Numbering.{statements, statements_of_items, statements_of_parts};
 ghost use Rattle.rg_tree.specs.ProgramView.{specification, statement, items, part};
-ghost use Rattle.rg_rules.specs.View.{line_tree, referred};
+ghost use Rattle.rg_tree.specs.Lines.{line_tree};
+ghost use Rattle.rg_rules.specs.View.{referred};
 ghost use Rattle.rg_rules.specs.Faults.{count_items, premise_count, item_numbers, premise_numbers, AreEarlier, lines_at, AreChained, AreChoices, AreTurn, TreesFit, IsLineAnswer, IsDerived, PartsDerived, AreFaultlessBefore, IsFirstBadLine};
 ghost use Rattle.rg_rules.specs.Sizes.{AreSized, IsSizedInside};
 
-use crate::derivation::{Line, Rule};
 use crate::table::{size, statement_at};
 use rg_tree::equal::same_formula;
+use rg_tree::line::{Line, Rule};
 use rg_tree::part::{Part, Spec};
 use rg_tree::statement::{Items, Stmt};
 use rg_tree::tree::Formula;

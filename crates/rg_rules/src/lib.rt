@@ -10,5 +10,6 @@ mod table;
 #[cfg(test)]
 mod tests;
 
-pub use derivation::{Derivation, Line, Rule};
+pub use derivation::Derivation;
 pub use laws::{derivations_have_no_fault, rules_are_sound};
+pub use rg_tree::line::{Line, Rule};

@@ -2,10 +2,11 @@
 
 ghost use Rattle.std.specs.Prelude.{◌≡◌, ◌++◌, [], ◌∷◌, map, length, decimal, string_bytes, OnOk, IfOk};
 ghost use Rattle.rg_rules.specs.Names.{condition_names, named, line_names};
-ghost use Rattle.rg_rules.specs.View.{line_tree};
+ghost use Rattle.rg_tree.specs.Lines.{line_tree};
 
-use crate::derivation::{Derivation, Rule};
+use crate::derivation::Derivation;
 use itoa::Buffer;
+use rg_tree::line::Rule;
 use std::alloc::{AllocError, Global};
 
 /// What each condition of a line is called, by its rule.

@@ -4,6 +4,7 @@ use Rattle.rg_tree.specs.Meaning.{holds}
 use Rattle.rg_tree.specs.Statements.{PartTree, ProgramTree}
 use Rattle.rg_tree.specs.Traces.{State, Step, holds_at, IsTraceOf, Inside, last_of, view}
 use Rattle.rg_tree.specs.Runs.{runs}
+use Rattle.rg_tree.specs.Satisfaction.{StatementSatisfies}
 
 -- the k-th of a list, from 1
 abbrev pub nth : {A : Type 0} → List A → ℕ → Option A
@@ -44,6 +45,10 @@ PartsInside G parts s (x ∷ xs) =
 pub record IsSatisfied (program : ProgramTree) : Type 0 where
   pub steps : (s : State) (xs : List Step) (ended : Bool) → IsRun program s xs ended → holds_at program.spec.pre s ≡ true → OthersInside (holds program.spec.rely) s xs → PartsInside (holds program.spec.guar) program.parts s xs
   pub end : (s : State) (xs : List Step) → IsRun program s xs true → holds_at program.spec.pre s ≡ true → OthersInside (holds program.spec.rely) s xs → holds_at program.spec.post (last_of s xs) ≡ true
+
+-- each part's body satisfies the part's own specification
+abbrev pub PartsSatisfy : ProgramTree → Type 0
+PartsSatisfy program = (i : ℕ) (p : PartTree) → nth program.parts i ≡ Some p → StatementSatisfies program.words p.spec p.body
 
 -- each beginning of a run is a run
 abbrev pub BeginningsRun : Type 0

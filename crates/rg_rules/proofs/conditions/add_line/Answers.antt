@@ -1,6 +1,6 @@
 use Rattle.std.proofs.Common.{map, rules}
 use Rattle.rg_tree.specs.ProgramView.{specification}
-use Rattle.rg_rules.specs.View.{line_tree}
+use Rattle.rg_tree.specs.Lines.{line_tree}
 use Rattle.rg_rules.proofs.Typed.{first_typed}
 use Rattle.rg_rules.proofs.conditions.add_line.Goals as goal
 

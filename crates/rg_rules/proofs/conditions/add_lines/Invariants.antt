@@ -1,8 +1,9 @@
 use Rattle.std.proofs.Common.{◌≡◌, ◌++◌, map, drop}
 use Rattle.rg_tree.specs.Conditions.{claim}
 use Rattle.rg_tree.specs.Obligations.{obligation_claim}
+use Rattle.rg_tree.specs.Lines.{line_tree}
 use Rattle.rg_rules.specs.Derivations.{obligations_of}
-use Rattle.rg_rules.specs.View.{line_tree, referred}
+use Rattle.rg_rules.specs.View.{referred}
 use Rattle.rg_rules.proofs.conditions.add_lines.Given as goal
 
 abbrev pub invariant-loop-line : goal.invariant-loop-line

@@ -1,5 +1,5 @@
 use Rattle.std.proofs.Common.{Some, sym, ap, ◌∙◌, arith}
-use Rattle.rg_rules.specs.View.{line_tree}
+use Rattle.rg_tree.specs.Lines.{line_tree}
 use Rattle.rg_rules.proofs.Find.{nth-map}
 use Rattle.rg_rules.proofs.conditions.line_of_number.Goals as goal
 

@@ -3,7 +3,7 @@ use Rattle.std.proofs.lemmas.List.{length-map}
 use Rattle.std.proofs.lemmas.Bool.Decides.{nat_tests}
 use Rattle.rg_tree.specs.View.{formula}
 use Rattle.rg_tree.specs.ProgramView.{specification}
-use Rattle.rg_rules.specs.View.{line_tree}
+use Rattle.rg_tree.specs.Lines.{line_tree}
 use Rattle.rg_rules.proofs.Fitting.{chained_from}
 use Rattle.rg_rules.proofs.fits.+are_chained.Goals as goal
 

@@ -1,7 +1,7 @@
 use Rattle.std.proofs.Common.{map, arith}
 use Rattle.std.proofs.lemmas.List.{length-map}
 use Rattle.rg_tree.specs.ProgramView.{items}
-use Rattle.rg_rules.specs.View.{line_tree}
+use Rattle.rg_tree.specs.Lines.{line_tree}
 use Rattle.rg_rules.proofs.Fitting.{none_numbered, one_numbered}
 use Rattle.rg_rules.proofs.fits.+are_of_items.Goals as goal
 

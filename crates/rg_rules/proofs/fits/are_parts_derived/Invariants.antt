@@ -2,7 +2,7 @@ use Rattle.std.proofs.Common.{◌+◌, ◌≤◌, map, drop, length, ◌↔◌}
 use Rattle.rg_words.specs.declared.limits.TheConstants.{MOST_STATEMENTS}
 use Rattle.rg_tree.specs.Numbering.{statements_of_parts}
 use Rattle.rg_tree.specs.ProgramView.{part}
-use Rattle.rg_rules.specs.View.{line_tree}
+use Rattle.rg_tree.specs.Lines.{line_tree}
 use Rattle.rg_rules.specs.Faults.{PartsDerived}
 use Rattle.rg_rules.proofs.fits.are_parts_derived.Given as goal
 

@@ -1,7 +1,7 @@
 use Rattle.std.proofs.Common.{map, rules, refl, subst, sym, ◌∙◌}
 use Rattle.std.proofs.lemmas.Bool.{false≢true}
 use Rattle.rg_tree.specs.ProgramView.{specification}
-use Rattle.rg_rules.specs.View.{line_tree}
+use Rattle.rg_tree.specs.Lines.{line_tree}
 use Rattle.rg_rules.specs.Faults.{IsDerived}
 use Rattle.rg_rules.proofs.Find.{here}
 use Rattle.rg_rules.proofs.Faults.{derived_here, derived_else}

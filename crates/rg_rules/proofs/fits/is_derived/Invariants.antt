@@ -1,6 +1,6 @@
 use Rattle.std.proofs.Common.{map, drop, ◌↔◌}
 use Rattle.rg_tree.specs.ProgramView.{specification}
-use Rattle.rg_rules.specs.View.{line_tree}
+use Rattle.rg_tree.specs.Lines.{line_tree}
 use Rattle.rg_rules.specs.Faults.{IsDerived}
 use Rattle.rg_rules.proofs.fits.is_derived.Given as goal
 

@@ -1,7 +1,7 @@
 use Rattle.std.proofs.Common.{◌≡◌, ◌++◌, suc, map, drop}
 use Rattle.std.specs.Prelude.{string_bytes}
 use Rattle.rg_rules.specs.Names.{line_names}
-use Rattle.rg_rules.specs.View.{line_tree}
+use Rattle.rg_tree.specs.Lines.{line_tree}
 use Rattle.rg_rules.proofs.derivation.Derivation.names.Given as goal
 
 abbrev pub invariant-loop-i : goal.invariant-loop-i
