@@ -3,10 +3,10 @@ use Rattle.std.proofs.Common.{ℕ, suc, Bool, true, false, List, [], ◌∷◌, 
 use Rattle.std.specs.Prelude.{◌==◌, if◌then◌else◌}
 use Rattle.rg_tree.specs.Trees.{Proposition}
 use Rattle.rg_tree.specs.Statements.{Specification, PartTree, ProgramTree}
-use Rattle.rg_tree.specs.Programs.{IsSatisfied}
+use Rattle.rg_tree.specs.Programs.{IsSatisfied, PartsSatisfy}
 use Rattle.rg_tree.specs.Obligations.{reaches, allows, obligation_claim, ArePlain, AllConditionsHold}
 use Rattle.rg_tree.proofs.Asked.{all_met, plain_append}
-use Rattle.rg_par.specs.Parallel.{pre_obligations, rely_obligations, guar_obligations, other_obligations, cross_obligations, parallel_obligations, PartsSatisfy}
+use Rattle.rg_par.specs.Parallel.{pre_obligations, rely_obligations, guar_obligations, other_obligations, cross_obligations, parallel_obligations}
 use Rattle.rg_par.proofs.Parallel.{parallel_rule}
 
 pre_plain : (f : Proposition) (ps : List PartTree) → ArePlain (pre_obligations f ps)

@@ -1,9 +1,8 @@
 -- The rule for parallel parts, after Xu, de Roever and He: its conditions, and what they promise.
-use Rattle.std.specs.Prelude.{◌≡◌, ℕ, suc, List, [], ◌∷◌, ◌++◌, ◌==◌, if◌then◌else◌, Some, map}
+use Rattle.std.specs.Prelude.{ℕ, suc, List, [], ◌∷◌, ◌++◌, ◌==◌, if◌then◌else◌, map}
 use Rattle.rg_tree.specs.Trees.{Proposition}
 use Rattle.rg_tree.specs.Statements.{Specification, PartTree, ProgramTree}
-use Rattle.rg_tree.specs.Satisfaction.{StatementSatisfies}
-use Rattle.rg_tree.specs.Programs.{nth, IsSatisfied}
+use Rattle.rg_tree.specs.Programs.{IsSatisfied, PartsSatisfy}
 use Rattle.rg_tree.specs.Obligations.{Obligation, reaches, allows, AllMet}
 
 -- the pre gives each part's pre
@@ -40,10 +39,6 @@ parallel_obligations spec parts =
     ++ cross_obligations parts 1 parts
     ++ guar_obligations spec.guar parts
     ++ reaches (map (λ p. p.spec.post) parts) [] spec.post ∷ []
-
--- each part's body satisfies the part's own specification
-abbrev pub PartsSatisfy : ProgramTree → Type 0
-PartsSatisfy program = (i : ℕ) (p : PartTree) → nth program.parts i ≡ Some p → StatementSatisfies program.words p.spec p.body
 
 -- where each part satisfies its own specification and the rule's conditions are met, the program satisfies its specification
 abbrev pub ParallelRule : Type 0

@@ -6,12 +6,12 @@ ghost use Rattle.rg_words.specs.declared.limits.TheConstants.{MOST_PARTS};
 ghost use Rattle.rg_tree.specs.View.{formula};
 ghost use Rattle.rg_tree.specs.ProgramView.{specification, part};
 ghost use Rattle.rg_tree.specs.ProgramTrees.{program as program_tree};
-ghost use Rattle.rg_tree.specs.Programs.{IsSatisfied};
+ghost use Rattle.rg_tree.specs.Programs.{IsSatisfied, PartsSatisfy};
 ghost use Rattle.rg_tree.specs.Conditions.{claim};
 ghost use Rattle.rg_tree.specs.Typing.{IsTyped};
 ghost use Rattle.rg_tree.specs.TypedPrograms.{IsTypedSpecification, AreTypedParts};
 ghost use Rattle.rg_tree.specs.Obligations.{obligation_claim, AllConditionsHold, allows as allows_of, reaches as reaches_of};
-ghost use Rattle.rg_par.specs.Parallel.{pre_obligations, rely_obligations, guar_obligations, other_obligations, cross_obligations, parallel_obligations, PartsSatisfy};
+ghost use Rattle.rg_par.specs.Parallel.{pre_obligations, rely_obligations, guar_obligations, other_obligations, cross_obligations, parallel_obligations};
 
 use rg_tree::condition::Condition;
 use rg_tree::copy::copy_formula;
