@@ -134,19 +134,19 @@ module _ (words : List Word) where
         let rest = (items_are ss items g).behind (statement_tree words s) ∙ ap (λ x. tree.more x items) (sym (statement_is s a h)) in
         record { behind = λ b. ap (tree.more b) rest; block = λ b. ap (tree.sequence (line_of b) b) rest }
 
-  spec_stands : (s : SpecTree) → spec_faults words s ≡ [] → SpecStandsFor words s (spec_tree words s)
+  pub spec_stands : (s : SpecTree) → spec_faults words s ≡ [] → SpecStandsFor words s (spec_tree words s)
   unfolding spec_faults
   spec_stands s h =
       let rest = none_right _ _ h in
       let more = none_right _ _ rest in
       record { pre = claim_stands words true s.pre (none_left _ _ h); rely = claim_stands words false s.rely (none_left _ _ rest); guar = claim_stands words false s.guar (none_left _ _ more); post = claim_stands words true s.post (none_right _ _ more) }
 
-  spec_faultless : (s : SpecTree) (t : tree.Specification) → SpecStandsFor words s t → spec_faults words s ≡ []
+  pub spec_faultless : (s : SpecTree) (t : tree.Specification) → SpecStandsFor words s t → spec_faults words s ≡ []
   unfolding spec_faults
   spec_faultless s t h =
       no_faults _ _ (claim_faultless words true s.pre t.pre h.pre) (no_faults _ _ (claim_faultless words false s.rely t.rely h.rely) (no_faults _ _ (claim_faultless words false s.guar t.guar h.guar) (claim_faultless words true s.post t.post h.post)))
 
-  spec_is : (s : SpecTree) (t : tree.Specification) → SpecStandsFor words s t → t ≡ spec_tree words s
+  pub spec_is : (s : SpecTree) (t : tree.Specification) → SpecStandsFor words s t → t ≡ spec_tree words s
   spec_is s t h = by (claim_tree words true s.pre t.pre h.pre) (claim_tree words false s.rely t.rely h.rely) (claim_tree words false s.guar t.guar h.guar) (claim_tree words true s.post t.post h.post)
     where
       by : t.pre ≡ (spec_tree words s).pre → t.rely ≡ (spec_tree words s).rely → t.guar ≡ (spec_tree words s).guar → t.post ≡ (spec_tree words s).post → t ≡ spec_tree words s

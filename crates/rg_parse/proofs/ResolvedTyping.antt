@@ -85,7 +85,7 @@ module _ (words : List Word) (narrow : AreNarrow words) where
     trees_typed no_more full h = tt
     trees_typed (also s ss) full h = (statement_typed s full.0 (none_left _ _ h), trees_typed ss full.1 (none_right _ _ h))
 
-  spec_typed : (s : SpecTree) → spec_faults words s ≡ [] → IsTypedSpecification words (spec_tree words s)
+  pub spec_typed : (s : SpecTree) → spec_faults words s ≡ [] → IsTypedSpecification words (spec_tree words s)
   unfolding spec_faults
   spec_typed s h =
       let rest = none_right _ _ h in

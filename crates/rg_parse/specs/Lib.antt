@@ -19,3 +19,4 @@ pub mod ResolveProgramTyping
 pub mod Spelled
 pub mod Inputs
 pub mod ResolveLimits
+pub mod ResolveDerivations

@@ -13,7 +13,9 @@ ghost use Rattle.rg_tree.specs.Primes.{speaks_of_two};
 ghost use Rattle.rg_tree.specs.Moves.{MoveTree, move, AreMoves};
 ghost use Rattle.rg_tree.specs.Statements.{ProgramTree};
 ghost use Rattle.rg_tree.specs.ProgramTrees.{program};
-ghost use Rattle.rg_parse.specs.Syntax.{claim, declared_word, setting, move_text, program_text};
+ghost use Rattle.rg_parse.specs.Syntax.{claim, declared_word, setting, move_text, program_text, line_text};
+ghost use Rattle.rg_tree.specs.Lines.{LineTree, line_tree, AreTypedLines};
+ghost use Rattle.rg_parse.specs.ResolveDerivations.{derivation_faults, DerivationStandsFor, OneListOfLines, FaultlessDerivation};
 ghost use Rattle.rg_parse.specs.ResolveLimits.{IsWithinLimits};
 ghost use Rattle.rg_parse.specs.ResolvePrograms.{program_faults};
 ghost use Rattle.rg_parse.specs.ResolveProgramTyping.{ProgramStandsFor, OneProgramTree};
@@ -27,6 +29,7 @@ mod block;
 mod formula;
 mod group;
 pub(crate) mod leaf;
+mod line;
 mod part;
 mod scope;
 mod setting;
@@ -35,9 +38,11 @@ mod tests;
 
 use crate::declare::declare;
 use crate::syntax;
-use crate::syntax::{Declaration, MoveText, ProgramText, Setting};
+use crate::syntax::{Declaration, LineText, MoveText, ProgramText, Setting};
 use formula::formula_tree;
+use line::lines_of;
 use part::{parts_of, spec_of};
+use rg_tree::line::Line;
 use rg_tree::moves::{Move, give};
 use rg_tree::program::Program;
 use rg_tree::tree::Formula;
@@ -245,4 +250,45 @@ pub fn resolve_program(
 #[tactic(auto, using(crate::proofs::ResolvedStands::one_program_tree))]
 pub fn programs_stand_for_one_tree()
     ensures { OneProgramTree }
+{}
+
+/// The lines of a derivation over declared words, in order.
+///
+/// Refused at the least token that is at fault: 6 a line's own number, its statement's number or a premise above
+/// 4,294,967,295, and its four formulas as `resolve_formula` refuses them, where the pre and the post speak of one state.
+/// Whether there are such statements and lines isn't asked here. 99 where memory was refused.
+pub fn resolve_derivation(
+    alloc: Global,
+    layout: &Layout,
+    file: SourceFile,
+    source: &[u8],
+    written: &[LineText],
+) -> Result<Vec<Line>, Refusal>
+    // Ok with the lines that they stand for, exactly where there are some and memory was enough.
+    ensures stand { IfOk result (λ ls. DerivationStandsFor layout.now (map (line_text source.now) written.now) (map line_tree ls.items)) }
+    ensures refused { IfErr result (λ refusal. (refusal ≡ no_memory)
+        ⊎ ((ls : List LineTree) → DerivationStandsFor layout.now (map (line_text source.now) written.now) ls → ⊥)) }
+    // The first fault in the order of the text.
+    ensures faultless { IfOk result (λ _. derivation_faults layout.now (map (line_text source.now) written.now) ≡ []) }
+    ensures fault { IfErr result (λ refusal. IsRefusal file (derivation_faults layout.now (map (line_text source.now) written.now)) refusal) }
+    ensures typed { IfOk result (λ ls. AreTypedLines layout.now (map line_tree ls.items)) }
+{
+    let scope = Scope {
+        alloc,
+        layout,
+        file,
+        source,
+        one_state: true,
+    };
+    let lines = lines_of(&scope, written)?;
+    // The words are those of a layout.
+    let _count = layout.len();
+    Ok(lines)
+}
+
+/// A derivation stands for one list of lines at most, and for one exactly where none of its tokens is at fault.
+#[tactic(auto, using(crate::proofs::ResolveLines::one_list_of_lines, crate::proofs::ResolveLines::faultless_derivation))]
+pub fn derivations_stand_for_one_list()
+    ensures one_list { OneListOfLines }
+    ensures faultless { FaultlessDerivation }
 {}
