@@ -4,8 +4,9 @@ use Rattle.rg_text.specs.Text.{Leaf}
 use Rattle.rg_parse.specs.Syntax.{DeclaredWord}
 use Rattle.rg_parse.specs.declared.point.TextKind.{TextKind}
 use Rattle.rg_parse.specs.declared.point.TextKind.TheVariants as texts
-use Rattle.rg_text.specs.declared.kind.Keyword.TheVariants.{Pre, Rely, Guar, Post, Begin, End as EndWord, Do}
-use Rattle.rg_parse.specs.declared.point.Owner.TheVariants.{Program, Part as PartOwner}
+use Rattle.rg_text.specs.declared.kind.Keyword.TheVariants.{Pre, Rely, Guar, Post, Begin, End as EndWord, Do, Basic as BasicWord}
+use Rattle.rg_tree.specs.declared.line.Rule.TheVariants.{Basic}
+use Rattle.rg_parse.specs.declared.point.Owner.TheVariants.{Program, Part as PartOwner, Line as LineOwner}
 use Rattle.rg_parse.specs.declared.point.Clause.TheVariants as clauses
 use Rattle.rg_words.specs.declared.limits.TheConstants.{MOST_PARTS}
 use Rattle.std.proofs.lemmas.Bool.Decides.{nat_tests}
@@ -16,11 +17,11 @@ use Rattle.rg_words.specs.declared.operators.Operator.TheVariants.{Add}
 use Rattle.rg_parse.specs.declared.point.Sorts.{Sorts}
 use Rattle.rg_parse.specs.declared.point.Point.{Point}
 use Rattle.rg_parse.specs.declared.point.Point.TheVariants.{AfterClaim, AfterPart, Settings}
-use Rattle.rg_parse.specs.Grammar.{Lexeme, kind_of, fixed, opening, an_if, a_skip, an_await, a_while, name, number, AssignmentText, AssignmentsText, one_assignment, and_assignment, StatementText, BlockText, skipping, assigning, awaiting, branching, looping, one_statement, and_statement, SpecSpelling, PartSpelling, PartsText, ProgramSpelling, one_part, and_part, an_assignment, assignments, statement, block, a_part, specification, WordsText, one, more, and_setting, and_move, no_setting, no_move, ShowSpelling, Spelling, spelled, IsText, FormulaText, ExpressionText, truth, negation, junction, conditional, comparison, pair, longer, numeral, inverse, operation, shift, choice, formula, chain, expression}
+use Rattle.rg_parse.specs.Grammar.{Lexeme, kind_of, fixed, opening, an_if, a_skip, an_await, a_while, name, number, no_line, and_line, one_premise, AssignmentText, AssignmentsText, one_assignment, and_assignment, StatementText, BlockText, skipping, assigning, awaiting, branching, looping, one_statement, and_statement, SpecSpelling, PartSpelling, PartsText, ProgramSpelling, one_part, and_part, an_assignment, assignments, statement, block, a_part, specification, WordsText, one, more, and_setting, and_move, no_setting, no_move, ShowSpelling, Spelling, spelled, IsText, FormulaText, ExpressionText, truth, negation, junction, conditional, comparison, pair, longer, numeral, inverse, operation, shift, choice, formula, chain, expression}
 use Rattle.rg_parse.specs.Machine.{run, limited, is_at_end, one_more}
 use Rattle.rg_parse.proofs.Steps.{kinds, calm, calm_run, calm-append, run-append, limited-append}
 use Rattle.rg_parse.proofs.Spellings.{last_point}
-use Rattle.rg_parse.proofs.Zipper.{single, several, negated, inverted, first, another, second, compared, operated, condition, consequent, alternative, Outer, alone, shown, clause, await_guard, branch_guard, loop_guard, value, await_value, Whose, own, of_part, Clauses, to_pre, to_rely, to_guar, to_post, Around, in_body, in_then, in_else, in_loop, Place, after_clause, part_name, named_part, after_part, item, after_item, target, after_await_guard, await_target, await_name, after_assignment, after_branch_guard, after_loop_guard, place, before_place, before_whose, before_clause, before_around, before_item, before_await, before_assignment, place_points, Frames, bottom, within, Head, unread, before_first, after_fixed, after_name, after_colon, after_words, for_start, for_move, Set, after_settings, after_set_word, after_equals, before_moves, after_at, Part, after_formula, after_expression, after_next, counted, closing_conditional, closing_comparison, closing_operation, closing_shift, closing_choice, after_condition, after_consequent, State, hole, at, done, head, set, part, before_outer, before_all, tokens, taking, top, below, outer_kind, frames_kind, state_kind, points, part_point, state_points, under, part_needs, Well, WellState}
+use Rattle.rg_parse.proofs.Zipper.{single, several, negated, inverted, first, another, second, compared, operated, condition, consequent, alternative, Outer, alone, shown, clause, await_guard, branch_guard, loop_guard, value, await_value, Whose, own, of_part, of_line, LineStart, whole_line, InLines, before_lines, line_begun, line_numbered, line_ruled, after_statement, after_from, after_premise, in_lines, before_in_lines, whose_kind, Clauses, to_pre, to_rely, to_guar, to_post, Around, in_body, in_then, in_else, in_loop, Place, after_clause, part_name, named_part, after_part, item, after_item, target, after_await_guard, await_target, await_name, after_assignment, after_branch_guard, after_loop_guard, place, before_place, before_whose, before_clause, before_around, before_item, before_await, before_assignment, place_points, Frames, bottom, within, Head, unread, before_first, after_fixed, after_name, after_colon, after_words, for_start, for_move, Set, after_settings, after_set_word, after_equals, before_moves, after_at, Part, after_formula, after_expression, after_next, counted, closing_conditional, closing_comparison, closing_operation, closing_shift, closing_choice, after_condition, after_consequent, State, hole, at, done, head, set, part, before_outer, before_all, tokens, taking, top, below, outer_kind, frames_kind, state_kind, points, part_point, state_points, under, part_needs, Well, WellState}
 use Rattle.rg_text.specs.declared.kind.Conditional.TheVariants.{Implies}
 
 abbrev zero_leaf : Leaf
@@ -70,6 +71,7 @@ tail_run lists (AfterClaim clauses.Pre o ∷ ps) h = cc
 tail_run lists (AfterClaim clauses.Rely o ∷ ps) h = cc
 tail_run lists (AfterClaim clauses.Guar o ∷ ps) h = cc
 tail_run lists (AfterClaim clauses.Post (PartOwner n) ∷ ps) h = cc
+tail_run lists (AfterClaim clauses.Post (LineOwner n) ∷ ps) h = cc
 tail_run lists (Settings true ∷ ps) h = cc
 tail_run lists (Settings false ∷ ps) h = cc
 tail_run lists (_ ∷ ps) h = cc
@@ -101,22 +103,23 @@ behind : (k : TextKind) (text : List Lexeme → List Lexeme) (front : List Lexem
 behind k text front keep c = (front ++ c.0, c.1, c.2, more_closing front c.0 (last_point k c.1) keep c.3)
 
 -- a whole specification, with what the part or the program still needs
-spec_ends : (w : Whose) (s : SpecSpelling) → Closes texts.Program (λ r. before_whose w (specification s r))
+spec_ends : (w : Whose) (s : SpecSpelling) → Closes (whose_kind w) (λ r. before_whose w (specification s r))
 spec_ends (own ws) s = (part_tail, record { words = ws; spec = s; parts = one_part (idle_part zero_leaf true_spec) }, refl, inr ([], refl, refl, refl))
 spec_ends (of_part ws sp None n) s =
     (fixed (Section Begin) ∷ opening a_skip zero_leaf ∷ fixed (Section EndWord) ∷ [], record { words = ws; spec = sp; parts = one_part (idle_part n s) }, refl, inl refl)
 spec_ends (of_part ws sp (Some ps) n) s =
     (fixed (Section Begin) ∷ opening a_skip zero_leaf ∷ fixed (Section EndWord) ∷ [], record { words = ws; spec = sp; parts = and_part ps (idle_part n s) }, refl, inl refl)
+spec_ends (of_line d l p) s = ([], and_line d (whole_line l p s), refl, inl refl)
 
-clause_ends : (w : Whose) (c : Clauses) (f : FormulaText) → Closes texts.Program (λ r. before_whose w (before_clause c (formula f r)))
+clause_ends : (w : Whose) (c : Clauses) (f : FormulaText) → Closes (whose_kind w) (λ r. before_whose w (before_clause c (formula f r)))
 clause_ends w to_pre f =
-    behind texts.Program (λ r. before_whose w (before_clause to_pre (formula f r))) (fixed (Section Rely) ∷ fixed (Truth true) ∷ fixed (Section Guar) ∷ fixed (Truth true) ∷ fixed (Section Post) ∷ fixed (Truth true) ∷ []) refl
+    behind (whose_kind w) (λ r. before_whose w (before_clause to_pre (formula f r))) (fixed (Section Rely) ∷ fixed (Truth true) ∷ fixed (Section Guar) ∷ fixed (Truth true) ∷ fixed (Section Post) ∷ fixed (Truth true) ∷ []) refl
     (spec_ends w (record { pre = f; rely = truth true; guar = truth true; post = truth true }))
 clause_ends w (to_rely f) g =
-    behind texts.Program (λ r. before_whose w (before_clause (to_rely f) (formula g r))) (fixed (Section Guar) ∷ fixed (Truth true) ∷ fixed (Section Post) ∷ fixed (Truth true) ∷ []) refl
+    behind (whose_kind w) (λ r. before_whose w (before_clause (to_rely f) (formula g r))) (fixed (Section Guar) ∷ fixed (Truth true) ∷ fixed (Section Post) ∷ fixed (Truth true) ∷ []) refl
     (spec_ends w (record { pre = f; rely = g; guar = truth true; post = truth true }))
 clause_ends w (to_guar f g) h =
-    behind texts.Program (λ r. before_whose w (before_clause (to_guar f g) (formula h r))) (fixed (Section Post) ∷ fixed (Truth true) ∷ []) refl
+    behind (whose_kind w) (λ r. before_whose w (before_clause (to_guar f g) (formula h r))) (fixed (Section Post) ∷ fixed (Truth true) ∷ []) refl
     (spec_ends w (record { pre = f; rely = g; guar = h; post = truth true }))
 clause_ends w (to_post f g h) k = spec_ends w (record { pre = f; rely = g; guar = h; post = k })
 
@@ -391,6 +394,23 @@ place_ends (after_assignment a p i f as_) = by_closing (place (after_assignment 
 place_ends (after_branch_guard a p i f) = by_closing (place (after_branch_guard a p i f)) (branch_guard_ends a p i f)
 place_ends (after_loop_guard a p i f) = by_closing (place (after_loop_guard a p i f)) (loop_guard_ends a p i f)
 
+-- a line is ended by the rule `basic` and by `true` as each of its formulas
+abbrev true_claims : List Lexeme
+true_claims = specification true_spec []
+
+abbrev basic_start : Leaf → Leaf → LineStart
+basic_start b n = record { begin = b; number = n; rule = Basic; rule_word = zero_leaf; statement = zero_leaf }
+
+in_lines_ends : (x : InLines) → Closes texts.Derivation (before_in_lines x)
+in_lines_ends before_lines = ([], no_line, refl, inl refl)
+in_lines_ends (line_begun d b) = (number zero_leaf ∷ fixed (Section BasicWord) ∷ number zero_leaf ∷ true_claims, and_line d (whole_line (basic_start b zero_leaf) None true_spec), refl, inl refl)
+in_lines_ends (line_numbered d b n) = (fixed (Section BasicWord) ∷ number zero_leaf ∷ true_claims, and_line d (whole_line (basic_start b n) None true_spec), refl, inl refl)
+in_lines_ends (line_ruled d b n x w) =
+    (number zero_leaf ∷ true_claims, and_line d (whole_line (record { begin = b; number = n; rule = x; rule_word = w; statement = zero_leaf }) None true_spec), refl, inl refl)
+in_lines_ends (after_statement d l) = (true_claims, and_line d (whole_line l None true_spec), refl, inl refl)
+in_lines_ends (after_from d l) = (number zero_leaf ∷ true_claims, and_line d (whole_line l (Some (one_premise zero_leaf)) true_spec), refl, inl refl)
+in_lines_ends (after_premise d l ps) = (true_claims, and_line d (whole_line l (Some ps) true_spec), refl, inl refl)
+
 pub state_ends : (s : State) → WellState s → StateEnds s
 state_ends (hole fs) w = by_closing (hole fs) (hole_ends fs (ends fs w))
 state_ends (at fs p) w = by_closing (at fs p) (part_ends fs (ends fs w.1) p w.0)
@@ -398,6 +418,7 @@ state_ends (done o f) w = by_closing (done o f) (done_ends o f w)
 state_ends (head b h) w = head_ends b h
 state_ends (set x) w = set_ends x
 state_ends (place x) w = place_ends x
+state_ends (in_lines x) w = by_closing (in_lines x) (in_lines_ends x)
 
 -- the machine has taken a whole text where it may end
 pub at_end : (s : State) → WellState s → is_at_end (state_points s) ≡ true → IsText (state_kind s) (tokens s [])
@@ -423,4 +444,12 @@ at_end (set (after_settings (for_move ms n) ss)) w h = (and_move ms n ss, refl)
 at_end (set before_moves) w h = (no_move, refl)
 at_end (set _) w h = cc
 at_end (place (after_part ws sp ps)) w h = (record { words = ws; spec = sp; parts = ps }, refl)
+at_end (place (after_clause (of_line d l p) (to_post f g k) x)) w h = (and_line d (whole_line l p (record { pre = f; rely = g; guar = k; post = x })), refl)
+at_end (place (after_clause (own ws) (to_post f g k) x)) w h = cc
+at_end (place (after_clause (of_part ws sp ps n) (to_post f g k) x)) w h = cc
+at_end (place (after_clause o to_pre x)) w h = cc
+at_end (place (after_clause o (to_rely f) x)) w h = cc
+at_end (place (after_clause o (to_guar f g) x)) w h = cc
 at_end (place _) w h = cc
+at_end (in_lines before_lines) w h = (no_line, refl)
+at_end (in_lines _) w h = cc

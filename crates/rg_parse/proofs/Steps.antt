@@ -3,14 +3,14 @@ use Rattle.std.proofs.Common.{◌≡◌, Bool, true, false, ◌||◌, ◌&&◌, 
 use Rattle.rg_text.specs.declared.kind.Kind.{Kind}
 use Rattle.rg_parse.specs.declared.point.Point.{Point}
 use Rattle.rg_parse.specs.declared.point.Point.TheVariants.{AfterWord, AfterPart, AfterAssignment, Settings, AfterClaim, AfterAwaitGuard, AwaitTarget, AfterLoopGuard, Item}
-use Rattle.rg_parse.specs.declared.point.Owner.TheVariants.{Program, Part}
+use Rattle.rg_parse.specs.declared.point.Owner.TheVariants.{Program, Part, Line as LineOwner}
 use Rattle.rg_parse.specs.declared.point.Clause.TheVariants.{Pre, Rely, Guar, Post}
 use Rattle.rg_parse.specs.declared.point.Block.TheVariants.{Loop}
 use Rattle.rg_text.specs.declared.kind.Kind.TheVariants.{Name, Fixed}
 use Rattle.rg_text.specs.declared.kind.Terminal.TheVariants.{If, Section}
-use Rattle.rg_text.specs.declared.kind.Keyword.TheVariants.{Skip, Await, While, Do}
+use Rattle.rg_text.specs.declared.kind.Keyword.TheVariants.{Skip, Await, While, Line, Do}
 use Rattle.rg_parse.specs.Grammar.{Lexeme, fixed, kind_of}
-use Rattle.rg_parse.specs.Machine.{next, run, allowed, limited, is_shallow, has_room, is_opener, is_join, begins_word, begins_part, is_semicolon, is_do, has_room_at}
+use Rattle.rg_parse.specs.Machine.{next, run, allowed, limited, is_shallow, has_room, is_opener, is_join, begins_word, begins_part, begins_line, is_semicolon, is_do, has_room_at}
 
 abbrev pub kinds : List Lexeme → List Kind
 kinds tokens = map kind_of tokens
@@ -26,12 +26,13 @@ not_true : (a : Bool) → not a ≡ true → a ≡ false
 not_true true h = cc
 not_true false h = refl
 
--- each keyword that begins a statement has its text and line
+-- each keyword that begins a statement or a line has its text and line
 abbrev pub is_written : Lexeme → Bool
 is_written (fixed If) = false
 is_written (fixed (Section Skip)) = false
 is_written (fixed (Section Await)) = false
 is_written (fixed (Section While)) = false
+is_written (fixed (Section Line)) = false
 is_written _ = true
 
 abbrev pub written : List Lexeme → Bool
@@ -40,7 +41,7 @@ written (l ∷ ls) = is_written l && written ls
 
 -- tokens that open nothing, go on with no list and begin no item of one, so that no limit is met
 abbrev pub is_calm : Kind → Bool
-is_calm k = not (is_opener k) && (not (is_join k) && (not (begins_word k) && (not (begins_part k) && not (is_semicolon k))))
+is_calm k = not (is_opener k) && (not (is_join k) && (not (begins_word k) && (not (begins_part k) && (not (begins_line k) && not (is_semicolon k)))))
 
 abbrev pub is_name : Kind → Bool
 is_name Name = true
@@ -95,11 +96,12 @@ fewer_limits (k ∷ ks) ps qs h = go (is_shallow ps k) (has_room ps k) (next ps 
     go a false o ih h = cc
     go false true o ih h = cc
 
-has_room_calm : (p : Point) (k : Kind) → begins_word k ≡ false → begins_part k ≡ false → is_semicolon k ≡ false → has_room_at p k ≡ true
-has_room_calm (AfterWord b n) k g h e = rw g refl
-has_room_calm (AfterPart n) k g h e = rw h refl
-has_room_calm (AfterAssignment b n) k g h e = rw e refl
-has_room_calm _ k g h e = refl
+has_room_calm : (p : Point) (k : Kind) → begins_word k ≡ false → begins_part k ≡ false → begins_line k ≡ false → is_semicolon k ≡ false → has_room_at p k ≡ true
+has_room_calm (AfterWord b n) k g h d e = rw g refl
+has_room_calm (AfterPart n) k g h d e = rw h refl
+has_room_calm (AfterClaim c o) k g h d e = rw d refl
+has_room_calm (AfterAssignment b n) k g h d e = rw e refl
+has_room_calm _ k g h d e = refl
 
 allowed_calm : (lists : Bool) (ps : List Point) (k : Kind) → is_calm k ≡ true → allowed lists ps k ≡ true
 allowed_calm lists [] k h = refl
@@ -107,8 +109,9 @@ allowed_calm lists (p ∷ ps) k h =
     let a = and_both (not (is_opener k)) _ h in
     let b = and_both (not (is_join k)) _ a.1 in
     let c = and_both (not (begins_word k)) _ b.1 in
-    let d = and_both (not (begins_part k)) (not (is_semicolon k)) c.1 in
-    free (is_opener k) (is_join k) (has_room_at p k) _ _ (not_true (is_opener k) a.0) (not_true (is_join k) b.0) (has_room_calm p k (not_true (begins_word k) c.0) (not_true (begins_part k) d.0) (not_true (is_semicolon k) d.1))
+    let d = and_both (not (begins_part k)) _ c.1 in
+    let e = and_both (not (begins_line k)) (not (is_semicolon k)) d.1 in
+    free (is_opener k) (is_join k) (has_room_at p k) _ _ (not_true (is_opener k) a.0) (not_true (is_join k) b.0) (has_room_calm p k (not_true (begins_word k) c.0) (not_true (begins_part k) d.0) (not_true (begins_line k) e.0) (not_true (is_semicolon k) e.1))
   where
     free : (o j r x y : Bool) → o ≡ false → j ≡ false → r ≡ true → ((r || not lists) && cond o x (cond j y true)) ≡ true
     free o j r x y e f g = rw (e, f, g) refl
@@ -125,6 +128,7 @@ do_room (AfterClaim Rely o ∷ ps) qs (Fixed (Section Do)) d h x = cc
 do_room (AfterClaim Guar o ∷ ps) qs (Fixed (Section Do)) d h x = cc
 do_room (AfterClaim Post Program ∷ ps) qs (Fixed (Section Do)) d h x = cc
 do_room (AfterClaim Post (Part n) ∷ ps) qs (Fixed (Section Do)) d h x = cc
+do_room (AfterClaim Post (LineOwner n) ∷ ps) qs (Fixed (Section Do)) d h x = cc
 do_room (_ ∷ ps) qs (Fixed (Section Do)) d h x = cc
 do_room (p ∷ ps) qs _ d h x = cc
 

@@ -1,31 +1,33 @@
 -- The machine with limits reads each way to write a text that is within them, and stops in each other.
 use Rattle.std.proofs.Common.{◌≡◌, ℕ, suc, ◌+◌, ◌≤◌, min, Bool, true, false, ◌&&◌, ◌||◌, not, ltb, cond, length, arith, List, [], ◌∷◌, Option, Some, None, refl, sym, ap, ◌∙◌}
-use Rattle.rg_words.specs.declared.limits.TheConstants.{MOST_OPENERS, MOST_OPERANDS, MOST_WORDS, MOST_PARTS, MOST_ASSIGNMENTS}
+use Rattle.rg_words.specs.declared.limits.TheConstants.{MOST_OPENERS, MOST_OPERANDS, MOST_WORDS, MOST_PARTS, MOST_ASSIGNMENTS, MOST_DERIVATION_LINES}
 use Rattle.rg_text.specs.Text.{Leaf}
 use Rattle.rg_text.specs.declared.kind.Kind.{Kind}
 use Rattle.rg_text.specs.declared.kind.Kind.TheVariants.{Name, Primed, Number, Fixed}
 use Rattle.rg_text.specs.declared.kind.Terminal.TheVariants.{Open, Close, Colon, Semicolon, Assign, Show, Section, Compare, Operate, ShiftBy, Join, Imply, Truth, Not, Inv, If, Then, Else}
 use Rattle.rg_text.specs.declared.kind.Junction.{Junction}
 use Rattle.rg_text.specs.declared.kind.Keyword.TheVariants.{At, Pre, Rely, Guar, Post, Part, Begin, End as EndWord, Do}
+use Rattle.rg_tree.specs.declared.line.Rule.{Rule}
+use Rattle.rg_tree.specs.declared.line.Rule.TheVariants as rules
 use Rattle.rg_parse.specs.declared.point.TextKind.{TextKind}
 use Rattle.rg_parse.specs.declared.point.TextKind.TheVariants as texts
 use Rattle.rg_parse.specs.declared.point.Sort.TheVariants.{Formula, Expression}
 use Rattle.rg_parse.specs.declared.point.Sorts.{Sorts}
 use Rattle.rg_parse.specs.declared.point.Point.{Point}
-use Rattle.rg_parse.specs.declared.point.Point.TheVariants.{Negated, Inverted, First, Next, Second, Right, Chosen, Condition, Consequent, Alternative, AfterExpression, AfterNext, Count, Whole, WordsStart, FirstWord, AfterWord, Settings, BeforeMoves, Claim, AfterClaim, AfterPart, Item, AfterItem, Value, AwaitGuard, AwaitTarget, AwaitValue, AfterAssignment, BranchGuard, LoopGuard}
+use Rattle.rg_parse.specs.declared.point.Point.TheVariants.{Negated, Inverted, First, Next, Second, Right, Chosen, Condition, Consequent, Alternative, AfterExpression, AfterNext, Count, Whole, WordsStart, FirstWord, AfterWord, Settings, BeforeMoves, Claim, AfterClaim, AfterPart, Item, AfterItem, Value, AwaitGuard, AwaitTarget, AwaitValue, AfterAssignment, BranchGuard, LoopGuard, BeforeLines, LineRule, LineStatement, AfterStatement, AfterPremise}
 use Rattle.rg_parse.specs.declared.point.Owner.{Owner}
 use Rattle.rg_parse.specs.declared.point.Owner.TheVariants as owners
 use Rattle.rg_parse.specs.declared.point.Clause.TheVariants as clauses
 use Rattle.rg_parse.specs.declared.point.Block.{Block}
 use Rattle.rg_parse.specs.declared.point.Block.TheVariants as blocks
-use Rattle.rg_parse.specs.Grammar.{Lexeme, fixed, name, number, WordsText, one, more, SettingsText, no_setting, and_setting, MovesText, no_move, and_move, settings, moves, a_setting, AssignmentsText, one_assignment, and_assignment, StatementText, BlockText, skipping, assigning, awaiting, branching, looping, one_statement, and_statement, SpecSpelling, PartSpelling, PartsText, one_part, and_part, an_assignment, assignments, statement, block, a_part, parts, specification, Spelling, marked, declaration, words, spelled, FormulaText, ChainText, ExpressionText, truth, negation, junction, conditional, comparison, pair, longer, numeral, word, next_word, inverse, operation, shift, choice, formula, chain, expression}
-use Rattle.rg_parse.specs.Machine.{start, takes, complete, one_more, has_room_at, limited}
+use Rattle.rg_parse.specs.Grammar.{Lexeme, fixed, opening, a_line, name, number, lexeme_as, PremisesText, one_premise, and_premise, DerivationText, no_line, and_line, rule_terminal, some_premises, premises, a_derived_line, derivation, WordsText, one, more, SettingsText, no_setting, and_setting, MovesText, no_move, and_move, settings, moves, a_setting, AssignmentsText, one_assignment, and_assignment, StatementText, BlockText, skipping, assigning, awaiting, branching, looping, one_statement, and_statement, SpecSpelling, PartSpelling, PartsText, one_part, and_part, an_assignment, assignments, statement, block, a_part, parts, specification, Spelling, marked, declaration, words, spelled, FormulaText, ChainText, ExpressionText, truth, negation, junction, conditional, comparison, pair, longer, numeral, word, next_word, inverse, operation, shift, choice, formula, chain, expression}
+use Rattle.rg_parse.specs.Machine.{start, takes, complete, one_more, one_more_line, has_room_at, limited}
 use Rattle.rg_words.specs.declared.operators.Comparison.{Comparison}
 use Rattle.rg_words.specs.declared.operators.Operator.{Operator}
 use Rattle.rg_words.specs.declared.operators.Shift.{Shift}
 use Rattle.std.proofs.lemmas.Bool.Decides.{nat_tests}
-use Rattle.rg_parse.specs.Limits.{operand_count, formula_fits, chain_fits, expression_fits, word_count, assignment_count, part_count, assignments_fit, statement_fits, block_fits, specification_fits, part_fits, parts_fit, IsShallow, IsShort}
-use Rattle.rg_parse.proofs.Spellings.{count_of, count_of_words, same_self, open_or, count_of_assignments, count_of_parts, clauses_of, moves_end, last_point}
+use Rattle.rg_parse.specs.Limits.{operand_count, formula_fits, chain_fits, expression_fits, word_count, assignment_count, part_count, assignments_fit, statement_fits, block_fits, specification_fits, part_fits, parts_fit, lines_fit, line_count, IsShallow, IsShort}
+use Rattle.rg_parse.proofs.Spellings.{count_of, count_of_words, same_self, open_or, count_of_assignments, count_of_parts, clauses_of, moves_end, count_of_lines, lines_end, last_point}
 use Rattle.rg_parse.proofs.Steps.{kinds, and_both}
 
 -- the same, if the test holds
@@ -88,12 +90,14 @@ room_formula : (p : Point) (k : Kind) → (takes p).formula ≡ true → has_roo
 room_formula (AfterWord b n) k h = cc
 room_formula (AfterPart n) k h = cc
 room_formula (AfterAssignment b n) k h = cc
+room_formula (AfterClaim c o) k h = cc
 room_formula _ k h = refl
 
 room_expression : (p : Point) (k : Kind) → (takes p).expression ≡ true → has_room_at p k ≡ true
 room_expression (AfterWord b n) k h = cc
 room_expression (AfterPart n) k h = cc
 room_expression (AfterAssignment b n) k h = cc
+room_expression (AfterClaim c o) k h = cc
 room_expression _ k h = refl
 
 mutual
@@ -226,6 +230,54 @@ fits_parts lists (and_part qs p) r =
     fits_parts lists qs (a_part p r)
     ∙ both _ _ _ _ (on_part lists qs (kinds (clauses_of p.spec (fixed (Section Begin) ∷ block p.body (fixed (Section EndWord) ∷ r)))) ∙ both _ _ _ _ (fits_part lists (one_more (count_of_parts qs)) p r))
 
+-- the lines are counted up to 65,535
+min_more_line : (n : ℕ) → one_more_line (min n 65535) ≡ min (n + 1) 65535
+min_more_line n = omega arith
+
+capped_lines : (d : DerivationText) → count_of_lines d ≡ min (line_count d) 65535
+capped_lines no_line = refl
+capped_lines (and_line d l) = ap one_more_line (capped_lines d) ∙ min_more_line (line_count d)
+
+few_lines : (n : ℕ) → ltb (min n 65535) MOST_DERIVATION_LINES ≡ ltb n MOST_DERIVATION_LINES
+few_lines n = grind (arith, nat_tests)
+
+on_line : (lists : Bool) (d : DerivationText) (b n : Leaf) (r : List Lexeme) → limited lists (lines_end d ∷ []) (kinds (opening a_line b ∷ number n ∷ r)) ≡ also (ltb (line_count d) MOST_DERIVATION_LINES || not lists) (limited lists (LineRule (one_more_line (count_of_lines d)) ∷ []) (kinds r))
+on_line lists no_line b n r = refl
+on_line lists (and_line d l) b n r =
+    with_test lists _ _ _ (ap (λ n. ltb n MOST_DERIVATION_LINES) (capped_lines (and_line d l)) ∙ few_lines (line_count d + 1))
+
+fits_rule : (lists : Bool) (x : Rule) (w : Leaf) (n : ℕ) (r : List Lexeme) → limited lists (LineRule n ∷ []) (kinds (lexeme_as (Fixed (rule_terminal x)) w ∷ r)) ≡ limited lists (LineStatement n ∷ []) (kinds r)
+fits_rule lists rules.Basic w n r = refl
+fits_rule lists rules.Atomic w n r = refl
+fits_rule lists rules.Seq w n r = refl
+fits_rule lists rules.If w n r = refl
+fits_rule lists rules.Loop w n r = refl
+fits_rule lists rules.Conseq w n r = refl
+
+fits_premises : (lists : Bool) (ps : PremisesText) (n : ℕ) (r : List Lexeme) → limited lists (AfterStatement n ∷ []) (kinds (some_premises ps r)) ≡ limited lists (AfterPremise n ∷ []) (kinds r)
+fits_premises lists (one_premise l) n r = refl
+fits_premises lists (and_premise ps l) n r = fits_premises lists ps n (number l ∷ r)
+
+fits_to_pre : (lists : Bool) (p : Option PremisesText) (s : SpecSpelling) (n : ℕ) (r : List Lexeme) → limited lists (AfterStatement n ∷ []) (kinds (premises p (specification s r))) ≡ limited lists (Claim clauses.Pre (owners.Line n) ∷ []) (kinds (clauses_of s r))
+fits_to_pre lists None s n r = refl
+fits_to_pre lists (Some ps) s n r = fits_premises lists ps n (specification s r)
+
+-- where lists are asked about, each line is one of the first 20,000
+abbrev derivation_fits : Bool → DerivationText → Bool
+derivation_fits lists no_line = true
+derivation_fits lists (and_line d l) =
+    derivation_fits lists d && ((ltb (line_count d) MOST_DERIVATION_LINES || not lists) && specification_fits l.spec)
+
+fits_lines : (lists : Bool) (d : DerivationText) (r : List Lexeme) → limited lists (BeforeLines ∷ []) (kinds (derivation d r)) ≡ also (derivation_fits lists d) (limited lists (lines_end d ∷ []) (kinds r))
+fits_lines lists no_line r = refl
+fits_lines lists (and_line d l) r =
+    let n = one_more_line (count_of_lines d) in
+    fits_lines lists d (a_derived_line l r)
+    ∙ both _ _ _ _ (on_line lists d l.begin l.number (lexeme_as (Fixed (rule_terminal l.rule)) l.rule_word ∷ number l.statement ∷ premises l.premises (specification l.spec r))
+    ∙ both _ _ _ _ (fits_rule lists l.rule l.rule_word n (number l.statement ∷ premises l.premises (specification l.spec r))
+    ∙ fits_to_pre lists l.premises l.spec n r
+    ∙ fits_clauses lists l.spec (owners.Line n) r))
+
 -- what is within the limits of lists too is within those of depth
 all_true : (a b : Bool) → a ≡ true → b ≡ true → (a && b) ≡ true
 all_true a b g h = rw (g, h) refl
@@ -279,6 +331,39 @@ parts_shallow lists (and_part qs p) h =
     let f = and_both (parts_fit lists qs) ((room || not lists) && part_fits lists p) h in
     all_true (parts_fit false qs) ((room || true) && part_fits false p) (parts_shallow lists qs f.0) (unasked room (part_fits false p) (part_shallow lists p (and_both (room || not lists) (part_fits lists p) f.1).1))
 
+lines_shallow : (lists : Bool) (d : DerivationText) → derivation_fits lists d ≡ true → lines_fit d ≡ true
+lines_shallow lists no_line h = refl
+lines_shallow lists (and_line d l) h =
+    let room = ltb (line_count d) MOST_DERIVATION_LINES || not lists in
+    let f = and_both (derivation_fits lists d) (room && specification_fits l.spec) h in
+    all_true (lines_fit d) (specification_fits l.spec) (lines_shallow lists d f.0) (and_both room (specification_fits l.spec) f.1).1
+
+within_most : (n : ℕ) → ltb n MOST_DERIVATION_LINES ≡ true → n + 1 ≤ MOST_DERIVATION_LINES
+within_most n h = grind (arith, nat_tests)
+
+before_most : (n : ℕ) → n + 1 ≤ MOST_DERIVATION_LINES → ltb n MOST_DERIVATION_LINES ≡ true
+before_most n h = grind (arith, nat_tests)
+
+short_lines : (d : DerivationText) → derivation_fits true d ≡ true → line_count d ≤ MOST_DERIVATION_LINES
+short_lines no_line h = omega arith
+short_lines (and_line d l) h =
+    let room = ltb (line_count d) MOST_DERIVATION_LINES in
+    let f = and_both (derivation_fits true d) ((room || false) && specification_fits l.spec) h in
+    within_most (line_count d) (or_false room (and_both (room || false) (specification_fits l.spec) f.1).0)
+
+lines_unasked : (d : DerivationText) → lines_fit d ≡ true → derivation_fits false d ≡ true
+lines_unasked no_line h = refl
+lines_unasked (and_line d l) h =
+    let room = ltb (line_count d) MOST_DERIVATION_LINES in
+    let f = and_both (lines_fit d) (specification_fits l.spec) h in
+    all_true (derivation_fits false d) ((room || true) && specification_fits l.spec) (lines_unasked d f.0) (unasked room (specification_fits l.spec) f.1)
+
+lines_within : (d : DerivationText) → lines_fit d ≡ true → line_count d ≤ MOST_DERIVATION_LINES → derivation_fits true d ≡ true
+lines_within no_line h short = refl
+lines_within (and_line d l) h short =
+    let f = and_both (lines_fit d) (specification_fits l.spec) h in
+    rw (lines_within d f.0 (omega (arith, short)), before_most (line_count d) short, f.1) refl
+
 -- whether a text is within the limits of depth, and where lists are asked about those of lists too
 abbrev pub fits : Bool → (k : TextKind) → Spelling k → Bool
 fits lists texts.Formula f = formula_fits 0 f
@@ -286,6 +371,7 @@ fits lists texts.Show s = words_short lists s.words && formula_fits 0 s.formula
 fits lists texts.Start ss = true
 fits lists texts.Moves ms = true
 fits lists texts.Program p = words_short lists p.words && (specification_fits p.spec && parts_fit lists p.parts)
+fits lists texts.Derivation d = derivation_fits lists d
 
 pub fits_text : (lists : Bool) (k : TextKind) (s : Spelling k) → limited lists (start k) (kinds (spelled k s [])) ≡ also (fits lists k s) (Some (last_point k s ∷ []))
 fits_text lists texts.Formula f = fits_formula lists f Whole [] [] refl
@@ -295,6 +381,7 @@ fits_text lists texts.Moves ms = fits_moves lists ms []
 fits_text lists texts.Program p =
     fits_words lists true p.words (specification p.spec (parts p.parts []))
     ∙ both _ _ _ _ (fits_clauses lists p.spec owners.Program (parts p.parts []) ∙ both _ _ _ _ (fits_parts lists p.parts []))
+fits_text lists texts.Derivation d = fits_lines lists d []
 
 -- what the test says of a text
 long_enough : (n : ℕ) → ltb (min n 255) MOST_WORDS ≡ true → n + 1 ≤ MOST_WORDS
@@ -324,6 +411,7 @@ fits_shallow lists texts.Moves ms h = tt
 fits_shallow lists texts.Program p h =
     let f = and_both (specification_fits p.spec) (parts_fit lists p.parts) (and_both (words_short lists p.words) _ h).1 in
     all_true (specification_fits p.spec) (parts_fit false p.parts) f.0 (parts_shallow lists p.parts f.1)
+fits_shallow lists texts.Derivation d h = lines_shallow lists d h
 
 pub fits_short : (k : TextKind) (s : Spelling k) → fits true k s ≡ true → IsShort k s
 fits_short texts.Formula f h = tt
@@ -333,6 +421,7 @@ fits_short texts.Moves ms h = tt
 fits_short texts.Program p h =
     let f = and_both (words_short true p.words) _ h in
     (short_words p.words f.0, (and_both (specification_fits p.spec) (parts_fit true p.parts) f.1).1)
+fits_short texts.Derivation d h = short_lines d h
 
 pub shallow_fits : (k : TextKind) (s : Spelling k) → IsShallow k s → fits false k s ≡ true
 shallow_fits texts.Formula f h = h
@@ -340,6 +429,7 @@ shallow_fits texts.Show s h = rw (words_unasked s.words) h
 shallow_fits texts.Start ss h = refl
 shallow_fits texts.Moves ms h = refl
 shallow_fits texts.Program p h = rw (words_unasked p.words) h
+shallow_fits texts.Derivation d h = lines_unasked d h
 
 pub within_fits : (k : TextKind) (s : Spelling k) → IsShallow k s → IsShort k s → fits true k s ≡ true
 within_fits texts.Formula f h short = h
@@ -348,3 +438,4 @@ within_fits texts.Start ss h short = refl
 within_fits texts.Moves ms h short = refl
 within_fits texts.Program p h short =
     rw (words_are_short p.words short.0, (and_both (specification_fits p.spec) (parts_fit false p.parts) h).0, short.1) refl
+within_fits texts.Derivation d h short = lines_within d h short

@@ -1,5 +1,6 @@
 -- What has been read, with its parts: each place of the machine knows the tokens before it.
 use Rattle.std.proofs.Common.{◌≡◌, ℕ, Bool, true, false, ◌||◌, List, [], ◌∷◌, Option, Some, None, refl}
+use Rattle.rg_text.specs.declared.kind.Kind.TheVariants.{Fixed}
 use Rattle.rg_text.specs.declared.kind.Terminal.TheVariants.{Open, Colon, Semicolon, Assign, Words, Show, Section, Compare, Operate, ShiftBy, Join, Imply, Not, Inv, Then, Else}
 use Rattle.rg_words.specs.declared.operators.Comparison.{Comparison}
 use Rattle.rg_words.specs.declared.operators.Operator.{Operator}
@@ -8,23 +9,24 @@ use Rattle.rg_text.specs.Text.{Leaf}
 use Rattle.rg_text.specs.declared.kind.Junction.{Junction}
 use Rattle.rg_text.specs.declared.kind.Conditional.{Conditional}
 use Rattle.rg_text.specs.declared.kind.Keyword.TheVariants as keywords
+use Rattle.rg_tree.specs.declared.line.Rule.{Rule}
 use Rattle.rg_parse.specs.Syntax.{DeclaredWord}
 use Rattle.rg_parse.specs.declared.point.TextKind.{TextKind}
 use Rattle.rg_parse.specs.declared.point.TextKind.TheVariants as texts
 use Rattle.rg_parse.specs.declared.point.Sort.TheVariants.{Formula, Expression}
 use Rattle.rg_parse.specs.declared.point.Sorts.{Sorts}
 use Rattle.rg_parse.specs.declared.point.Point.{Point}
-use Rattle.rg_parse.specs.declared.point.Point.TheVariants.{Whole, Negated, Inverted, First, Next, Second, Right, Chosen, Condition, Consequent, Alternative, End, AfterFormula, AfterExpression, AfterNext, Count, Closing, AfterCondition, AfterConsequent, WordsStart, FirstWord, FixedWord, NamedWord, WordWidth, AfterWord, Settings, SettingWord, SettingValue, BeforeMoves, MoveNumber, Claim, AfterClaim, PartName, NamedPart, AfterPart, Item, AfterItem, Target, Value, AwaitGuard, AfterAwaitGuard, AwaitTarget, AwaitName, AwaitValue, AfterAssignment, BranchGuard, AfterBranchGuard, LoopGuard, AfterLoopGuard}
+use Rattle.rg_parse.specs.declared.point.Point.TheVariants.{Whole, Negated, Inverted, First, Next, Second, Right, Chosen, Condition, Consequent, Alternative, End, AfterFormula, AfterExpression, AfterNext, Count, Closing, AfterCondition, AfterConsequent, WordsStart, FirstWord, FixedWord, NamedWord, WordWidth, AfterWord, Settings, SettingWord, SettingValue, BeforeMoves, MoveNumber, Claim, AfterClaim, PartName, NamedPart, AfterPart, Item, AfterItem, Target, Value, AwaitGuard, AfterAwaitGuard, AwaitTarget, AwaitName, AwaitValue, AfterAssignment, BranchGuard, AfterBranchGuard, LoopGuard, AfterLoopGuard, BeforeLines, LineNumber, LineRule, LineStatement, AfterStatement, FirstPremise, AfterPremise}
 use Rattle.rg_parse.specs.declared.point.Owner.{Owner}
 use Rattle.rg_parse.specs.declared.point.Owner.TheVariants as owners
 use Rattle.rg_parse.specs.declared.point.Clause.{Clause}
 use Rattle.rg_parse.specs.declared.point.Clause.TheVariants as clauses
 use Rattle.rg_parse.specs.declared.point.Block.{Block}
 use Rattle.rg_parse.specs.declared.point.Block.TheVariants as blocks
-use Rattle.rg_parse.specs.Grammar.{Lexeme, fixed, name, number, FormulaText, ChainText, ExpressionText, WordsText, negation, pair, longer, inverse, one, more, formula, chain, expression, marked, words, SettingsText, MovesText, settings, moves, opening, an_if, an_await, a_while, AssignmentsText, one_assignment, and_assignment, BlockText, assigning, one_statement, and_statement, SpecSpelling, PartsText, assignments, block, specification, parts}
+use Rattle.rg_parse.specs.Grammar.{Lexeme, fixed, name, number, FormulaText, ChainText, ExpressionText, WordsText, negation, pair, longer, inverse, one, more, formula, chain, expression, marked, words, SettingsText, MovesText, settings, moves, opening, an_if, an_await, a_while, a_line, lexeme_as, rule_terminal, PremisesText, some_premises, premises, LineSpelling, DerivationText, derivation, AssignmentsText, one_assignment, and_assignment, BlockText, assigning, one_statement, and_statement, SpecSpelling, PartsText, assignments, block, specification, parts}
 use Rattle.rg_words.specs.declared.operators.Comparison.TheVariants as comparisons
-use Rattle.rg_parse.specs.Machine.{only_formula, only_expression, takes, complete, one_more}
-use Rattle.rg_parse.proofs.Spellings.{count_of, count_of_words, count_of_assignments, count_of_parts}
+use Rattle.rg_parse.specs.Machine.{only_formula, only_expression, takes, complete, one_more, one_more_line}
+use Rattle.rg_parse.proofs.Spellings.{count_of, count_of_words, count_of_assignments, count_of_parts, count_of_lines}
 
 -- the first operands of a chain
 pub data Operands : Type 0 where
@@ -70,10 +72,22 @@ pub data Part : Type 0 where
   after_condition : Leaf → FormulaText → Part
   after_consequent : Leaf → FormulaText → ExpressionText → Part
 
--- whose specification is read: the program's own, or that of a part of this name after others
+-- a line of a derivation up to the number of its statement
+pub record LineStart : Type 0 where
+  pub begin : Leaf
+  pub number : Leaf
+  pub rule : Rule
+  pub rule_word : Leaf
+  pub statement : Leaf
+
+abbrev pub whole_line : LineStart → Option PremisesText → SpecSpelling → LineSpelling
+whole_line l p s = record { begin = l.begin; number = l.number; rule = l.rule; rule_word = l.rule_word; statement = l.statement; premises = p; spec = s }
+
+-- whose specification is read: the program's own, that of a part of this name after others, or that of a line after others
 pub data Whose : Type 0 where
   own : WordsText → Whose
   of_part : WordsText → SpecSpelling → Option PartsText → Leaf → Whose
+  of_line : DerivationText → LineStart → Option PremisesText → Whose
 
 -- the formulas of a specification that have been read
 pub data Clauses : Type 0 where
@@ -116,6 +130,16 @@ pub data Place : Type 0 where
   after_branch_guard : Around → Option BlockText → Leaf → FormulaText → Place
   after_loop_guard : Around → Option BlockText → Leaf → FormulaText → Place
 
+-- a derivation up to some token outside its specifications
+pub data InLines : Type 0 where
+  before_lines : InLines
+  line_begun : DerivationText → Leaf → InLines
+  line_numbered : DerivationText → Leaf → Leaf → InLines
+  line_ruled : DerivationText → Leaf → Leaf → Rule → Leaf → InLines
+  after_statement : DerivationText → LineStart → InLines
+  after_from : DerivationText → LineStart → InLines
+  after_premise : DerivationText → LineStart → PremisesText → InLines
+
 -- the open parts, the innermost first
 pub data Frames : Type 0 where
   bottom : Outer → Frames
@@ -154,6 +178,7 @@ pub data State : Type 0 where
   head : Bool → Head → State
   set : Set → State
   place : Place → State
+  in_lines : InLines → State
 
 -- the tokens so far, and then the rest
 abbrev pub before : Frame → List Lexeme → List Lexeme
@@ -194,9 +219,13 @@ abbrev pub before_assignment : Option AssignmentsText → List Lexeme → List L
 before_assignment None r = r
 before_assignment (Some as_) r = assignments as_ (fixed Semicolon ∷ r)
 
+abbrev pub line_start : LineStart → List Lexeme → List Lexeme
+line_start l r = opening a_line l.begin ∷ number l.number ∷ lexeme_as (Fixed (rule_terminal l.rule)) l.rule_word ∷ number l.statement ∷ r
+
 abbrev pub before_whose : Whose → List Lexeme → List Lexeme
 before_whose (own ws) r = words ws r
 before_whose (of_part ws sp ps n) r = words ws (specification sp (before_part ps (fixed (Section keywords.Part) ∷ name n ∷ r)))
+before_whose (of_line d l p) r = derivation d (line_start l (premises p r))
 
 abbrev pub before_clause : Clauses → List Lexeme → List Lexeme
 before_clause to_pre r = fixed (Section keywords.Pre) ∷ r
@@ -271,6 +300,15 @@ before_set (after_equals w ss l) r = before_setter w (settings ss (name l ∷ fi
 before_set before_moves r = r
 before_set (after_at ms) r = moves ms (fixed (Section keywords.At) ∷ r)
 
+abbrev pub before_in_lines : InLines → List Lexeme → List Lexeme
+before_in_lines before_lines r = r
+before_in_lines (line_begun d b) r = derivation d (opening a_line b ∷ r)
+before_in_lines (line_numbered d b n) r = derivation d (opening a_line b ∷ number n ∷ r)
+before_in_lines (line_ruled d b n x w) r = derivation d (opening a_line b ∷ number n ∷ lexeme_as (Fixed (rule_terminal x)) w ∷ r)
+before_in_lines (after_statement d l) r = derivation d (line_start l r)
+before_in_lines (after_from d l) r = derivation d (line_start l (fixed (Section keywords.From) ∷ r))
+before_in_lines (after_premise d l ps) r = derivation d (line_start l (some_premises ps r))
+
 abbrev pub tokens : State → List Lexeme → List Lexeme
 tokens (hole fs) r = before_all fs r
 tokens (at fs p) r = before_all fs (part p r)
@@ -278,11 +316,18 @@ tokens (done o f) r = before_outer o (formula f r)
 tokens (head b h) r = before_head h r
 tokens (set x) r = before_set x r
 tokens (place x) r = before_place x r
+tokens (in_lines x) r = before_in_lines x r
 
 -- the kind of text that is read
+abbrev pub whose_kind : Whose → TextKind
+whose_kind (own ws) = texts.Program
+whose_kind (of_part ws sp ps n) = texts.Program
+whose_kind (of_line d l p) = texts.Derivation
+
 abbrev pub outer_kind : Outer → TextKind
 outer_kind alone = texts.Formula
 outer_kind (shown ws) = texts.Show
+outer_kind (clause w c) = whose_kind w
 outer_kind _ = texts.Program
 
 abbrev pub frames_kind : Frames → TextKind
@@ -300,6 +345,10 @@ set_kind (after_equals w ss l) = setter_kind w
 set_kind before_moves = texts.Moves
 set_kind (after_at ms) = texts.Moves
 
+abbrev pub place_kind : Place → TextKind
+place_kind (after_clause w c f) = whose_kind w
+place_kind _ = texts.Program
+
 -- the kind of text that begins with words
 abbrev pub head_kind : Bool → TextKind
 head_kind true = texts.Program
@@ -311,7 +360,8 @@ state_kind (at fs p) = frames_kind fs
 state_kind (done o f) = outer_kind o
 state_kind (head b h) = head_kind b
 state_kind (set x) = set_kind x
-state_kind (place x) = texts.Program
+state_kind (place x) = place_kind x
+state_kind (in_lines x) = texts.Derivation
 
 -- the machine's place for a frame, where the frame around it takes these sorts
 abbrev pub point : Frame → Sorts → Point
@@ -335,9 +385,14 @@ abbrev pub assignments_before : Option AssignmentsText → ℕ
 assignments_before None = 0
 assignments_before (Some as_) = count_of_assignments as_
 
+-- the number of the line after these
+abbrev pub line_number : DerivationText → ℕ
+line_number d = one_more_line (count_of_lines d)
+
 abbrev pub whose_point : Whose → Owner
 whose_point (own ws) = owners.Program
 whose_point (of_part ws sp ps n) = owners.Part (part_number ps)
+whose_point (of_line d l p) = owners.Line (line_number d)
 
 abbrev pub clause_point : Clauses → Clause
 clause_point to_pre = clauses.Pre
@@ -460,6 +515,15 @@ set_point (after_equals w ss l) = SettingValue (in_move w)
 set_point before_moves = BeforeMoves
 set_point (after_at ms) = MoveNumber
 
+abbrev pub in_lines_point : InLines → Point
+in_lines_point before_lines = BeforeLines
+in_lines_point (line_begun d b) = LineNumber (line_number d)
+in_lines_point (line_numbered d b n) = LineRule (line_number d)
+in_lines_point (line_ruled d b n x w) = LineStatement (line_number d)
+in_lines_point (after_statement d l) = AfterStatement (line_number d)
+in_lines_point (after_from d l) = FirstPremise (line_number d)
+in_lines_point (after_premise d l ps) = AfterPremise (line_number d)
+
 abbrev pub state_points : State → List Point
 state_points (hole fs) = points fs
 state_points (at fs p) = part_point p (taking fs) ∷ under p (points fs)
@@ -467,6 +531,7 @@ state_points (done o f) = End ∷ []
 state_points (head b h) = head_point b h ∷ []
 state_points (set x) = set_point x ∷ []
 state_points (place x) = place_points x
+state_points (in_lines x) = in_lines_point x ∷ []
 
 -- what the frame around has to take
 abbrev pub needs : Frame → Sorts → Bool
@@ -507,6 +572,7 @@ WellState (done _ f) = ⊥
 WellState (head b h) = Unit {0}
 WellState (set x) = Unit {0}
 WellState (place x) = Unit {0}
+WellState (in_lines x) = Unit {0}
 
 -- a state of a text of this kind at these places, whose tokens are these
 pub record Reaches (k : TextKind) (text : List Lexeme → List Lexeme) (ps : List Point) : Type 0 where
@@ -516,7 +582,7 @@ pub record Reaches (k : TextKind) (text : List Lexeme → List Lexeme) (ps : Lis
   pub places : state_points state ≡ ps
   pub same : (r : List Lexeme) → tokens state r ≡ text r
 
-pub at_place : (x : Place) (text : List Lexeme → List Lexeme) (ps : List Point) → place_points x ≡ ps → ((r : List Lexeme) → before_place x r ≡ text r) → Reaches texts.Program text ps
+pub at_place : (x : Place) (text : List Lexeme → List Lexeme) (ps : List Point) → place_points x ≡ ps → ((r : List Lexeme) → before_place x r ≡ text r) → Reaches (place_kind x) text ps
 at_place x text ps e same = record { state = place x; kind = refl; well = tt; places = e; same = same }
 
 -- an item of either sort completes its frame

@@ -4,10 +4,10 @@ use Rattle.rg_text.specs.declared.kind.Terminal.{Terminal}
 use Rattle.rg_text.specs.declared.kind.Terminal.TheVariants as terminals
 use Rattle.rg_text.specs.declared.kind.Keyword.TheVariants as keywords
 use Rattle.rg_text.specs.declared.kind.Junction.{Junction}
-use Rattle.rg_parse.specs.Grammar.{Lexeme, FormulaText, ChainText, ExpressionText, WordsText, ShowSpelling, SettingsText, MovesText}
+use Rattle.rg_parse.specs.Grammar.{Lexeme, FormulaText, ChainText, ExpressionText, WordsText, ShowSpelling, SettingsText, MovesText, SpecSpelling, PremisesText, LineSpelling, DerivationText}
 use Rattle.rg_parse.specs.Grammar as grammar
 use Rattle.rg_text.specs.Text.{Leaf}
-use Rattle.rg_parse.specs.Syntax.{Term, Claim, number, word, next_word, inverse, binary, shifted, choice, truth, negation, joined, implied, compared, DeclaredWord, ShownClaim, SettingTree, MoveTree}
+use Rattle.rg_parse.specs.Syntax.{Term, Claim, number, word, next_word, inverse, binary, shifted, choice, truth, negation, joined, implied, compared, DeclaredWord, ShownClaim, SettingTree, MoveTree, SpecTree, DerivationLine}
 use Rattle.rg_parse.specs.Frames.{Piece, a_claim, a_term, Open, whole, negated, inverted, first, another, second, comparing, operating, chosen, condition, consequent, alternative, finished, after_claim, after_term, after_next, counted, closing, after_condition, after_consequent, declaring, declared, showing, finished_show, SetFor, for_start, for_move, setting_words, set_word, moving}
 
 -- the open parts, the innermost first, after a whole item; where it may not stand nothing changes
@@ -215,3 +215,31 @@ settings_of (grammar.and_setting ss s) = settings_of ss ++ s ∷ []
 abbrev pub moves_of : MovesText → List MoveTree
 moves_of grammar.no_move = []
 moves_of (grammar.and_move ms n ss) = moves_of ms ++ record { number = n; settings = settings_of ss } ∷ []
+
+-- what a way to write a specification says
+abbrev pub spec_of : SpecSpelling → SpecTree
+spec_of s = record { pre = claim_of s.pre; rely = claim_of s.rely; guar = claim_of s.guar; post = claim_of s.post }
+
+-- the premises of a line, in their order
+abbrev pub some_premises_of : PremisesText → List Leaf
+some_premises_of (grammar.one_premise n) = n ∷ []
+some_premises_of (grammar.and_premise ps n) = some_premises_of ps ++ n ∷ []
+
+abbrev pub premises_of : Option PremisesText → List Leaf
+premises_of None = []
+premises_of (Some ps) = some_premises_of ps
+
+-- what a way to write a line of a derivation says, and the lines, in their order
+abbrev pub line_of : LineSpelling → DerivationLine
+line_of l = record {
+  begin = l.begin;
+  number = l.number;
+  rule = l.rule;
+  statement = l.statement;
+  premises = premises_of l.premises;
+  spec = spec_of l.spec;
+}
+
+abbrev pub derivation_of : DerivationText → List DerivationLine
+derivation_of grammar.no_line = []
+derivation_of (grammar.and_line d l) = derivation_of d ++ line_of l ∷ []

@@ -1,5 +1,5 @@
 -- The grammar: each way to write a text, and its tokens.
-use Rattle.std.specs.Prelude.{◌≡◌, ℕ, Bool, true, false, List, [], ◌∷◌, ◌++◌}
+use Rattle.std.specs.Prelude.{◌≡◌, ℕ, Bool, true, false, List, [], ◌∷◌, ◌++◌, Option, Some, None}
 use Rattle.rg_text.specs.Text.{Leaf, leaf_of}
 use Rattle.rg_text.specs.declared.token.Token.{Token}
 use Rattle.rg_text.specs.declared.kind.Kind.{Kind}
@@ -12,20 +12,23 @@ use Rattle.rg_words.specs.declared.operators.Shift.{Shift}
 use Rattle.rg_text.specs.declared.kind.Junction.{Junction}
 use Rattle.rg_text.specs.declared.kind.Conditional.{Conditional}
 use Rattle.rg_text.specs.declared.kind.Keyword.TheVariants as keywords
+use Rattle.rg_tree.specs.declared.line.Rule.{Rule}
+use Rattle.rg_tree.specs.declared.line.Rule.TheVariants as rules
 use Rattle.rg_parse.specs.Syntax.{DeclaredWord, SettingTree}
 use Rattle.rg_words.specs.declared.operators.Comparison.TheVariants as comparisons
 use Rattle.rg_parse.specs.declared.point.TextKind.{TextKind}
 use Rattle.rg_parse.specs.declared.point.TextKind.TheVariants as texts
 
--- the keywords that begin a statement, other than as a part of one
+-- the keywords that begin a statement, other than as a part of one, or a line of a derivation
 pub data Opening : Type 0 where
   an_if : Opening
   a_skip : Opening
   an_await : Opening
   a_while : Opening
+  a_line : Opening
 
 -- a token as the grammar sees it: a keyword or symbol, or a name or number with its text and line. A keyword that begins a
--- statement has them too
+-- statement or a line has them too
 pub data Lexeme : Type 0 where
   fixed : Terminal → Lexeme
   opening : Opening → Leaf → Lexeme
@@ -38,6 +41,7 @@ terminal_of an_if = If
 terminal_of a_skip = Section keywords.Skip
 terminal_of an_await = Section keywords.Await
 terminal_of a_while = Section keywords.While
+terminal_of a_line = Section keywords.Line
 
 abbrev pub kind_of : Lexeme → Kind
 kind_of (fixed t) = Fixed t
@@ -51,6 +55,7 @@ lexeme_as (Fixed If) leaf = opening an_if leaf
 lexeme_as (Fixed (Section keywords.Skip)) leaf = opening a_skip leaf
 lexeme_as (Fixed (Section keywords.Await)) leaf = opening an_await leaf
 lexeme_as (Fixed (Section keywords.While)) leaf = opening a_while leaf
+lexeme_as (Fixed (Section keywords.Line)) leaf = opening a_line leaf
 lexeme_as (Fixed t) leaf = fixed t
 lexeme_as Name leaf = name leaf
 lexeme_as Primed leaf = primed leaf
@@ -227,6 +232,52 @@ parts (and_part ps p) rest = parts ps (a_part p rest)
 abbrev pub program : ProgramSpelling → List Lexeme → List Lexeme
 program p rest = words p.words (specification p.spec (parts p.parts rest))
 
+-- the ways to write the premises of a line, where it has some
+pub data PremisesText : Type 0 where
+  one_premise : Leaf → PremisesText
+  and_premise : PremisesText → Leaf → PremisesText
+
+-- the ways to write a line: its `line`, its own number, its rule with that word, the number of its statement, its premises and
+-- its specification
+pub record LineSpelling : Type 0 where
+  pub begin : Leaf
+  pub number : Leaf
+  pub rule : Rule
+  pub rule_word : Leaf
+  pub statement : Leaf
+  pub premises : Option PremisesText
+  pub spec : SpecSpelling
+
+-- the ways to write a derivation
+pub data DerivationText : Type 0 where
+  no_line : DerivationText
+  and_line : DerivationText → LineSpelling → DerivationText
+
+-- the word of a rule
+abbrev pub rule_terminal : Rule → Terminal
+rule_terminal rules.Basic = Section keywords.Basic
+rule_terminal rules.Atomic = Section keywords.Atomic
+rule_terminal rules.Seq = Section keywords.Seq
+rule_terminal rules.If = If
+rule_terminal rules.Loop = Section keywords.Loop
+rule_terminal rules.Conseq = Section keywords.Conseq
+
+abbrev pub some_premises : PremisesText → List Lexeme → List Lexeme
+some_premises (one_premise n) rest = fixed (Section keywords.From) ∷ number n ∷ rest
+some_premises (and_premise ps n) rest = some_premises ps (number n ∷ rest)
+
+abbrev pub premises : Option PremisesText → List Lexeme → List Lexeme
+premises None rest = rest
+premises (Some ps) rest = some_premises ps rest
+
+abbrev pub a_derived_line : LineSpelling → List Lexeme → List Lexeme
+a_derived_line l rest =
+    opening a_line l.begin ∷ number l.number ∷ lexeme_as (Fixed (rule_terminal l.rule)) l.rule_word ∷ number l.statement ∷ premises l.premises (specification l.spec rest)
+
+abbrev pub derivation : DerivationText → List Lexeme → List Lexeme
+derivation no_line rest = rest
+derivation (and_line d l) rest = derivation d (a_derived_line l rest)
+
 -- the ways to write a text of this kind
 abbrev pub Spelling : TextKind → Type 0
 Spelling texts.Formula = FormulaText
@@ -234,6 +285,7 @@ Spelling texts.Show = ShowSpelling
 Spelling texts.Start = SettingsText
 Spelling texts.Moves = MovesText
 Spelling texts.Program = ProgramSpelling
+Spelling texts.Derivation = DerivationText
 
 -- its tokens, and then the rest
 abbrev pub spelled : (k : TextKind) → Spelling k → List Lexeme → List Lexeme
@@ -242,6 +294,7 @@ spelled texts.Show s rest = show s rest
 spelled texts.Start ss rest = settings ss rest
 spelled texts.Moves ms rest = moves ms rest
 spelled texts.Program p rest = program p rest
+spelled texts.Derivation d rest = derivation d rest
 
 -- the tokens spell a text of this kind
 abbrev pub IsText : TextKind → List Lexeme → Type 0

@@ -1,4 +1,5 @@
 pub mod Build
+pub mod BuildLines
 pub mod Frames
 pub mod Grammar
 pub mod Limits

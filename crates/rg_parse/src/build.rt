@@ -310,7 +310,7 @@ fn take_number(alloc: Global, frames: &mut Vec<Frame>, token: Token) -> Result<(
 }
 
 /// Takes one token.
-fn take_token(alloc: Global, frames: &mut Vec<Frame>, token: Token) -> Result<(), AllocError>
+pub fn take_token(alloc: Global, frames: &mut Vec<Frame>, token: Token) -> Result<(), AllocError>
     ensures { (src : List ℕ) → OnOk result (map (open_of src) (reverse frames.new.items)
         ≡ step (map (open_of src) (reverse frames.old.items)) (lexeme_of src token)) }
 {
@@ -378,7 +378,7 @@ pub fn build_moves(alloc: Global, tokens: &[Token]) -> Result<Option<Vec<MoveTex
 }
 
 /// The formula, where nothing else is open.
-fn take_whole(frames: &mut Vec<Frame>) -> Option<Formula>
+pub fn take_whole(frames: &mut Vec<Frame>) -> Option<Formula>
     ensures { (src : List ℕ) → option_map (claim src) result
         ≡ whole_of (map (open_of src) (reverse frames.old.items)) }
 {

@@ -3,7 +3,9 @@
 
 mod build;
 pub mod declare;
+mod derivation;
 pub mod inputs;
+mod kinds;
 pub mod parse;
 mod point;
 pub mod printed;

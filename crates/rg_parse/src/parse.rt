@@ -4,12 +4,13 @@ ghost use Rattle.std.specs.Prelude.{◌≡◌, ◌-◌, ℕ, List, map, length, 
 ghost use Rattle.rg_words.specs.Refusals.{no_memory};
 ghost use Rattle.rg_parse.specs.Grammar.{lexeme_of};
 ghost use Rattle.rg_parse.specs.Limits.{IsTextWithin};
-ghost use Rattle.rg_parse.specs.Parse.{ParseFormulaIs, ParseShowIs, ParseStartIs, ParseMovesIs, IsShapeRefusal, OneFormula, OneShow, OneStart, OneMoves, refusal_of, unexpected_in, line_at, last_line};
+ghost use Rattle.rg_parse.specs.Parse.{ParseFormulaIs, ParseShowIs, ParseStartIs, ParseMovesIs, ParseDerivationIs, IsShapeRefusal, OneFormula, OneShow, OneStart, OneMoves, OneDerivation, refusal_of, unexpected_in, line_at, last_line};
 
 use crate::build::{build_formula, build_moves, build_show, build_start};
+use crate::derivation::build_derivation;
 use crate::point::TextKind;
 use crate::shape::{ShapeFault, shape};
-use crate::syntax::{Formula, MoveText, Setting, ShowText};
+use crate::syntax::{Formula, LineText, MoveText, Setting, ShowText};
 use rg_text::token::Token;
 use rg_words::{Place, Refusal, RefusalNumber, SourceFile};
 use std::alloc::Global;
@@ -104,12 +105,40 @@ pub fn parse_moves(
     }
 }
 
+/// The lines of a derivation, which may be none.
+///
+/// # Errors
+///
+/// The first token, in their order, that is
+///
+/// - `UnexpectedInDerivation` (`Unexpected` in another file): the tokens up to it begin no
+///   derivation;
+/// - `Depth`: an opener inside 200 others, or the connective before a 65th operand of a chain. The
+///   `if` that names a rule opens nothing;
+/// - `Limit`: the `line` of a 20,001st line;
+///
+/// at its line. Then `Unfinished`, at the line of the last token, where the tokens end too early.
+/// `Memory` where memory is refused.
+pub fn parse_derivation(
+    alloc: Global,
+    file: SourceFile,
+    tokens: &[Token],
+) -> Result<Vec<LineText>, Refusal>
+    ensures answers { (src : List ℕ) → ParseDerivationIs file src tokens.now result }
+    ensures accepts { (src : List ℕ) → IsTextWithin TextKind.Derivation (map (lexeme_of src) tokens.now) → IfErr result (λ e. e ≡ no_memory) }
+{
+    check_shape(alloc, TextKind::Derivation, file, tokens)?;
+    let lines = build_derivation(alloc, tokens)?;
+    Ok(lines)
+}
+
 /// The same tokens say one thing: two spellings of them have one tree.
 pub fn one_tree()
     ensures formula { OneFormula }
     ensures show { OneShow }
     ensures start { OneStart }
     ensures moves { OneMoves }
+    ensures derivation { OneDerivation }
 {}
 
 /// Refuses the first fault of shape.

@@ -1,10 +1,13 @@
 //! Where a parse stands: what has been read of each open part of the text.
 
 ghost use Rattle.std.specs.Prelude.{◌≡◌, ◌∷◌, []};
-ghost use Rattle.rg_parse.specs.Machine.{has, start, takes, is_prefix, resume, turn, at_compare, at_operate, at_shift, at_join, at_imply, at_close, at_if, at_then, at_else, at_number, at_name, at_colon, at_words, at_show, at_semicolon, at_assign, at_section, after_word, after_claim, after_specification, at_statement, block_end, after_statement, operand_of, start_of, is_opener, is_join, is_end, begins_word, begins_part, is_semicolon, has_operand_left, has_room_at};
+ghost use Rattle.rg_parse.specs.Machine.{has, start, takes, is_prefix, resume, turn, at_compare, at_operate, at_shift, at_join, at_imply, at_close, at_if, at_then, at_else, at_number, at_name, at_colon, at_words, at_show, at_semicolon, at_assign, at_section, after_word, after_claim, after_specification, before_claims, before_premises, at_statement, block_end, after_statement, operand_of, start_of, is_end, is_rule, has_line_left, ends_line, has_operand_left, has_room_at};
 
+use crate::kinds::{begins_line, begins_part, begins_word, is_semicolon};
 use rg_text::kind::{Junction, Keyword, Kind, Terminal};
-use rg_words::limits::{MOST_ASSIGNMENTS, MOST_OPERANDS, MOST_PARTS, MOST_WORDS};
+use rg_words::limits::{
+    MOST_ASSIGNMENTS, MOST_DERIVATION_LINES, MOST_OPERANDS, MOST_PARTS, MOST_WORDS,
+};
 use rg_words::operators::Comparison;
 
 /// A kind of text.
@@ -20,6 +23,8 @@ pub enum TextKind {
     Moves,
     /// A program.
     Program,
+    /// A derivation of the parts of a program.
+    Derivation,
 }
 
 /// A formula or an expression.
@@ -36,11 +41,13 @@ pub struct Sorts {
     pub expression: bool,
 }
 
-/// Whose specification it is: the program's own, or that of the part of this number, from 1.
+/// Whose specification it is: the program's own, that of the part of this number, or that of the
+/// line of this number in a derivation, from 1.
 #[derive(Clone, Copy, Debug, PartialEq, Eq)]
 pub enum Owner {
     Program,
     Part(u8),
+    Line(u16),
 }
 
 /// A formula of a specification.
@@ -165,6 +172,20 @@ pub enum Point {
     LoopGuard,
     /// After the formula of a `while`.
     AfterLoopGuard,
+    /// Before the first line of a derivation. The text may end.
+    BeforeLines,
+    /// After the `line` of the line of this number, from 1.
+    LineNumber(u16),
+    /// After its own number, before its rule.
+    LineRule(u16),
+    /// After its rule, before the number of its statement.
+    LineStatement(u16),
+    /// After that number, before `from` or `pre`.
+    AfterStatement(u16),
+    /// After its `from`.
+    FirstPremise(u16),
+    /// After a premise, before another or `pre`.
+    AfterPremise(u16),
 }
 
 /// How a token may begin an item.
@@ -204,6 +225,7 @@ impl TextKind {
             TextKind::Program => Point::WordsStart(true),
             TextKind::Start => Point::Settings(false),
             TextKind::Moves => Point::BeforeMoves,
+            TextKind::Derivation => Point::BeforeLines,
         }
     }
 }
@@ -313,10 +335,15 @@ impl Point {
     pub fn is_end(self) -> bool
         ensures { result ≡ is_end self }
     {
-        matches!(
-            self,
-            Point::End | Point::Settings(_) | Point::BeforeMoves | Point::AfterPart(_)
-        )
+        match self {
+            Point::End
+            | Point::Settings(_)
+            | Point::BeforeMoves
+            | Point::AfterPart(_)
+            | Point::BeforeLines => true,
+            Point::AfterClaim(clause, owner) => clause.ends_line(owner),
+            _ => false,
+        }
     }
 
     /// Whether a chain may go on here.
@@ -339,6 +366,7 @@ impl Point {
             Point::AfterAssignment(_, assignments) if is_semicolon(kind) => {
                 usize::from(assignments) < MOST_ASSIGNMENTS
             }
+            Point::AfterClaim(clause, owner) if begins_line(kind) => clause.has_line_left(owner),
             _ => true,
         }
     }
@@ -451,6 +479,7 @@ impl Point {
                 Some(Turn::Inside(Point::Condition, Point::Chosen))
             }
             Point::Item(block) => Some(Turn::Inside(Point::BranchGuard, Point::Item(block))),
+            Point::LineRule(line) => Some(Turn::On(Point::LineStatement(line))),
             _ => None,
         }
     }
@@ -483,6 +512,11 @@ impl Point {
             Point::WordWidth(program, words) => Some(Turn::On(Point::AfterWord(program, words))),
             Point::SettingValue(in_move) => Some(Turn::On(Point::Settings(in_move))),
             Point::MoveNumber => Some(Turn::On(Point::Settings(true))),
+            Point::LineNumber(line) => Some(Turn::On(Point::LineRule(line))),
+            Point::LineStatement(line) => Some(Turn::On(Point::AfterStatement(line))),
+            Point::FirstPremise(line) | Point::AfterPremise(line) => {
+                Some(Turn::On(Point::AfterPremise(line)))
+            }
             _ => None,
         }
     }
@@ -588,7 +622,30 @@ impl Point {
             Point::AfterLoopGuard if keyword == Keyword::Do => {
                 Some(Turn::On(Point::Item(Block::Loop)))
             }
+            Point::BeforeLines if keyword == Keyword::Line => Some(Turn::On(Point::LineNumber(1))),
+            Point::LineRule(line) if is_rule(keyword) => Some(Turn::On(Point::LineStatement(line))),
+            Point::AfterStatement(line) => before_premises(line, keyword),
+            Point::AfterPremise(line) => before_claims(line, keyword),
             _ => None,
+        }
+    }
+}
+
+impl Clause {
+    /// Whether this formula of the owner's ends a line of a derivation.
+    fn ends_line(self, owner: Owner) -> bool
+        ensures { result ≡ ends_line self owner }
+    {
+        matches!((self, owner), (Clause::Post, Owner::Line(_)))
+    }
+
+    /// Whether another line may follow this formula.
+    fn has_line_left(self, owner: Owner) -> bool
+        ensures { result ≡ has_line_left self owner }
+    {
+        match (self, owner) {
+            (Clause::Post, Owner::Line(lines)) => usize::from(lines) < MOST_DERIVATION_LINES,
+            _ => true,
         }
     }
 }
@@ -645,8 +702,41 @@ fn after_specification(owner: Owner, keyword: Keyword) -> Option<Turn>
         Owner::Part(part) if keyword == Keyword::Begin => {
             Some(Turn::On(Point::Item(Block::Body(part))))
         }
+        Owner::Line(line) if keyword == Keyword::Line => {
+            Some(Turn::On(Point::LineNumber(line.saturating_add(1))))
+        }
         _ => None,
     }
+}
+
+/// Where a keyword leads where the specification of the line of this number is wanted.
+fn before_claims(line: u16, keyword: Keyword) -> Option<Turn>
+    ensures { result ≡ before_claims line keyword }
+{
+    match keyword {
+        Keyword::Pre => Some(Turn::On(Point::Claim(Clause::Pre, Owner::Line(line)))),
+        _ => None,
+    }
+}
+
+/// Where a keyword leads after the number of a line's statement.
+fn before_premises(line: u16, keyword: Keyword) -> Option<Turn>
+    ensures { result ≡ before_premises line keyword }
+{
+    match keyword {
+        Keyword::From => Some(Turn::On(Point::FirstPremise(line))),
+        other => before_claims(line, other),
+    }
+}
+
+/// Whether it is the name of a rule, other than `if`.
+fn is_rule(keyword: Keyword) -> bool
+    ensures { result ≡ is_rule keyword }
+{
+    matches!(
+        keyword,
+        Keyword::Basic | Keyword::Atomic | Keyword::Seq | Keyword::Loop | Keyword::Conseq
+    )
 }
 
 /// Where a keyword leads where a statement is wanted.
@@ -683,51 +773,4 @@ pub fn start_of(kind: Kind) -> Start
         Kind::Fixed(Terminal::Open) => Start::Opener,
         Kind::Fixed(_) => Start::Other,
     }
-}
-
-/// Whether the token opens what ends only with its operands.
-pub fn is_opener(kind: Kind) -> bool
-    ensures { result ≡ is_opener kind }
-{
-    matches!(
-        kind,
-        Kind::Fixed(
-            Terminal::Open
-                | Terminal::Not
-                | Terminal::Inv
-                | Terminal::If
-                | Terminal::Section(Keyword::While)
-        )
-    )
-}
-
-/// Whether the token begins the declaration of a word.
-pub fn begins_word(kind: Kind) -> bool
-    ensures { result ≡ begins_word kind }
-{
-    matches!(
-        kind,
-        Kind::Name | Kind::Fixed(Terminal::Section(Keyword::Fixed))
-    )
-}
-
-/// Whether the token begins a part.
-pub fn begins_part(kind: Kind) -> bool
-    ensures { result ≡ begins_part kind }
-{
-    matches!(kind, Kind::Fixed(Terminal::Section(Keyword::Part)))
-}
-
-/// Whether another item of a block or of an `await` follows.
-pub fn is_semicolon(kind: Kind) -> bool
-    ensures { result ≡ is_semicolon kind }
-{
-    matches!(kind, Kind::Fixed(Terminal::Semicolon))
-}
-
-/// Whether the token goes on with a chain.
-pub fn is_join(kind: Kind) -> bool
-    ensures { result ≡ is_join kind }
-{
-    matches!(kind, Kind::Fixed(Terminal::Join(_)))
 }

@@ -7,7 +7,8 @@ ghost use Rattle.rg_parse.specs.Limits.{IsTextWithin};
 ghost use Rattle.rg_parse.specs.Shape.{ShapeIs, OneFault, NoFaultWithin};
 ghost use Rattle.rg_parse.specs.declared.shape.ShapeFault.TheVariants.{Memory};
 
-use crate::point::{Point, Sort, Start, TextKind, Turn, is_join, is_opener, operand_of, start_of};
+use crate::kinds::{is_join, is_opener};
+use crate::point::{Point, Sort, Start, TextKind, Turn, operand_of, start_of};
 use rg_text::kind::Kind;
 use rg_text::token::Token;
 use rg_words::limits::MOST_OPENERS;
@@ -24,8 +25,8 @@ pub enum ShapeFault {
     /// an opener inside too many others, or the connective before one operand too many.
     TooDeep(usize),
     /// The first token such that the tokens up to it begin no text within the limits of lists:
-    /// the first token of one word or of one part too many, or the `;` of an `await` before one
-    /// assignment too many.
+    /// the first token of one word, of one part or of one line of a derivation too many, or the `;`
+    /// of an `await` before one assignment too many.
     TooMany(usize),
     /// The tokens begin a text and aren't a whole one.
     Unfinished,
