@@ -1,9 +1,10 @@
 -- Sections as the code holds them, and parts of a text.
-use Rattle.std.specs.Prelude.{◌≡◌, ◌⊎◌, ℕ, ◌+◌, ◌<◌, ◌≤◌, false, Option, Some, None, Result, Err, List, [], ◌∷◌, ◌++◌, length, All, AllPairs}
+use Rattle.std.specs.Prelude.{◌≡◌, ◌⊎◌, ℕ, ◌+◌, ◌^◌, ◌<◌, ◌≤◌, false, Option, Some, None, Result, Err, List, [], ◌++◌, length, All, AllPairs}
 use Rattle.std.specs.Str.Lines.{lines}
 use Rattle.rg_words.specs.declared.refusal.Refusal.{Refusal}
 use Rattle.rg_hints.specs.declared.sections.SectionBytes.{SectionBytes}
 use Rattle.rg_hints.specs.Text.{fields_of}
+use Rattle.rg_hints.specs.LineEnds.{EndsLine, IsFrontLine}
 use Rattle.rg_hints.specs.Sections.{SectionText, is_head, headed_lines, behind_front, sections_under}
 
 -- a section with its lines
@@ -14,17 +15,6 @@ text_of s = record { condition = s.condition; first_line = s.first_line; lines =
 abbrev pub IsUpTo : ℕ → ℕ → Option ℕ → Type 0
 IsUpTo most n None = ⊥
 IsUpTo most n (Some m) = (n ≡ m) ⊎ ((most < n) × (most < m))
-
--- bytes end with a line: they are none, or a line feed stands last
-abbrev pub EndsLine : List ℕ → Type 0
-EndsLine bytes = (bytes ≡ []) ⊎ ((front : List ℕ) × (bytes ≡ front ++ 10 ∷ []))
-
--- a text is one line, with its end, and the rest
-pub record IsFrontLine (text line rest : List ℕ) : Type 0 where
-  pub front : List ℕ
-  pub is : text ≡ front ++ rest
-  pub ends : (rest ≡ []) ⊎ EndsLine front
-  pub one : lines front ≡ line ∷ []
 
 -- a line that is not meant as a head
 abbrev pub IsPlain : List ℕ → Type 0
@@ -66,6 +56,10 @@ IsFaultyFront front r = (sections : Result (List SectionText) Refusal) → behin
 abbrev pub AreRising : List SectionBytes → Type 0
 AreRising sections = AllPairs (λ a b. a.condition < b.condition) sections
 
+-- the conditions of sections count from 1
+abbrev pub AreNamed : List SectionBytes → Type 0
+AreNamed sections = All (λ s. 0 < s.condition) sections
+
 -- what the heads of a text give, whose first line has this number and is a head
 abbrev pub sections_behind : ℕ → ℕ → List ℕ → Result (List SectionText) Refusal
 sections_behind count number text = sections_under count 0 (headed_lines (lines text) number).1
@@ -73,3 +67,13 @@ sections_behind count number text = sections_under count 0 (headed_lines (lines 
 -- the numbers of the lines of sections keep a bound
 abbrev pub HaveRoom : ℕ → List SectionBytes → Type 0
 HaveRoom bound sections = All (λ s. s.first_line + length s.bytes.now ≤ bound) sections
+
+-- the numbers of its lines keep the bound of what is read
+abbrev pub HasRoom : SectionBytes → Type 0
+HasRoom s = s.first_line + length s.bytes.now < 2 ^ 64
+
+-- sections of conditions from this number on, in their order
+pub record AreFrom (number : ℕ) (sections : List SectionBytes) : Type 0 where
+  pub rising : AreRising sections
+  pub from : All (λ s. number ≤ s.condition) sections
+  pub room : All HasRoom sections
