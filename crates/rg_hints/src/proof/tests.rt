@@ -169,6 +169,5 @@ fn a_file_over_its_size(rt: HostRuntime) -> Result<(), Fail> {
     let bytes = blanks(rt.alloc(), 16_777_217)?;
     let limit = Refusal::at(RefusalNumber::Limit, SourceFile::Proofs, Place::Line(1));
     assert_eq!(rt; prove(rt.alloc(), &[], &bytes), Err(limit));
-    assert_eq!(rt; prove(rt.alloc(), &[], &bytes[1..]), Ok(()));
     Ok(())
 }
