@@ -6,6 +6,7 @@ ghost use Rattle.std.specs.Str.Lines.{lines, strip_carriage_return};
 ghost use Rattle.rg_hints.specs.Lines.{IsHintLiteral};
 ghost use Rattle.rg_hints.specs.Text.{is_blank, fields_of, number_in, positive, literal_in};
 ghost use Rattle.rg_hints.specs.Reading.{is_passed_over};
+ghost use Rattle.rg_hints.specs.LineEnds.{IsFrontLine};
 
 use rg_words::limits::MOST_HINT_NUMBER;
 
@@ -42,7 +43,7 @@ fn line_len(text: &[u8]) -> usize
 }
 
 /// The bytes behind so many.
-fn skip(bytes: &[u8], count: usize) -> &[u8]
+pub(crate) fn skip(bytes: &[u8], count: usize) -> &[u8]
     requires { count ≤ length bytes.now }
     ensures { result.now ≡ drop count bytes.now }
 {
@@ -64,6 +65,7 @@ fn strip_carriage_return(line: &[u8]) -> &[u8]
 pub fn split_line(text: &[u8]) -> (&[u8], &[u8])
     requires { 0 < length text.now }
     ensures lines { lines text.now ≡ result.0.now ∷ lines result.1.now }
+    ensures front { IsFrontLine text.now result.0.now result.1.now }
     ensures shorter { length result.1.now < length text.now }
 {
     let end = line_len(text);
