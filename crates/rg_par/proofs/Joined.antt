@@ -20,7 +20,10 @@ six g o p r x q e a b c d f ha hb hc hd hf =
     let four = hd ∙ ap (λ l. l ++ map g q) three ∙ append_assoc o (map g ((p ++ r) ++ x)) (map g q) ∙ ap (λ l. o ++ l) (sym (map-append g ((p ++ r) ++ x) q)) in
     hf ∙ ap (λ l. l ++ map g e) four ∙ append_assoc o (map g (((p ++ r) ++ x) ++ q)) (map g e) ∙ ap (λ l. o ++ l) (sym (map-append g (((p ++ r) ++ x) ++ q) e))
 
--- five lists, one after another
-pub five_lists : {B : Type 0} (p r x q e a b c d f : List B) → a ≡ p → b ≡ a ++ r → c ≡ b ++ x → d ≡ c ++ q → f ≡ d ++ e → f ≡ p ++ r ++ x ++ q ++ e
-five_lists p r x q e a b c d f ha hb hc hd hf =
-    hf ∙ ap (λ l. l ++ e) (hd ∙ ap (λ l. l ++ q) (hc ∙ ap (λ l. l ++ x) (hb ∙ ap (λ l. l ++ r) ha)))
+-- a list, and then five others
+pub six_lists : {B : Type 0} (o p r x q e a b c d f : List B) → a ≡ o ++ p → b ≡ a ++ r → c ≡ b ++ x → d ≡ c ++ q → f ≡ d ++ e → f ≡ o ++ (p ++ r ++ x ++ q ++ e)
+six_lists o p r x q e a b c d f ha hb hc hd hf =
+    let two = hb ∙ ap (λ l. l ++ r) ha ∙ append_assoc o p r in
+    let three = hc ∙ ap (λ l. l ++ x) two ∙ append_assoc o (p ++ r) x in
+    let four = hd ∙ ap (λ l. l ++ q) three ∙ append_assoc o ((p ++ r) ++ x) q in
+    hf ∙ ap (λ l. l ++ e) four ∙ append_assoc o (((p ++ r) ++ x) ++ q) e
