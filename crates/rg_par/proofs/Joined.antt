@@ -12,15 +12,18 @@ pub turn : {A B : Type 0} (g : A → B) (a b : List B) (one rest : List A) (whol
 turn g a b one rest whole e h =
     ap (λ l. l ++ map g rest) e ∙ append_assoc a (map g one) (map g rest) ∙ ap (λ l. a ++ l) (sym (map-append g one rest)) ∙ h
 
--- four lists and a last one
-pub five : {A B : Type 0} (g : A → B) (p r x q e : List A) (a b c d f : List B) → a ≡ map g p → b ≡ a ++ map g r → c ≡ b ++ map g x → d ≡ c ++ map g q → f ≡ d ++ map g e → f ≡ map g (p ++ r ++ x ++ q ++ e)
-five g p r x q e a b c d f ha hb hc hd hf =
-    let two = hb ∙ ap (λ l. l ++ map g r) ha ∙ sym (map-append g p r) in
-    let three = hc ∙ ap (λ l. l ++ map g x) two ∙ sym (map-append g (p ++ r) x) in
-    let four = hd ∙ ap (λ l. l ++ map g q) three ∙ sym (map-append g ((p ++ r) ++ x) q) in
-    hf ∙ ap (λ l. l ++ map g e) four ∙ sym (map-append g (((p ++ r) ++ x) ++ q) e)
+-- a list, and then five
+pub six : {A B : Type 0} (g : A → B) (o : List B) (p r x q e : List A) (a b c d f : List B) → a ≡ o ++ map g p → b ≡ a ++ map g r → c ≡ b ++ map g x → d ≡ c ++ map g q → f ≡ d ++ map g e → f ≡ o ++ map g (p ++ r ++ x ++ q ++ e)
+six g o p r x q e a b c d f ha hb hc hd hf =
+    let two = hb ∙ ap (λ l. l ++ map g r) ha ∙ append_assoc o (map g p) (map g r) ∙ ap (λ l. o ++ l) (sym (map-append g p r)) in
+    let three = hc ∙ ap (λ l. l ++ map g x) two ∙ append_assoc o (map g (p ++ r)) (map g x) ∙ ap (λ l. o ++ l) (sym (map-append g (p ++ r) x)) in
+    let four = hd ∙ ap (λ l. l ++ map g q) three ∙ append_assoc o (map g ((p ++ r) ++ x)) (map g q) ∙ ap (λ l. o ++ l) (sym (map-append g ((p ++ r) ++ x) q)) in
+    hf ∙ ap (λ l. l ++ map g e) four ∙ append_assoc o (map g (((p ++ r) ++ x) ++ q)) (map g e) ∙ ap (λ l. o ++ l) (sym (map-append g (((p ++ r) ++ x) ++ q) e))
 
--- five lists, one after another
-pub five_lists : {B : Type 0} (p r x q e a b c d f : List B) → a ≡ p → b ≡ a ++ r → c ≡ b ++ x → d ≡ c ++ q → f ≡ d ++ e → f ≡ p ++ r ++ x ++ q ++ e
-five_lists p r x q e a b c d f ha hb hc hd hf =
-    hf ∙ ap (λ l. l ++ e) (hd ∙ ap (λ l. l ++ q) (hc ∙ ap (λ l. l ++ x) (hb ∙ ap (λ l. l ++ r) ha)))
+-- a list, and then five others
+pub six_lists : {B : Type 0} (o p r x q e a b c d f : List B) → a ≡ o ++ p → b ≡ a ++ r → c ≡ b ++ x → d ≡ c ++ q → f ≡ d ++ e → f ≡ o ++ (p ++ r ++ x ++ q ++ e)
+six_lists o p r x q e a b c d f ha hb hc hd hf =
+    let two = hb ∙ ap (λ l. l ++ r) ha ∙ append_assoc o p r in
+    let three = hc ∙ ap (λ l. l ++ x) two ∙ append_assoc o (p ++ r) x in
+    let four = hd ∙ ap (λ l. l ++ q) three ∙ append_assoc o ((p ++ r) ++ x) q in
+    hf ∙ ap (λ l. l ++ e) four ∙ append_assoc o (((p ++ r) ++ x) ++ q) e

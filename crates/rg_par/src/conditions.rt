@@ -164,9 +164,30 @@ fn add_post(
     Ok(())
 }
 
-/// The conditions of the parallel rule for parts 1 to n, in this order: for each part, the pre gives its pre; for each part, the
-/// rely gives its rely; for each part and then each other one, the other's guarantee gives its rely; for each part, its guarantee
-/// gives the guarantee; last, the posts together give the post. Relies and guarantees are read with "or no change".
+/// Adds the conditions of the parallel rule for parts 1 to n, in this order: for each part, the pre gives its pre; for each part,
+/// the rely gives its rely; for each part and then each other one, the other's guarantee gives its rely; for each part, its
+/// guarantee gives the guarantee; last, the posts together give the post. Relies and guarantees are read with "or no change".
+///
+/// Refused only where memory was refused.
+pub fn add_conditions(
+    alloc: Global,
+    all: &mut Vec<Condition>,
+    program: &Program,
+) -> Result<(), AllocError>
+    // Exactly the rule's list, behind what was there.
+    ensures { OnOk result (map claim all.new.items ≡ map claim all.old.items ++ map (obligation_claim program.now.layout) (parallel_obligations (specification program.now.spec) (map part program.now.parts.items))) }
+{
+    let layout = &program.layout;
+    let parts = program.parts.as_slice();
+    add_pres(alloc, all, layout, &program.spec.pre, parts)?;
+    add_relies(alloc, all, layout, &program.spec.rely, parts)?;
+    add_crosses(alloc, all, layout, parts)?;
+    add_guars(alloc, all, layout, &program.spec.guar, parts)?;
+    add_post(alloc, all, layout, &program.spec.post, parts)?;
+    Ok(())
+}
+
+/// The conditions of the parallel rule alone, as `add_conditions` has them.
 ///
 /// Refused only where memory was refused.
 pub fn conditions(alloc: Global, program: &Program) -> Result<Vec<Condition>, AllocError>
@@ -175,13 +196,7 @@ pub fn conditions(alloc: Global, program: &Program) -> Result<Vec<Condition>, Al
     // Where they are true and each part satisfies its own specification, the program satisfies its specification.
     ensures sound { IfOk result (λ all. AllConditionsHold (map claim all.items) → PartsSatisfy (program_tree program.now) → IsSatisfied (program_tree program.now)) }
 {
-    let layout = &program.layout;
-    let parts = program.parts.as_slice();
     let mut all = Vec::new(alloc);
-    add_pres(alloc, &mut all, layout, &program.spec.pre, parts)?;
-    add_relies(alloc, &mut all, layout, &program.spec.rely, parts)?;
-    add_crosses(alloc, &mut all, layout, parts)?;
-    add_guars(alloc, &mut all, layout, &program.spec.guar, parts)?;
-    add_post(alloc, &mut all, layout, &program.spec.post, parts)?;
+    add_conditions(alloc, &mut all, program)?;
     Ok(all)
 }

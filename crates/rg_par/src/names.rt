@@ -85,8 +85,28 @@ fn add_text(alloc: Global, all: &mut Vec<String>, text: &str) -> Result<(), Allo
     Ok(())
 }
 
-/// The name of each condition, in the order of `conditions`: `all pre P`, `all rely P`, `all guar Q rely P`, `all guar P` and
+/// Adds the name of each condition, in the order of `conditions`: `all pre P`, `all rely P`, `all guar Q rely P`, `all guar P` and
 /// `all post`, where P and Q are names of parts.
+///
+/// Refused only where memory was refused.
+pub fn add_names(
+    alloc: Global,
+    all: &mut Vec<String>,
+    program: &Program,
+) -> Result<(), AllocError>
+    // Exactly these, behind what was there.
+    ensures { OnOk result (map string_bytes all.new.items ≡ map string_bytes all.old.items ++ parallel_names (map part program.now.parts.items)) }
+{
+    let parts = program.parts.as_slice();
+    add_each(alloc, all, "all pre ", parts)?;
+    add_each(alloc, all, "all rely ", parts)?;
+    add_crosses(alloc, all, parts)?;
+    add_each(alloc, all, "all guar ", parts)?;
+    add_text(alloc, all, "all post")?;
+    Ok(())
+}
+
+/// The names of the conditions alone, as `add_names` has them.
 ///
 /// Refused only where memory was refused.
 pub fn names(alloc: Global, program: &Program) -> Result<Vec<String>, AllocError>
@@ -94,12 +114,7 @@ pub fn names(alloc: Global, program: &Program) -> Result<Vec<String>, AllocError
     // One for each condition.
     ensures count { IfOk result (λ all. length all.items ≡ length (parallel_obligations (specification program.now.spec) (map part program.now.parts.items))) }
 {
-    let parts = program.parts.as_slice();
     let mut all = Vec::new(alloc);
-    add_each(alloc, &mut all, "all pre ", parts)?;
-    add_each(alloc, &mut all, "all rely ", parts)?;
-    add_crosses(alloc, &mut all, parts)?;
-    add_each(alloc, &mut all, "all guar ", parts)?;
-    add_text(alloc, &mut all, "all post")?;
+    add_names(alloc, &mut all, program)?;
     Ok(all)
 }

@@ -1,20 +1,10 @@
-use Rattle.std.proofs.Common.{[], ◌∷◌, map, rules}
-use Rattle.rg_tree.specs.Conditions.{claim}
-use Rattle.rg_tree.specs.ProgramView.{specification, part}
-use Rattle.rg_tree.specs.Obligations.{obligation_claim, reaches}
-use Rattle.rg_par.specs.Parallel.{pre_obligations, rely_obligations, guar_obligations, cross_obligations}
-use Rattle.rg_par.proofs.Joined.{five}
-use Rattle.rg_par.proofs.Sound.{conditions_sound}
 use Rattle.rg_tree.specs.ProgramTrees.{program}
+use Rattle.rg_par.proofs.Sound.{conditions_sound}
+use Rattle.std.proofs.Common.{rules}
 use Rattle.rg_par.proofs.conditions.conditions.Goals as goal
 
 pub returns-clause-list : goal.returns-clause-list
-returns-clause-list c =
-    let spec = specification c.args.program.now.spec in
-    let parts = map part c.args.program.now.parts.items in
-    five (obligation_claim c.args.program.now.layout) (pre_obligations spec.pre parts) (rely_obligations spec.rely parts) (cross_obligations parts 1 parts) (guar_obligations spec.guar parts) (reaches (map (λ p. p.spec.post) parts) [] spec.post ∷ [])
-    (map claim c.add_pres.new.all.items) (map claim c.add_relies.new.all.items) (map claim c.add_crosses.new.all.items) (map claim c.add_guars.new.all.items) (map claim c.add_post.new.all.items)
-    (search rules) (search rules) (search rules) (search rules) (search rules)
+returns-clause-list c = search rules
 
 pub returns-clause-sound : goal.returns-clause-sound
 returns-clause-sound c h = conditions_sound (program c.args.program.now) (rw (returns-clause-list c) at h)
