@@ -242,6 +242,7 @@ impl Solver {
         self.backtrack(level)?;
         let clause = self.add_learned(number, glue)?;
         self.kept_learned = self.kept_learned.saturating_add(1);
+        self.conflicts = self.conflicts.saturating_add(1);
         self.order.decay();
         self.near.decay();
         let literal = at(&self.learned, 0, 0);

@@ -11,6 +11,7 @@ use crate::logged_lines::lines_of;
 use crate::search::Outcome;
 use crate::solver::{Solver, TRUE};
 use crate::sweep::Sweep;
+use crate::watcher::{Unwatched, Watcher};
 use crate::table::at;
 use rg_clauses::Clauses;
 use rg_hints::{Lines, check};
@@ -56,27 +57,33 @@ fn has_empty(clauses: &Clauses) -> bool {
 
 /// What comes before the first counted decision: units, the sweep, and a search over inputs and gates for as many
 /// conflicts as there may be decisions, at least some and not too many.
-fn prepare(
+fn prepare<W: Watcher>(
     alloc: Global,
     clauses: &Clauses,
     steps: u64,
     solver: &mut Solver,
+    watcher: &mut W,
 ) -> Result<(), AllocError> {
     solver.load(clauses)?;
     let circuit = Circuit::read(alloc, clauses)?;
     let mut sweep = Sweep::new(alloc, &circuit)?;
-    sweep.run(solver, &circuit)?;
+    sweep.run(solver, &circuit, watcher)?;
     if circuit.assertion >= 2 {
         let assertion = circuit.assertion;
         let conflicts = steps.max(LEAST_CONFLICTS).min(MOST_CONFLICTS);
-        let _verdict = solver.exclude(&circuit, assertion, assertion, conflicts)?;
+        let _verdict = solver.exclude(&circuit, assertion, assertion, conflicts, watcher)?;
         solver.backtrack(0)?;
     }
     Ok(())
 }
 
 /// The search itself, of which nothing is promised.
-fn searched(alloc: Global, clauses: &Clauses, steps: u64) -> Result<Found, AllocError>
+fn searched<W: Watcher>(
+    alloc: Global,
+    clauses: &Clauses,
+    steps: u64,
+    watcher: &mut W,
+) -> Result<Found, AllocError>
     ensures { IfOk result (IsOver clauses.now) }
 {
     let given = clauses.len();
@@ -87,8 +94,8 @@ fn searched(alloc: Global, clauses: &Clauses, steps: u64) -> Result<Found, Alloc
     let inputs = clauses.inputs() as usize;
     let number = u32::try_from(given).unwrap_or(u32::MAX);
     let mut solver = Solver::new(alloc, variables as usize, inputs, number)?;
-    prepare(alloc, clauses, steps, &mut solver)?;
-    match solver.search(steps)? {
+    prepare(alloc, clauses, steps, &mut solver, watcher)?;
+    match solver.search(steps, watcher)? {
         Outcome::Refuted => match lines_of(alloc, given, &solver.log)? {
             Some(lines) => Ok(Found::Lines(lines)),
             None => Ok(Found::GaveUp),
@@ -175,9 +182,29 @@ pub fn find(alloc: Global, clauses: &Clauses, steps: u64) -> Result<Found, Refus
     // Too many decisions are refused, and nothing else is but for want of memory.
     ensures refusal { IsRefusedFor (fault_of steps) result }
 {
+    find_watched(alloc, clauses, steps, &mut Unwatched)
+}
+
+/// The same as `find`, while somebody is told of it.
+///
+/// # Errors
+///
+/// As `find`.
+pub fn find_watched<W: Watcher>(
+    alloc: Global,
+    clauses: &Clauses,
+    steps: u64,
+    watcher: &mut W,
+) -> Result<Found, Refusal>
+    // Lines are closed, so that no values satisfy the clauses; values satisfy them.
+    ensures found { IfOk result (IsFound clauses.now) }
+
+    // Too many decisions are refused, and nothing else is but for want of memory.
+    ensures refusal { IsRefusedFor (fault_of steps) result }
+{
     if steps > MOST_DECISIONS {
         return Err(Refusal::new(RefusalNumber::Limit));
     }
-    let found = searched(alloc, clauses, steps)?;
+    let found = searched(alloc, clauses, steps, watcher)?;
     confirmed(alloc, clauses, found)
 }

@@ -7,7 +7,8 @@ ghost use Rattle.rg_tree.specs.Conditions.{claim};
 ghost use Rattle.rg_clauses.specs.Conditions.{clauses_of_claim};
 ghost use Rattle.rg_find.specs.Judged.{IsJudged, IsJudgeRefusal};
 
-use crate::answer::{Found, find};
+use crate::answer::{Found, find_watched};
+use crate::watcher::Watcher;
 use rg_bits::states;
 use rg_clauses::Clauses;
 use rg_hints::Lines;
@@ -27,18 +28,19 @@ pub enum Judged {
 }
 
 /// Looks for lines that prove a condition or for states at which it fails, as `find` does on its clauses. The file and the
-/// condition's number, from 1, are for a refusal alone.
+/// condition's number, from 1, are for a refusal alone. The watcher is told of a long search.
 ///
 /// # Errors
 ///
 /// `Limit` at this condition of this file where it has too many variables; then `Limit`, without a file and a place, where more than
 /// `MOST_DECISIONS` are asked for.
-pub fn judge(
+pub fn judge<W: Watcher>(
     alloc: Global,
     condition: &Condition,
     file: SourceFile,
     number: u64,
     steps: u64,
+    watcher: &mut W,
 ) -> Result<Judged, Refusal>
     // Lines are closed for its clauses, and it is true; or it fails at the states.
     ensures judged { IfOk result (IsJudged (claim condition.now)) }
@@ -50,7 +52,7 @@ pub fn judge(
         Err(refusal) => return Err(refusal),
     };
     let _inputs = clauses.inputs();
-    let found = match find(alloc, &clauses, steps) {
+    let found = match find_watched(alloc, &clauses, steps, watcher) {
         Ok(found) => found,
         Err(refusal) => return Err(refusal),
     };

@@ -5,6 +5,7 @@ use crate::code::{Code, negated, variable_of};
 use crate::search::RESTART;
 use crate::solver::{FALSE, NO_CLAUSE, OPEN, Solver};
 use crate::table::{at, put};
+use crate::watcher::Watcher;
 use std::alloc::AllocError;
 
 /// What became of a lemma.
@@ -27,30 +28,32 @@ struct Lemma {
 
 impl Solver {
     /// Proves that two literals are equal, with at most so many conflicts in each direction. The code 0 is false, and 1 true.
-    pub fn prove_equal(
+    pub fn prove_equal<W: Watcher>(
         &mut self,
         circuit: &Circuit,
         first: Code,
         second: Code,
         limit: u64,
+        watcher: &mut W,
     ) -> Result<Verdict, AllocError> {
         if second < 2 {
             let excess = first ^ second;
-            return self.exclude(circuit, excess, excess, limit);
+            return self.exclude(circuit, excess, excess, limit, watcher);
         }
-        match self.exclude(circuit, first, negated(second), limit)? {
-            Verdict::Proved => self.exclude(circuit, negated(first), second, limit),
+        match self.exclude(circuit, first, negated(second), limit, watcher)? {
+            Verdict::Proved => self.exclude(circuit, negated(first), second, limit, watcher),
             other => Ok(other),
         }
     }
 
     /// Shows that two literals aren't true together, with at most so many conflicts.
-    pub fn exclude(
+    pub fn exclude<W: Watcher>(
         &mut self,
         circuit: &Circuit,
         first: Code,
         second: Code,
         limit: u64,
+        watcher: &mut W,
     ) -> Result<Verdict, AllocError> {
         let mut lemma = Lemma {
             first,
@@ -62,6 +65,7 @@ impl Solver {
             if let Some(verdict) = self.advance(circuit, &mut lemma)? {
                 return Ok(verdict);
             }
+            watcher.searched(self.conflicts, self.kept_learned);
         }
         Ok(Verdict::Unknown)
     }

@@ -21,8 +21,10 @@ mod simulation;
 mod solver;
 mod sweep;
 mod table;
+mod watcher;
 #[cfg(test)]
 mod tests;
 
-pub use answer::{Found, find};
+pub use answer::{Found, find, find_watched};
 pub use judgement::{Judged, judge};
+pub use watcher::{Unwatched, Watcher};

@@ -2,6 +2,7 @@
 
 use crate::code::Code;
 use crate::solver::Solver;
+use crate::watcher::Watcher;
 use std::alloc::AllocError;
 
 /// How a search ends.
@@ -53,7 +54,11 @@ impl Solver {
     }
 
     /// Searches with at most so many decisions, each on an input.
-    pub fn search(&mut self, steps: u64) -> Result<Outcome, AllocError> {
+    pub fn search<W: Watcher>(
+        &mut self,
+        steps: u64,
+        watcher: &mut W,
+    ) -> Result<Outcome, AllocError> {
         let mut left = steps;
         let mut conflicts = 0u64;
         for _ in 0..u64::MAX {
@@ -62,6 +67,7 @@ impl Solver {
             }
             if let Some(conflict) = self.propagate()? {
                 self.take_conflict(conflict, &mut conflicts)?;
+                watcher.searched(self.conflicts, self.kept_learned);
                 continue;
             }
             let Some(decision) = self.next_decision() else {

@@ -103,6 +103,8 @@ pub struct Solver {
     /// The count of learned clauses at which some are dropped.
     pub next_reduction: usize,
     pub kept_learned: usize,
+    /// The conflicts of which something was learned.
+    pub conflicts: u64,
 }
 
 impl Solver {
@@ -153,6 +155,7 @@ impl Solver {
             stamp: 0,
             next_reduction: 2000,
             kept_learned: 0,
+            conflicts: 0,
         })
     }
 

@@ -10,6 +10,7 @@ use crate::lemma::Verdict;
 use crate::simulation::Simulation;
 use crate::solver::{OPEN, Solver};
 use crate::table::{at, put};
+use crate::watcher::Watcher;
 use std::alloc::{AllocError, Global};
 
 /// How often 64 random inputs are looked at.
@@ -62,13 +63,18 @@ impl Sweep {
     }
 
     /// Proves gates equal to earlier ones, in order, until the solver is refuted or much work is done.
-    pub fn run(&mut self, solver: &mut Solver, circuit: &Circuit) -> Result<(), AllocError> {
+    pub fn run<W: Watcher>(
+        &mut self,
+        solver: &mut Solver,
+        circuit: &Circuit,
+        watcher: &mut W,
+    ) -> Result<(), AllocError> {
         let first = circuit.inputs.saturating_add(1);
         for variable in first..circuit.variables().saturating_add(1) {
             if solver.is_refuted || solver.effort > MOST_EFFORT {
                 break;
             }
-            let follows = self.finds_leader(solver, circuit, variable)?;
+            let follows = self.finds_leader(solver, circuit, variable, watcher)?;
             put(&mut self.follows, variable, follows);
             solver.backtrack(0)?;
             solver.reduce_if_full()?;
@@ -77,11 +83,12 @@ impl Sweep {
     }
 
     /// Compares a gate with the leader of its hash. A gate with none leads from now on.
-    fn finds_leader(
+    fn finds_leader<W: Watcher>(
         &mut self,
         solver: &mut Solver,
         circuit: &Circuit,
         variable: usize,
+        watcher: &mut W,
     ) -> Result<bool, AllocError> {
         let literal = self.simulation.literal(variable);
         if solver.value(literal) != OPEN {
@@ -93,7 +100,7 @@ impl Sweep {
                 return Ok(false);
             };
             let other = self.simulation.literal(leader);
-            match solver.prove_equal(circuit, literal, other, MOST_CONFLICTS)? {
+            match solver.prove_equal(circuit, literal, other, MOST_CONFLICTS, watcher)? {
                 Verdict::Refuted => self.look_at_values(solver, circuit, variable)?,
                 Verdict::Proved | Verdict::Unknown => return Ok(true),
             }

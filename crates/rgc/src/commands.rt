@@ -8,7 +8,7 @@ ghost use Rattle.rgc.specs.Done.{HasPrintedHolds, HasPrintedClauses, HasPrintedL
 use crate::command::Command;
 use crate::line::Line;
 use crate::shown::{clauses, find, valid};
-use rg_find::Judged;
+use rg_find::{Judged, Watcher};
 use rg_hints::Lines;
 use rg_words::{Layout, Out, Refusal, RefusalNumber, State, write_all};
 use std::alloc::{AllocError, Global};
@@ -99,12 +99,18 @@ fn print_lines<W: Out>(alloc: Global, lines: &Lines, out: &mut W) -> Result<(), 
 }
 
 /// Prints the lines that prove the formula; else, and then it answers false, the states at which it fails or that the search gave up.
-fn print_found<W: Out>(alloc: Global, text: &[u8], steps: u64, out: &mut W) -> Result<bool, Refusal>
+fn print_found<W: Out, P: Watcher>(
+    alloc: Global,
+    text: &[u8],
+    steps: u64,
+    out: &mut W,
+    watcher: &mut P,
+) -> Result<bool, Refusal>
     requires { W.failures out.old < 2 ^ 64 - 1 }
     ensures printed { IfOk result (λ b. IsTrue b → HasPrintedLines text.now (W.contents out.old) (W.contents out.new)) }
     ensures failures { IfOk result (λ b. IsTrue b → W.failures out.new ≡ W.failures out.old) }
 {
-    let (condition, judged) = match find(alloc, text, steps) {
+    let (condition, judged) = match find(alloc, text, steps, watcher) {
         Ok(found) => found,
         Err(refusal) => return Err(refusal),
     };
@@ -126,11 +132,12 @@ fn print_found<W: Out>(alloc: Global, text: &[u8], steps: u64, out: &mut W) -> R
 }
 
 /// Does the command, or says why not.
-fn carry_out<W: Out>(
+fn carry_out<W: Out, P: Watcher>(
     alloc: Global,
     command: Command<'_>,
     files: &Files<'_>,
     out: &mut W,
+    watcher: &mut P,
 ) -> Result<(), Stop>
     requires { W.failures out.old < 2 ^ 64 - 1 }
     ensures done { OnOk result (IsDone command.entry files.now.text files.now.proofs (W.contents out.old) (W.contents out.new)) }
@@ -147,7 +154,7 @@ fn carry_out<W: Out>(
             print_valid(alloc, text, proofs, out)
         }
         Command::Clauses { .. } => print_clauses(alloc, text, out),
-        Command::Find { steps, .. } => match print_found(alloc, text, steps, out) {
+        Command::Find { steps, .. } => match print_found(alloc, text, steps, out, watcher) {
             Ok(true) => Ok(()),
             Ok(false) => return Err(Stop::Told),
             Err(refusal) => Err(refusal),
@@ -186,13 +193,15 @@ fn tell_device<F: Out>(line: &str, faults: &mut F) -> u8
 }
 
 /// Does the command over the bytes of its files, and answers the program's status: 0 done, 1 refused or no proof found, 3 where a file can't be read,
-/// where the output can't be written, or where memory is refused. A refusal is one line on `faults`.
-pub fn perform<W: Out, F: Out>(
+/// where the output can't be written, or where memory is refused. A refusal is one line on `faults`. The watcher is told
+/// of a long search.
+pub fn perform<W: Out, F: Out, P: Watcher>(
     alloc: Global,
     line: &Line<'_>,
     files: &Files<'_>,
     out: &mut W,
     faults: &mut F,
+    watcher: &mut P,
 ) -> u8
     requires out { W.failures out.old < 2 ^ 64 - 1 }
     requires faults { F.failures faults.old < 2 ^ 64 - 1 }
@@ -200,7 +209,7 @@ pub fn perform<W: Out, F: Out>(
     ensures failures { result ≡ 0 → W.failures out.new ≡ W.failures out.old }
     ensures done { result ≡ 0 → IsDone line.now.command files.now.text files.now.proofs (W.contents out.old) (W.contents out.new) }
 {
-    match carry_out(alloc, line.command, files, out) {
+    match carry_out(alloc, line.command, files, out, watcher) {
         Ok(()) => 0,
         Err(Stop::Device(line)) => tell_device(line, faults),
         Err(Stop::Told) => 1,

@@ -13,7 +13,7 @@ ghost use Rattle.rg_find.specs.Judged.{IsJudged};
 ghost use Rattle.rgc.specs.Valid.{clauses_shown, HasClauses, ShownHolds, IsShown, IsClausesRefusal, IsFindRefusal, IsProved, IsValidRefusal};
 
 use rg_clauses::Clauses;
-use rg_find::{Judged, judge};
+use rg_find::{Judged, Watcher, judge};
 use rg_hints::{Lines, check};
 use rg_parse::show::{one_meaning, show};
 use rg_tree::condition::Condition;
@@ -49,12 +49,17 @@ pub fn clauses(alloc: Global, text: &[u8]) -> Result<Clauses, Refusal>
 }
 
 /// What a search says of the formula that the text spells, with the condition that it is: lines that prove it, or the states at which it
-/// fails, or nothing after so many decisions.
+/// fails, or nothing after so many decisions. The watcher is told of a long search.
 ///
 /// # Errors
 ///
 /// As `clauses`; then `Limit`, without a file and a place, where more than `MOST_DECISIONS` are asked for.
-pub fn find(alloc: Global, text: &[u8], steps: u64) -> Result<(Condition, Judged), Refusal>
+pub fn find<W: Watcher>(
+    alloc: Global,
+    text: &[u8],
+    steps: u64,
+    watcher: &mut W,
+) -> Result<(Condition, Judged), Refusal>
     ensures formula { IfOk result (λ r. IsShown text.now (claim r.0)) }
     ensures judged { IfOk result (λ r. IsJudged (claim r.0) r.1) }
     ensures clauses { IfOk result (λ r. HasClauses text.now (clauses_of_claim (claim r.0))) }
@@ -68,7 +73,7 @@ pub fn find(alloc: Global, text: &[u8], steps: u64) -> Result<(Condition, Judged
         Err(refusal) => return Err(refusal),
     };
     let condition = Condition::show(alloc, layout, formula);
-    match judge(alloc, &condition, SourceFile::Text, 1, steps) {
+    match judge(alloc, &condition, SourceFile::Text, 1, steps, watcher) {
         Ok(judged) => Ok((condition, judged)),
         Err(refusal) => Err(refusal),
     }

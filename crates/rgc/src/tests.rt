@@ -6,6 +6,7 @@ use crate::line::{Line, LineFault};
 use crate::numbers::line_of;
 use clap::error::ErrorKind;
 use rg_tree::numbered::{Numbered, StatementKind};
+use rg_find::Unwatched;
 use rg_words::{Device, Fuse, Out, Taker};
 use std::alloc::{AllocError, Global};
 use std::test::Fail;
@@ -29,7 +30,7 @@ fn clauses_of(alloc: Global, text: &str) -> Answer {
     };
     let mut out = Taker::new(alloc, 1 << 20);
     let mut faults = Taker::new(alloc, 1 << 20);
-    let status = perform(alloc, &line, &files, &mut out, &mut faults);
+    let status = perform(alloc, &line, &files, &mut out, &mut faults, &mut Unwatched);
     Answer {
         status,
         out,
@@ -48,7 +49,7 @@ fn valid_of(alloc: Global, text: Option<&[u8]>, proofs: Option<&[u8]>, most: usi
     let files = Files { text, proofs };
     let mut out = Taker::new(alloc, most);
     let mut faults = Taker::new(alloc, most);
-    let status = perform(alloc, &line, &files, &mut out, &mut faults);
+    let status = perform(alloc, &line, &files, &mut out, &mut faults, &mut Unwatched);
     Answer {
         status,
         out,
@@ -70,7 +71,7 @@ fn find_of(alloc: Global, text: &str, steps: u64) -> Answer {
     };
     let mut out = Taker::new(alloc, 1 << 20);
     let mut faults = Taker::new(alloc, 1 << 20);
-    let status = perform(alloc, &line, &files, &mut out, &mut faults);
+    let status = perform(alloc, &line, &files, &mut out, &mut faults, &mut Unwatched);
     Answer {
         status,
         out,
@@ -319,7 +320,7 @@ fn tells_a_failing_output(rt: HostRuntime) -> Result<(), Fail> {
         for kept in 0..=printed.len() {
             let mut out = Fuse::new(Taker::new(rt.alloc(), 1), kept as u64);
             let mut faults = Taker::new(rt.alloc(), 64);
-            let status = perform(rt.alloc(), &line, &first_files(), &mut out, &mut faults);
+            let status = perform(rt.alloc(), &line, &first_files(), &mut out, &mut faults, &mut Unwatched);
             let (last, told) = if kept < printed.len() {
                 (3, "refused 63\n")
             } else {
@@ -342,7 +343,7 @@ fn passes_over_failing_faults(rt: HostRuntime) -> Result<(), Fail> {
         let files = Files { text, proofs: None };
         let mut out = Taker::new(rt.alloc(), 1);
         let mut faults = Fuse::new(Taker::new(rt.alloc(), 1), 4);
-        assert!(rt; perform(rt.alloc(), &line, &files, &mut out, &mut faults) == status);
+        assert!(rt; perform(rt.alloc(), &line, &files, &mut out, &mut faults, &mut Unwatched) == status);
         assert!(rt; out.bytes().is_empty() && faults.inner().bytes().len() == 4);
     }
     Ok(())
@@ -361,6 +362,7 @@ fn tells_refused_memory(rt: HostRuntime) -> Result<(), Fail> {
             &first_files(),
             &mut Device::new(out.as_mut_slice()),
             &mut Device::new(faults.as_mut_slice()),
+            &mut Unwatched,
         );
         let done = status == 0 && out.starts_with(printed.as_bytes()) && faults[0] == 0;
         let refused = status == 3 && faults.starts_with(b"refused 99\n") && faults[11] == 0;

@@ -2,12 +2,13 @@
 #![tactic(auto)]
 
 use clap::error::ErrorKind;
+use rg_find::Watcher;
 use rg_words::limits::{MOST_PROOF_BYTES, MOST_TEXT_BYTES};
 use rg_words::{Buffered, Device};
 use rgc::{Command, Files, Line, LineFault, perform};
 use std::alloc::AllocError;
 use std::fs::File;
-use std::io::Read;
+use std::io::{IsTerminal, Read};
 use std::process::ExitCode;
 use std::{env, io};
 
@@ -50,16 +51,42 @@ fn tell(rt: &HostRuntime, text: &str) -> u8 {
     3
 }
 
+/// The conflicts between two lines that tell of a search.
+const CONFLICTS_TOLD: u64 = 1_000;
+
+/// Standard error, where a long search is told of if it is a terminal.
+struct Terminal<'a> {
+    rt: &'a HostRuntime,
+    is_terminal: bool,
+    /// The conflicts from which on it is told of again.
+    next: u64,
+}
+
+impl Watcher for Terminal<'_> {
+    fn searched(&mut self, conflicts: u64, learned: usize) {
+        if !self.is_terminal || conflicts < self.next {
+            return;
+        }
+        self.next = conflicts.saturating_add(CONFLICTS_TOLD);
+        let _ = eprintln!(self.rt; "{conflicts} conflicts, {learned} learned clauses");
+    }
+}
+
 /// Does the command over its files, and writes what it printed; the status. What `find` prints goes out at once, all else
 /// through a buffer.
 fn done(rt: &HostRuntime, line: &Line<'_>, files: &Files<'_>) -> Result<u8, AllocError> {
     let mut faults = Device::new(rt.stderr());
+    let mut watcher = Terminal {
+        rt,
+        is_terminal: rt.stderr().is_terminal(),
+        next: CONFLICTS_TOLD,
+    };
     if matches!(line.command, Command::Find { .. }) {
         let mut out = Device::new(rt.stdout());
-        return Ok(perform(rt.alloc(), line, files, &mut out, &mut faults));
+        return Ok(perform(rt.alloc(), line, files, &mut out, &mut faults, &mut watcher));
     }
     let mut out = Buffered::new(rt.alloc(), Device::new(rt.stdout()))?;
-    let status = perform(rt.alloc(), line, files, &mut out, &mut faults);
+    let status = perform(rt.alloc(), line, files, &mut out, &mut faults, &mut watcher);
     if status == 0 && out.flush().is_err() {
         return Ok(tell(rt, "refused 63"));
     }

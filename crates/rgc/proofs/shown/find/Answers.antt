@@ -4,7 +4,7 @@ use Rattle.rgc.proofs.OneList.{shown_moves}
 use Rattle.rgc.proofs.shown.find.Goals as goal
 
 pub returns-in-Ok-judge-clause-holds : goal.returns-in-Ok-judge-clause-holds
-returns-in-Ok-judge-clause-holds c = λ h words f sp.
+returns-in-Ok-judge-clause-holds g c = λ h words f sp.
     let same = c.one_meaning.ensures.show c.args.text.now _ words _ f c.in-Ok.ensures.spells sp in
     let claim_is = shown_moves _ _ words _ f c.show-condition.ensures same in
     subst (λ (d : Claim). ConditionHolds d) claim_is h
