@@ -1,4 +1,5 @@
 pub mod Places
+pub mod Reading
 pub mod Rules
 pub mod Lines
 pub mod Find

@@ -6,10 +6,12 @@ mod derivation;
 mod fits;
 mod laws;
 mod names;
+mod read;
 mod table;
 #[cfg(test)]
 mod tests;
 
 pub use derivation::Derivation;
 pub use laws::{derivations_have_no_fault, rules_are_sound};
+pub use read::derivations_read_in_one_way;
 pub use rg_tree::line::{Line, Rule};

@@ -72,7 +72,7 @@ fn part(alloc: Global, name: &str, body: Stmt) -> Result<Part, Fail>
 }
 
 /// Two parts of `skip`, which are statements 1 and 2.
-fn two_skips(alloc: Global) -> Result<Program, Fail>
+pub fn two_skips(alloc: Global) -> Result<Program, Fail>
     ensures { IfOk result (λ p. p.layout ≡ []) }
 {
     let mut parts = Vec::new(alloc);
