@@ -73,7 +73,7 @@ fn push_state(
 }
 
 /// The text that tells the states at which a formula fails.
-fn failure_text(
+pub(crate) fn failure_text(
     alloc: Global,
     words: &Layout,
     first: &State,

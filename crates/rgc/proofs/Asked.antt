@@ -1,0 +1,28 @@
+-- What the conditions of a derivation give together.
+use Rattle.std.proofs.Common.{◌≡◌, List, [], ◌∷◌, ◌++◌, map, subst, sym, ◌∙◌, ap}
+use Rattle.std.proofs.lemmas.List.{map-append}
+use Rattle.rg_tree.specs.Claims.{Claim}
+use Rattle.rg_tree.specs.Lines.{LineTree}
+use Rattle.rg_tree.specs.Numbering.{statements_of_parts}
+use Rattle.rg_tree.specs.Statements.{ProgramTree}
+use Rattle.rg_tree.specs.Programs.{IsSatisfied, PartsSatisfy}
+use Rattle.rg_tree.specs.Obligations.{obligation_claim, AllConditionsHold}
+use Rattle.rg_rules.specs.Derivations.{obligations_of}
+use Rattle.rg_par.specs.Parallel.{parallel_obligations}
+use Rattle.rg_par.proofs.Sound.{conditions_sound}
+use Rattle.rgc.specs.Accepted.{asked_of, conditions_of}
+
+-- of conditions that all hold, those in front hold, and those behind
+hold_in_front : (cs ds : List Claim) → AllConditionsHold (cs ++ ds) → AllConditionsHold cs
+hold_in_front [] ds h = tt
+hold_in_front (c ∷ cs) ds h = (h.0, hold_in_front cs ds h.1)
+
+hold_behind : (cs ds : List Claim) → AllConditionsHold (cs ++ ds) → AllConditionsHold ds
+hold_behind [] ds h = h
+hold_behind (c ∷ cs) ds h = hold_behind cs ds h.1
+
+-- where the conditions of the lines and the parallel ones hold, the program satisfies its specification
+pub all_sound : (p : ProgramTree) (first all : List Claim) → all ≡ first ++ map (obligation_claim p.words) (parallel_obligations p.spec p.parts) → (AllConditionsHold first → PartsSatisfy p) → AllConditionsHold all → IsSatisfied p
+all_sound p first all is parts h =
+    let split = subst (λ (cs : List Claim). AllConditionsHold cs) is h in
+    conditions_sound p (hold_behind first (map (obligation_claim p.words) (parallel_obligations p.spec p.parts)) split) (parts (hold_in_front first (map (obligation_claim p.words) (parallel_obligations p.spec p.parts)) split))

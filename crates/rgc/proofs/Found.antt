@@ -1,0 +1,23 @@
+-- Why a search is refused.
+use Rattle.std.proofs.Common.{◌≡◌, ℕ, ◌<◌, List, inl, inr, ⊎_elim, ap, subst}
+use Rattle.rg_words.specs.declared.limits.TheConstants.{MOST_VARIABLES}
+use Rattle.rg_words.specs.declared.refusal.Refusal.{Refusal}
+use Rattle.rg_words.specs.declared.refusal.SourceFile.TheVariants.{Text}
+use Rattle.rg_words.specs.Layout.{Word}
+use Rattle.rg_tree.specs.Trees.{Proposition}
+use Rattle.rg_tree.specs.Conditions.{Claim, shown}
+use Rattle.rg_parse.specs.Shown.{SpellsShow}
+use Rattle.rg_clauses.specs.Conditions.{clauses_of_claim}
+use Rattle.rg_find.specs.Judged.{IsJudgeRefusal}
+use Rattle.rgc.specs.Valid.{IsFindRefusal}
+
+-- a formula that a text spells is not judged: want of memory, its variables, or the decisions
+pub find_refused : (text : List ℕ) (steps : ℕ) (words : List Word) (f : Proposition) (c : Claim) (e : Refusal) → SpellsShow text words f → c ≡ shown words f → IsJudgeRefusal c Text 1 steps e → IsFindRefusal text steps e
+find_refused text steps words f c e spells is r =
+    ⊎_elim
+    (λ m. inl (inl (inl (inr (inr m)))))
+    (λ other. ⊎_elim
+        (λ many. inl (inr (words, f, spells, subst (λ (d : Claim). MOST_VARIABLES < (clauses_of_claim d).variables) is many.0, many.1)))
+        (λ steps_. inr steps_)
+        other)
+    r

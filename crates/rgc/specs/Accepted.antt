@@ -1,0 +1,41 @@
+-- When a derivation and clause proofs are accepted for a program, why they are refused, and what is then known of the program's code.
+use Rattle.std.specs.Prelude.{◌⊎◌, ℕ, List, ◌++◌, map, string_bytes}
+use Rattle.rg_words.specs.declared.refusal.Refusal.{Refusal}
+use Rattle.rg_tree.specs.Claims.{Claim}
+use Rattle.rg_tree.specs.Lines.{LineTree}
+use Rattle.rg_tree.specs.Statements.{ProgramTree}
+use Rattle.rg_tree.specs.Numbering.{statements_of_parts}
+use Rattle.rg_tree.specs.Programs.{IsSatisfied}
+use Rattle.rg_tree.specs.Obligations.{Obligation, obligation_claim}
+use Rattle.rg_rules.specs.Derivations.{obligations_of}
+use Rattle.rg_rules.specs.Reading.{FitsProgram, IsDerivationRefusal}
+use Rattle.rg_par.specs.Parallel.{parallel_obligations}
+use Rattle.rg_hints.specs.Proved.{AreProved, IsProofsRefusal}
+use Rattle.rg_code.specs.Code.{BlockTree, HasRunsOf}
+
+-- what the rules ask of a program and the lines of its derivation: first for the lines, then for the parallel parts
+abbrev pub asked_of : ProgramTree → List LineTree → List Obligation
+asked_of p lines = obligations_of (statements_of_parts p.parts) lines lines ++ parallel_obligations p.spec p.parts
+
+-- the conditions, which are numbered from 1 in this order
+abbrev pub conditions_of : ProgramTree → List LineTree → List Claim
+conditions_of p lines = map (obligation_claim p.words) (asked_of p lines)
+
+-- accepted by the written rules for this program: the derivation spells lines that derive its parts, and the proofs prove every condition
+pub record IsAccepted (p : ProgramTree) (derivation proofs : List ℕ) : Type 0 where
+  pub lines : List LineTree
+  pub fits : FitsProgram p derivation lines
+  pub proved : AreProved (conditions_of p lines) proofs
+
+-- the first fault over both files: of the derivation, then of the proofs
+abbrev pub IsAcceptRefusal : ProgramTree → List ℕ → List ℕ → Refusal → Type 0
+IsAcceptRefusal p derivation proofs e =
+    IsDerivationRefusal p derivation e ⊎ ((lines : List LineTree) × FitsProgram p derivation lines × IsProofsRefusal (conditions_of p lines) proofs e)
+
+-- the derivation and the proofs are accepted by the written rules, the code has exactly the runs of the program, and every run from its pre,
+-- with steps of the environment inside its rely, makes only steps inside its guarantee and the acting part's own, and where it has ended,
+-- stands in its post
+pub record IsBuilt (p : ProgramTree) (derivation proofs : List ℕ) (code : List (List BlockTree)) : Type 0 where
+  pub accepted : IsAccepted p derivation proofs
+  pub runs : HasRunsOf p code
+  pub satisfied : IsSatisfied p

@@ -1,0 +1,124 @@
+//! A whole proofs file, found by a search for each condition.
+
+ghost use Rattle.std.specs.Prelude.{IfOk};
+ghost use Rattle.rgc.specs.Proofs.{AreFoundFor};
+ghost use Rattle.rgc.specs.Stages.{derived_program, derived_lines};
+
+use crate::commands::failure_text;
+use crate::stages::Derived;
+use rg_find::{Judged, Watcher, judge};
+use rg_hints::prove;
+use rg_tree::condition::Condition;
+use rg_words::{Refusal, SourceFile};
+use std::alloc::Global;
+
+/// What searches found.
+#[derive(Drop)]
+struct Search {
+    /// The sections of the conditions that need one.
+    sections: String,
+    /// What is told of the conditions for which no lines were found.
+    failures: String,
+}
+
+impl Search {
+    /// Takes what a search says of the condition of this number and name.
+    fn take(
+        &mut self,
+        alloc: Global,
+        condition: &Condition,
+        number: usize,
+        name: &str,
+        judged: Judged,
+    ) -> Result<(), Refusal> {
+        match judged {
+            Judged::Holds(lines) if lines.len() == 0 => {}
+            Judged::Holds(lines) => {
+                let head = format!(in alloc; "section {number}\n")?;
+                self.sections.push_str(&head)?;
+                let text = lines.text(alloc)?;
+                self.sections.push_str(&text)?;
+            }
+            Judged::Fails(first, second) => {
+                let head = format!(in alloc; "condition {number} {name} ")?;
+                self.failures.push_str(&head)?;
+                let states = failure_text(alloc, &condition.layout, &first, &second)?;
+                self.failures.push_str(&states)?;
+            }
+            Judged::GaveUp => {
+                let told = format!(in alloc; "condition {number} {name} gave up\n")?;
+                self.failures.push_str(&told)?;
+            }
+        }
+        Ok(())
+    }
+}
+
+/// Searches for lines for each condition, with at most so many decisions each.
+fn search_all<P: Watcher>(
+    alloc: Global,
+    conditions: &[Condition],
+    names: &[String],
+    steps: u64,
+    watcher: &mut P,
+) -> Result<Search, Refusal> {
+    let mut found = Search {
+        sections: String::new(alloc),
+        failures: String::new(alloc),
+    };
+    for (i, condition) in conditions.iter().enumerate() {
+        let number = i + 1;
+        let name = names.get(i).map_or("", |name| name.as_str());
+        let judged = judge(
+            alloc,
+            condition,
+            SourceFile::Derivation,
+            number as u64,
+            steps,
+            watcher,
+        )?;
+        found.take(alloc, condition, number, name, judged)?;
+    }
+    Ok(found)
+}
+
+/// What searches for all conditions of a program's derivation found.
+#[derive(Drop)]
+pub enum ProofsFound {
+    /// A proofs file that proves all of them.
+    Proofs(String),
+    /// What is told of those that fail, at which states, and of those for which the search gave up, a line or more each.
+    Failures(String),
+}
+
+/// Looks for proofs of all conditions of a program's derivation, with at most so many decisions for each.
+///
+/// # Errors
+///
+/// `Limit` at the first condition with too many variables; `Limit`, without a file and a place, where more than `MOST_DECISIONS` are
+/// asked for; `Limit` at line 1 of the proofs where they are too large. `Memory` where memory is refused.
+pub fn find_proofs<P: Watcher>(
+    alloc: Global,
+    derived: &Derived,
+    steps: u64,
+    watcher: &mut P,
+) -> Result<ProofsFound, Refusal>
+    // What is given proves all conditions: it is checked before it is given.
+    ensures { IfOk result (AreFoundFor (derived_program derived.now) (derived_lines derived.now)) }
+{
+    let conditions = derived.conditions(alloc)?;
+    let names = derived.names(alloc)?;
+    let found = search_all(
+        alloc,
+        conditions.as_slice(),
+        names.as_slice(),
+        steps,
+        watcher,
+    )?;
+    let Search { sections, failures } = found;
+    if !failures.is_empty() {
+        return Ok(ProofsFound::Failures(failures));
+    }
+    prove(alloc, conditions.as_slice(), sections.as_bytes())?;
+    Ok(ProofsFound::Proofs(sections))
+}

@@ -1,0 +1,129 @@
+//! The calls that lead from one stage to the next.
+
+ghost use Rattle.std.specs.Prelude.{◌≡◌, List, map, string_bytes, IfOk, IfErr, OnOk};
+ghost use Rattle.rg_words.specs.Refusals.{no_memory};
+ghost use Rattle.rg_tree.specs.ProgramTrees.{program as program_tree};
+ghost use Rattle.rg_tree.specs.Conditions.{claim};
+ghost use Rattle.rg_tree.specs.Obligations.{AllConditionsHold};
+ghost use Rattle.rg_tree.specs.Programs.{IsSatisfied};
+ghost use Rattle.rg_tree.specs.Lines.{LineTree};
+ghost use Rattle.rg_hints.specs.Proved.{AreProved, IsProofsRefusal};
+ghost use Rattle.rg_code.specs.Code.{HasRunsOf};
+ghost use Rattle.rg_rules.specs.Reading.{FitsProgram, IsDerivationRefusal};
+ghost use Rattle.rgc.specs.Accepted.{conditions_of};
+ghost use Rattle.rgc.specs.Conditions.{names_of};
+ghost use Rattle.rgc.specs.Stages.{derived_program, derived_lines, accepted_program, emitted_program, emitted_blocks};
+
+use super::{Accepted, Derived, Emitted};
+use rg_code::compile::compile;
+use rg_par::conditions::add_conditions;
+use rg_par::names::add_names;
+use rg_rules::Derivation;
+use rg_tree::condition::Condition;
+use rg_tree::program::Program;
+use rg_words::Refusal;
+use std::alloc::{AllocError, Global};
+
+impl Derived {
+    /// The program with the lines that a derivation spells, which derive its parts.
+    ///
+    /// # Errors
+    ///
+    /// The first fault of the derivation, as `rg_rules::Derivation::read` tells it.
+    pub fn read(alloc: Global, program: Program, derivation: &[u8]) -> Result<Derived, Refusal>
+        ensures program { IfOk result (λ d. derived_program d ≡ program_tree program) }
+        ensures fits { IfOk result (λ d. FitsProgram (program_tree program) derivation.now (derived_lines d)) }
+        ensures refused { IfErr result (IsDerivationRefusal (program_tree program) derivation.now) }
+        ensures accepts { (ls : List LineTree) → FitsProgram (program_tree program) derivation.now ls → IfErr result (λ e. e ≡ no_memory) }
+    {
+        match Derivation::read(alloc, &program, derivation) {
+            Ok(derivation) => Ok(Derived {
+                program,
+                derivation,
+            }),
+            Err(refusal) => Err(refusal),
+        }
+    }
+
+    /// The program.
+    pub fn program(&self) -> &Program
+        ensures { program_tree result.now ≡ derived_program self.now }
+    {
+        &self.program
+    }
+
+    /// The conditions of the rules: those of the lines in their order, then those of the parallel parts. They are numbered from 1.
+    ///
+    /// # Errors
+    ///
+    /// Only where memory is refused.
+    pub fn conditions(&self, alloc: Global) -> Result<Vec<Condition>, AllocError>
+        // Exactly the rules' list.
+        ensures list { IfOk result (λ all. map claim all.items ≡ conditions_of (derived_program self.now) (derived_lines self.now)) }
+        // Where all of them are true, the program satisfies its specification.
+        ensures sound { IfOk result (λ all. AllConditionsHold (map claim all.items) → IsSatisfied (derived_program self.now)) }
+    {
+        let mut all = self.derivation.conditions(alloc, &self.program)?;
+        add_conditions(alloc, &mut all, &self.program)?;
+        Ok(all)
+    }
+
+    /// The name of each condition, in the order of `conditions`.
+    ///
+    /// # Errors
+    ///
+    /// Only where memory is refused.
+    pub fn names(&self, alloc: Global) -> Result<Vec<String>, AllocError>
+        ensures { IfOk result (λ all. map string_bytes all.items ≡ names_of (derived_program self.now) (derived_lines self.now)) }
+    {
+        let mut all = self.derivation.names(alloc)?;
+        add_names(alloc, &mut all, &self.program)?;
+        Ok(all)
+    }
+
+    /// The program, where the proofs prove all its conditions. It then satisfies its specification.
+    ///
+    /// # Errors
+    ///
+    /// The first fault of the proofs, as `rg_hints::prove` tells it.
+    pub fn prove(self, alloc: Global, proofs: &[u8]) -> Result<Accepted, Refusal>
+        ensures program { IfOk result (λ a. accepted_program a ≡ derived_program self) }
+        ensures proved { OnOk result (AreProved (conditions_of (derived_program self) (derived_lines self)) proofs.now) }
+        ensures satisfied { IfOk result (λ a. IsSatisfied (accepted_program a)) }
+        ensures refused { IfErr result (IsProofsRefusal (conditions_of (derived_program self) (derived_lines self)) proofs.now) }
+        ensures accepts { AreProved (conditions_of (derived_program self) (derived_lines self)) proofs.now → IfErr result (λ e. e ≡ no_memory) }
+    {
+        let conditions = self.conditions(alloc)?;
+        match rg_hints::prove(alloc, conditions.as_slice(), proofs) {
+            Ok(()) => {}
+            Err(refusal) => return Err(refusal),
+        }
+        let Derived { program, .. } = self;
+        Ok(Accepted { program })
+    }
+}
+
+impl Accepted {
+    /// The program.
+    pub fn program(&self) -> &Program
+        ensures { program_tree result.now ≡ accepted_program self.now }
+    {
+        &self.program
+    }
+
+    /// The program with its code.
+    ///
+    /// # Errors
+    ///
+    /// Only where memory is refused.
+    pub fn emit(self, alloc: Global) -> Result<Emitted, Refusal>
+        ensures program { IfOk result (λ e. emitted_program e ≡ accepted_program self) }
+        // A trace with its flag is a run of the code if and only if it is a run of the program, with any steps of the environment.
+        ensures runs { IfOk result (λ e. HasRunsOf (accepted_program self) (emitted_blocks e)) }
+        ensures refused { IfErr result (λ e. e ≡ no_memory) }
+    {
+        let Accepted { program, .. } = self;
+        let code = compile(alloc, &program)?;
+        Ok(Emitted { program, code })
+    }
+}
