@@ -21,9 +21,9 @@ mod simulation;
 mod solver;
 mod sweep;
 mod table;
-mod watcher;
 #[cfg(test)]
 mod tests;
+mod watcher;
 
 pub use answer::{Found, find, find_watched};
 pub use judgement::{Judged, judge};

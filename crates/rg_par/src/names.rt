@@ -89,11 +89,7 @@ fn add_text(alloc: Global, all: &mut Vec<String>, text: &str) -> Result<(), Allo
 /// `all post`, where P and Q are names of parts.
 ///
 /// Refused only where memory was refused.
-pub fn add_names(
-    alloc: Global,
-    all: &mut Vec<String>,
-    program: &Program,
-) -> Result<(), AllocError>
+pub fn add_names(alloc: Global, all: &mut Vec<String>, program: &Program) -> Result<(), AllocError>
     // Exactly these, behind what was there.
     ensures { OnOk result (map string_bytes all.new.items ≡ map string_bytes all.old.items ++ parallel_names (map part program.now.parts.items)) }
 {

@@ -17,7 +17,7 @@ find_refused text steps words f c e spells is r =
     ⊎_elim
     (λ m. inl (inl (inl (inr (inr m)))))
     (λ other. ⊎_elim
-        (λ many. inl (inr (words, f, spells, subst (λ (d : Claim). MOST_VARIABLES < (clauses_of_claim d).variables) is many.0, many.1)))
-        (λ steps_. inr steps_)
-        other)
+    (λ many. inl (inr (words, f, spells, subst (λ (d : Claim). MOST_VARIABLES < (clauses_of_claim d).variables) is many.0, many.1)))
+    (λ steps_. inr steps_)
+    other)
     r

@@ -70,7 +70,11 @@ fn write_names<W: Out>(alloc: Global, names: &[String], out: &mut W) -> Result<(
 /// # Errors
 ///
 /// `Write` where the writer failed, `Memory` where memory was refused, both without a file and a place.
-pub fn write_conditions<W: Out>(alloc: Global, derived: &Derived, out: &mut W) -> Result<(), Refusal>
+pub fn write_conditions<W: Out>(
+    alloc: Global,
+    derived: &Derived,
+    out: &mut W,
+) -> Result<(), Refusal>
     requires { W.failures out.old < 2 ^ 64 - 1 }
     ensures printed { OnOk result (Appends (W.contents out.old) (W.contents out.new) (conditions_text (derived_program derived.now) (derived_lines derived.now))) }
     ensures failures { OnOk result (W.failures out.new ≡ W.failures out.old) }

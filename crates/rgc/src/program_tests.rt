@@ -18,7 +18,8 @@ use rg_words::{Fuse, Layout, Place, Refusal, RefusalNumber, SourceFile, Taker};
 use std::alloc::{AllocError, Global};
 use std::test::Fail;
 
-const LINES: &str = "line 1 basic 1 pre true rely true guar true post true\nline 2 basic 2 pre true rely true guar true post true\n";
+const LINES: &str =
+    "line 1 basic 1 pre true rely true guar true post true\nline 2 basic 2 pre true rely true guar true post true\n";
 
 /// A specification that every run meets.
 fn anything() -> Spec
@@ -64,7 +65,8 @@ fn an_accepted_program_has_code(rt: HostRuntime) -> Result<(), Fail> {
     let emitted = build_program(alloc, program, LINES.as_bytes(), b"")?;
     let mut out = Taker::new(alloc, 1);
     write_listing(alloc, emitted.code(), &mut out)?;
-    let listing = "{\"parts\":[{\"blocks\":[[\"do\",8,1,[]],[\"end\"]],\"name\":\"a\"},{\"blocks\":[[\"do\",11,1,[]],[\"end\"]],\"name\":\"b\"}],\"words\":[]}\n";
+    let listing =
+        "{\"parts\":[{\"blocks\":[[\"do\",8,1,[]],[\"end\"]],\"name\":\"a\"},{\"blocks\":[[\"do\",11,1,[]],[\"end\"]],\"name\":\"b\"}],\"words\":[]}\n";
     assert!(rt; out.bytes() == listing.as_bytes());
     assert_eq!(rt; emitted.program().parts.len(), 2);
     Ok(())
@@ -117,7 +119,8 @@ fn conditions_are_printed(rt: HostRuntime) -> Result<(), Fail> {
     let derived = Derived::read(alloc, two_skips(alloc, true)?, LINES.as_bytes())?;
     let mut out = Taker::new(alloc, 1 << 20);
     write_conditions(alloc, &derived, &mut out)?;
-    let printed = "pre true\n1 line 1 reach\n2 line 1 step\n3 line 1 pre stable\n4 line 1 post stable\n5 line 2 reach\n6 line 2 step\n7 line 2 pre stable\n8 line 2 post stable\n9 all pre a\n10 all pre b\n11 all rely a\n12 all rely b\n13 all guar b rely a\n14 all guar a rely b\n15 all guar a\n16 all guar b\n17 all post\n";
+    let printed =
+        "pre true\n1 line 1 reach\n2 line 1 step\n3 line 1 pre stable\n4 line 1 post stable\n5 line 2 reach\n6 line 2 step\n7 line 2 pre stable\n8 line 2 post stable\n9 all pre a\n10 all pre b\n11 all rely a\n12 all rely b\n13 all guar b rely a\n14 all guar a rely b\n15 all guar a\n16 all guar b\n17 all post\n";
     assert!(rt; out.bytes() == printed.as_bytes());
     let mut broken = Fuse::new(Taker::new(alloc, 1), 20);
     let told = write_conditions(alloc, &derived, &mut broken).err();

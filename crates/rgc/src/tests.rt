@@ -5,8 +5,8 @@ use crate::commands::{Files, perform};
 use crate::line::{Line, LineFault};
 use crate::numbers::line_of;
 use clap::error::ErrorKind;
-use rg_tree::numbered::{Numbered, StatementKind};
 use rg_find::Unwatched;
+use rg_tree::numbered::{Numbered, StatementKind};
 use rg_words::{Device, Fuse, Out, Taker};
 use std::alloc::{AllocError, Global};
 use std::test::Fail;
@@ -320,7 +320,14 @@ fn tells_a_failing_output(rt: HostRuntime) -> Result<(), Fail> {
         for kept in 0..=printed.len() {
             let mut out = Fuse::new(Taker::new(rt.alloc(), 1), kept as u64);
             let mut faults = Taker::new(rt.alloc(), 64);
-            let status = perform(rt.alloc(), &line, &first_files(), &mut out, &mut faults, &mut Unwatched);
+            let status = perform(
+                rt.alloc(),
+                &line,
+                &first_files(),
+                &mut out,
+                &mut faults,
+                &mut Unwatched,
+            );
             let (last, told) = if kept < printed.len() {
                 (3, "refused 63\n")
             } else {
@@ -343,7 +350,16 @@ fn passes_over_failing_faults(rt: HostRuntime) -> Result<(), Fail> {
         let files = Files { text, proofs: None };
         let mut out = Taker::new(rt.alloc(), 1);
         let mut faults = Fuse::new(Taker::new(rt.alloc(), 1), 4);
-        assert!(rt; perform(rt.alloc(), &line, &files, &mut out, &mut faults, &mut Unwatched) == status);
+        assert!(rt;
+            perform(
+                rt.alloc(),
+                &line,
+                &files,
+                &mut out,
+                &mut faults,
+                &mut Unwatched
+            ) == status
+        );
         assert!(rt; out.bytes().is_empty() && faults.inner().bytes().len() == 4);
     }
     Ok(())

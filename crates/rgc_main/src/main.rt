@@ -55,6 +55,7 @@ fn tell(rt: &HostRuntime, text: &str) -> u8 {
 const CONFLICTS_TOLD: u64 = 1_000;
 
 /// Standard error, where a long search is told of if it is a terminal.
+#[derive(Clone, Copy)]
 struct Terminal<'a> {
     rt: &'a HostRuntime,
     is_terminal: bool,
