@@ -1,7 +1,6 @@
 -- From what is accepted to that no file is at fault, and from the fault of the proofs to that of both files.
 use Rattle.std.proofs.Common.{◌≡◌, ℕ, List, inr, subst, sym}
 use Rattle.rg_words.specs.declared.refusal.Refusal.{Refusal}
-use Rattle.rg_tree.specs.Claims.{Claim}
 use Rattle.rg_tree.specs.Statements.{ProgramTree}
 use Rattle.rg_tree.specs.Lines.{LineTree}
 use Rattle.rg_rules.specs.Reading.{FitsProgram, OneDerivation}

@@ -1,16 +1,11 @@
 -- What the conditions of a derivation give together.
-use Rattle.std.proofs.Common.{◌≡◌, List, [], ◌∷◌, ◌++◌, map, subst, sym, ◌∙◌, ap}
-use Rattle.std.proofs.lemmas.List.{map-append}
+use Rattle.std.proofs.Common.{◌≡◌, List, [], ◌∷◌, ◌++◌, map, subst}
 use Rattle.rg_tree.specs.Claims.{Claim}
-use Rattle.rg_tree.specs.Lines.{LineTree}
-use Rattle.rg_tree.specs.Numbering.{statements_of_parts}
 use Rattle.rg_tree.specs.Statements.{ProgramTree}
 use Rattle.rg_tree.specs.Programs.{IsSatisfied, PartsSatisfy}
 use Rattle.rg_tree.specs.Obligations.{obligation_claim, AllConditionsHold}
-use Rattle.rg_rules.specs.Derivations.{obligations_of}
 use Rattle.rg_par.specs.Parallel.{parallel_obligations}
 use Rattle.rg_par.proofs.Sound.{conditions_sound}
-use Rattle.rgc.specs.Accepted.{asked_of, conditions_of}
 
 -- of conditions that all hold, those in front hold, and those behind
 hold_in_front : (cs ds : List Claim) → AllConditionsHold (cs ++ ds) → AllConditionsHold cs

@@ -1,5 +1,5 @@
 -- When a derivation and clause proofs are accepted for a program, why they are refused, and what is then known of the program's code.
-use Rattle.std.specs.Prelude.{◌⊎◌, ℕ, List, ◌++◌, map, string_bytes}
+use Rattle.std.specs.Prelude.{◌⊎◌, ℕ, List, ◌++◌, map}
 use Rattle.rg_words.specs.declared.refusal.Refusal.{Refusal}
 use Rattle.rg_tree.specs.Claims.{Claim}
 use Rattle.rg_tree.specs.Lines.{LineTree}

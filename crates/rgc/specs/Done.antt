@@ -1,5 +1,5 @@
 -- What a command has done where its status is 0.
-use Rattle.std.specs.Prelude.{◌≡◌, ℕ, List, length, Option, Some, None, codes}
+use Rattle.std.specs.Prelude.{◌≡◌, ℕ, List, length, Option, Some, codes}
 use Rattle.std.specs.Borrow.{Bor}
 use Rattle.std.specs.Io.KnownBytes.{Appends}
 use Rattle.rg_clauses.specs.Formula.{Formula}

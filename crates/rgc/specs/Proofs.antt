@@ -1,5 +1,5 @@
 -- What a search for proofs of all conditions gives.
-use Rattle.std.specs.Prelude.{ℕ, List, string_bytes}
+use Rattle.std.specs.Prelude.{List, string_bytes}
 use Rattle.rg_tree.specs.Lines.{LineTree}
 use Rattle.rg_tree.specs.Statements.{ProgramTree}
 use Rattle.rg_hints.specs.Proved.{AreProved}

@@ -1,6 +1,6 @@
-use Rattle.std.proofs.Common.{◌≡◌, ◌∙◌, ℕ, Ok, sym}
+use Rattle.std.proofs.Common.{◌∙◌, Ok, sym}
 use Rattle.std.specs.Str.Parse.{ParsesUnsigned}
-use Rattle.clap.specs.Words.{Text, found_of, one_text, one_of, rows_of}
+use Rattle.clap.specs.Words.{Text, found_of, one_text}
 use Rattle.clap.proofs.WalkLemmas.{one_text-rows}
 use Rattle.rgc.proofs.Apps.{number_read}
 use Rattle.rgc.proofs.fields.given_number.Goals as goal
