@@ -146,87 +146,99 @@ fn at(number: RefusalNumber, line: u64) -> Option<Refusal> {
 }
 
 #[test]
-fn faults_of_two_parts(rt: HostRuntime) -> Result<(), Fail> {
+fn lines_of_two_parts(rt: HostRuntime) -> Result<(), Fail> {
     let alloc = rt.alloc();
     let program = two_skips(alloc)?;
     let t = Pre::Is(true);
     let second: Row = (2, Rule::Basic, 2, &[], t, true);
     let first: Row = (1, Rule::Basic, 1, &[], t, true);
     assert_eq!(rt; fault(alloc, &program, &[first, second], 2)?, None);
-    let rows: [(Row, Row, Option<Refusal>); 13] = [
-        (
-            first,
-            (3, Rule::Basic, 2, &[], t, true),
-            at(RefusalNumber::LineNumber, 2),
-        ),
-        (
-            first,
-            (3, Rule::Seq, 9, &[0], t, true),
-            at(RefusalNumber::LineNumber, 2),
-        ),
-        (
-            (1, Rule::Basic, 3, &[], t, true),
-            second,
-            at(RefusalNumber::WrongStatement, 1),
-        ),
-        (
-            (1, Rule::Seq, 0, &[], t, true),
-            second,
-            at(RefusalNumber::WrongStatement, 1),
-        ),
-        (
-            (1, Rule::Seq, 1, &[], t, true),
-            second,
-            at(RefusalNumber::RuleDoesNotFit, 1),
-        ),
-        (
-            (1, Rule::Basic, 1, &[1], t, true),
-            second,
-            at(RefusalNumber::RuleDoesNotFit, 1),
-        ),
-        (
-            (1, Rule::Conseq, 1, &[], t, true),
-            second,
-            at(RefusalNumber::RuleDoesNotFit, 1),
-        ),
-        (
-            (1, Rule::Conseq, 1, &[1], t, true),
-            second,
-            at(RefusalNumber::NotEarlier, 1),
-        ),
-        (
-            (1, Rule::Conseq, 1, &[0], t, true),
-            second,
-            at(RefusalNumber::NotEarlier, 1),
-        ),
-        (
-            first,
-            (2, Rule::Conseq, 2, &[1], t, true),
-            at(RefusalNumber::WrongStatement, 2),
-        ),
-        (
-            (2, Rule::Basic, 1, &[], t, true),
-            (3, Rule::Basic, 2, &[], t, true),
-            at(RefusalNumber::LineNumber, 1),
-        ),
-        (
-            first,
-            (2, Rule::Conseq, 1, &[1], t, true),
-            at(RefusalNumber::PartNotDerived, 5),
-        ),
-        (
-            first,
-            (2, Rule::Basic, 2, &[], t, false),
-            at(RefusalNumber::PartNotDerived, 5),
-        ),
-    ];
-    for (one, two, wanted) in rows {
-        assert_eq!(rt; fault(alloc, &program, &[one, two], 5)?, wanted);
-    }
+    let both: Row = (2, Rule::Basic, 1, &[], t, true);
+    let last: Row = (3, Rule::Basic, 2, &[], t, true);
+    assert_eq!(rt;
+        fault(alloc, &program, &[both, last], 5)?,
+        at(RefusalNumber::LineNumber, 1)
+    );
     assert_eq!(rt;
         fault(alloc, &program, &[], 1)?,
         at(RefusalNumber::PartNotDerived, 1)
     );
+    Ok(())
+}
+
+#[test]
+fn faults_of_a_first_line(rt: HostRuntime) -> Result<(), Fail> {
+    let alloc = rt.alloc();
+    let program = two_skips(alloc)?;
+    let t = Pre::Is(true);
+    let second: Row = (2, Rule::Basic, 2, &[], t, true);
+    let rows: [(Row, Option<Refusal>); 7] = [
+        (
+            (1, Rule::Basic, 3, &[], t, true),
+            at(RefusalNumber::WrongStatement, 1),
+        ),
+        (
+            (1, Rule::Seq, 0, &[], t, true),
+            at(RefusalNumber::WrongStatement, 1),
+        ),
+        (
+            (1, Rule::Seq, 1, &[], t, true),
+            at(RefusalNumber::RuleDoesNotFit, 1),
+        ),
+        (
+            (1, Rule::Basic, 1, &[1], t, true),
+            at(RefusalNumber::RuleDoesNotFit, 1),
+        ),
+        (
+            (1, Rule::Conseq, 1, &[], t, true),
+            at(RefusalNumber::RuleDoesNotFit, 1),
+        ),
+        (
+            (1, Rule::Conseq, 1, &[1], t, true),
+            at(RefusalNumber::NotEarlier, 1),
+        ),
+        (
+            (1, Rule::Conseq, 1, &[0], t, true),
+            at(RefusalNumber::NotEarlier, 1),
+        ),
+    ];
+    for (one, wanted) in rows {
+        assert_eq!(rt; fault(alloc, &program, &[one, second], 5)?, wanted);
+    }
+    Ok(())
+}
+
+#[test]
+fn faults_of_a_second_line(rt: HostRuntime) -> Result<(), Fail> {
+    let alloc = rt.alloc();
+    let program = two_skips(alloc)?;
+    let t = Pre::Is(true);
+    let first: Row = (1, Rule::Basic, 1, &[], t, true);
+    let rows: [(Row, Option<Refusal>); 5] = [
+        (
+            (3, Rule::Basic, 2, &[], t, true),
+            at(RefusalNumber::LineNumber, 2),
+        ),
+        (
+            (3, Rule::Seq, 9, &[0], t, true),
+            at(RefusalNumber::LineNumber, 2),
+        ),
+        (
+            (2, Rule::Conseq, 2, &[1], t, true),
+            at(RefusalNumber::WrongStatement, 2),
+        ),
+        (
+            (2, Rule::Conseq, 1, &[1], t, true),
+            at(RefusalNumber::PartNotDerived, 5),
+        ),
+        (
+            (2, Rule::Basic, 2, &[], t, false),
+            at(RefusalNumber::PartNotDerived, 5),
+        ),
+    ];
+    for (two, wanted) in rows {
+        assert_eq!(rt; fault(alloc, &program, &[first, two], 5)?, wanted);
+    }
     Ok(())
 }
 
@@ -254,12 +266,12 @@ fn sequence_fault(
 }
 
 #[test]
-fn faults_of_a_sequence(rt: HostRuntime) -> Result<(), Fail> {
+fn formulas_of_a_sequence(rt: HostRuntime) -> Result<(), Fail> {
     let alloc = rt.alloc();
     let program = one_sequence(alloc)?;
     let t = Pre::Is(true);
     let f = Pre::Is(false);
-    let rows: [(usize, Row, Option<Refusal>); 11] = [
+    let rows: [(usize, Row, Option<Refusal>); 6] = [
         (7, (1, Rule::Basic, 2, &[], t, false), None),
         // The first post isn't the next pre.
         (
@@ -278,6 +290,31 @@ fn faults_of_a_sequence(rt: HostRuntime) -> Result<(), Fail> {
             (3, Rule::Basic, 5, &[], Pre::With(false), true),
             at(RefusalNumber::FormulaDiffers, 4),
         ),
+        // The body doesn't lead back to the loop's pre.
+        (
+            4,
+            (5, Rule::Basic, 7, &[], Pre::With(true), false),
+            at(RefusalNumber::FormulaDiffers, 6),
+        ),
+        (
+            6,
+            (7, Rule::Seq, 1, &[1, 4, 6], t, false),
+            at(RefusalNumber::FormulaDiffers, 7),
+        ),
+    ];
+    for (place, row, wanted) in rows {
+        assert_eq!(rt; sequence_fault(alloc, &program, place, row)?, wanted);
+    }
+    Ok(())
+}
+
+#[test]
+fn premises_of_a_sequence(rt: HostRuntime) -> Result<(), Fail> {
+    let alloc = rt.alloc();
+    let program = one_sequence(alloc)?;
+    let t = Pre::Is(true);
+    let f = Pre::Is(false);
+    let rows: [(usize, Row, Option<Refusal>); 5] = [
         (
             3,
             (4, Rule::If, 3, &[3, 2], f, true),
@@ -292,17 +329,6 @@ fn faults_of_a_sequence(rt: HostRuntime) -> Result<(), Fail> {
             3,
             (4, Rule::If, 3, &[2, 4], f, true),
             at(RefusalNumber::NotEarlier, 4),
-        ),
-        // The body doesn't lead back to the loop's pre.
-        (
-            4,
-            (5, Rule::Basic, 7, &[], Pre::With(true), false),
-            at(RefusalNumber::FormulaDiffers, 6),
-        ),
-        (
-            6,
-            (7, Rule::Seq, 1, &[1, 4, 6], t, false),
-            at(RefusalNumber::FormulaDiffers, 7),
         ),
         (
             6,

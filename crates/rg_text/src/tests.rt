@@ -26,7 +26,7 @@ fn expect_kinds(
 }
 
 #[test]
-fn keywords_are_told_from_names(rt: HostRuntime) -> Result<(), Fail> {
+fn words_of_formulas_are_keywords(rt: HostRuntime) -> Result<(), Fail> {
     let formulas =
         b"words show if then else not and or implies iff true false inv band bor bxor shl shr";
     expect_kinds(
@@ -54,7 +54,11 @@ fn keywords_are_told_from_names(rt: HostRuntime) -> Result<(), Fail> {
             Terminal::ShiftBy(Shift::Right),
         ]
         .map(Kind::Fixed),
-    )?;
+    )
+}
+
+#[test]
+fn words_of_programs_are_keywords(rt: HostRuntime) -> Result<(), Fail> {
     let sections =
         b"fixed pre rely guar post part begin end skip await do while line from basic atomic seq loop conseq at";
     expect_kinds(
@@ -84,14 +88,18 @@ fn keywords_are_told_from_names(rt: HostRuntime) -> Result<(), Fail> {
             Keyword::At,
         ]
         .map(|keyword| Kind::Fixed(Terminal::Section(keyword))),
-    )?;
+    )
+}
+
+#[test]
+fn names_are_told_from_keywords(rt: HostRuntime) -> Result<(), Fail> {
     let names = b"word wordss Words IF _ _if if_ x9 At shll env";
     expect_kinds(&rt, rt.alloc(), names, &[Kind::Name; 11])?;
     expect_kinds(&rt, rt.alloc(), b"x' _' word' x9'", &[Kind::Primed; 4])
 }
 
 #[test]
-fn the_longest_token_is_taken(rt: HostRuntime) -> Result<(), Fail> {
+fn no_space_is_needed(rt: HostRuntime) -> Result<(), Fail> {
     use Kind::{Fixed, Name, Number, Primed};
     let equal = Fixed(Terminal::Compare(Comparison::Equal));
     expect_kinds(
@@ -115,7 +123,11 @@ fn the_longest_token_is_taken(rt: HostRuntime) -> Result<(), Fail> {
         ],
     )?;
     expect_kinds(&rt, rt.alloc(), b"12abc", &[Number, Name])?;
-    expect_kinds(&rt, rt.alloc(), b"x'y'", &[Primed, Primed])?;
+    expect_kinds(&rt, rt.alloc(), b"x'y'", &[Primed, Primed])
+}
+
+#[test]
+fn the_longest_symbol_is_taken(rt: HostRuntime) -> Result<(), Fail> {
     expect_kinds(
         &rt,
         rt.alloc(),
@@ -135,7 +147,7 @@ fn the_longest_token_is_taken(rt: HostRuntime) -> Result<(), Fail> {
             Terminal::Compare(Comparison::LessOrEqual),
             Terminal::Assign,
         ]
-        .map(Fixed),
+        .map(Kind::Fixed),
     )
 }
 

@@ -39,7 +39,7 @@ fn expect_refused(
 }
 
 #[test]
-fn the_first_fault_is_told(rt: HostRuntime) -> Result<(), Fail> {
+fn a_fault_of_widths_is_told(rt: HostRuntime) -> Result<(), Fail> {
     let rows = [
         ("words x:8 y:4 show (x = y)", RefusalNumber::WidthsDiffer, 1),
         (
@@ -59,6 +59,16 @@ fn the_first_fault_is_told(rt: HostRuntime) -> Result<(), Fail> {
             RefusalNumber::Width,
             1,
         ),
+    ];
+    for (text, number, line) in rows {
+        expect_refused(&rt, rt.alloc(), text, number, line)?;
+    }
+    Ok(())
+}
+
+#[test]
+fn a_fault_of_names_or_numbers_is_told(rt: HostRuntime) -> Result<(), Fail> {
+    let rows = [
         ("words x:1 show (x = z)", RefusalNumber::UnknownName, 1),
         ("words x:1 x:1 show true", RefusalNumber::NameTwice, 1),
         ("words x:1 show (5 = 5)", RefusalNumber::WidthUnknown, 1),
@@ -73,6 +83,16 @@ fn the_first_fault_is_told(rt: HostRuntime) -> Result<(), Fail> {
             RefusalNumber::NumberTooLarge,
             1,
         ),
+    ];
+    for (text, number, line) in rows {
+        expect_refused(&rt, rt.alloc(), text, number, line)?;
+    }
+    Ok(())
+}
+
+#[test]
+fn a_group_has_the_width_of_its_first_word(rt: HostRuntime) -> Result<(), Fail> {
+    let rows = [
         // The width is that of the first word, also behind a number.
         (
             "words x:8 y:16 show ((\n300 + x)\n= y)",
@@ -106,6 +126,16 @@ fn the_first_fault_is_told(rt: HostRuntime) -> Result<(), Fail> {
             RefusalNumber::WidthUnknown,
             1,
         ),
+    ];
+    for (text, number, line) in rows {
+        expect_refused(&rt, rt.alloc(), text, number, line)?;
+    }
+    Ok(())
+}
+
+#[test]
+fn the_least_token_is_told(rt: HostRuntime) -> Result<(), Fail> {
+    let rows = [
         // The least token, whatever its number; words come before the formula.
         (
             "words x:8 y:4 show ((x\n= y) and\n(z = 1))",

@@ -69,6 +69,23 @@ fn the_first_fault_of_two_lines_is_told(rt: HostRuntime) -> Result<(), Fail> {
             "2 basic 2",
             Some((RefusalNumber::WrongStatement, 1)),
         ),
+    ];
+    for (first, second, expected) in rows {
+        let text = format!(in alloc; "line {first} {ANYTHING}\nline {second} {ANYTHING}")?;
+        assert_eq!(rt;
+            told(alloc, &program, &text)?,
+            expected,
+            "at {first} and {second}"
+        );
+    }
+    Ok(())
+}
+
+#[test]
+fn faults_of_premises_and_of_large_numbers_are_told(rt: HostRuntime) -> Result<(), Fail> {
+    let alloc = rt.alloc();
+    let program = two_skips(alloc)?;
+    let rows = [
         (
             "1 basic 1 from 1",
             "2 basic 2",
