@@ -9,6 +9,7 @@ use rg_find::Unwatched;
 use rg_tree::numbered::{Numbered, StatementKind};
 use rg_words::{Device, Fuse, Out, Taker};
 use std::alloc::{AllocError, Global};
+use std::process::Abort;
 use std::test::Fail;
 
 /// What a command answered: its status, its output and its faults.
@@ -209,6 +210,22 @@ fn counts_bytes(rt: HostRuntime) -> Result<(), Fail> {
     Ok(())
 }
 
+/// Asks that `valid` answers on a text and proofs with this status, output and fault.
+fn expect_valid(
+    rt: &impl Abort,
+    alloc: Global,
+    rows: &[(&str, &str, u8, &str, &str)],
+) -> Result<(), Fail> {
+    for (text, proofs, status, printed, fault) in rows {
+        let answer = valid_of(alloc, Some(text.as_bytes()), Some(proofs.as_bytes()), 1);
+        assert!(rt; answer.status == *status);
+        assert!(rt;
+            answer.out.bytes() == printed.as_bytes() && answer.faults.bytes() == fault.as_bytes()
+        );
+    }
+    Ok(())
+}
+
 #[test]
 fn says_whether_the_lines_prove_the_formula(rt: HostRuntime) -> Result<(), Fail> {
     let rows = [
@@ -230,6 +247,13 @@ fn says_whether_the_lines_prove_the_formula(rt: HostRuntime) -> Result<(), Fail>
             "refused 47 proofs condition 1\n",
         ),
         (FIRST, "section 1", 1, "", "refused 41 proofs line 1\n"),
+    ];
+    expect_valid(&rt, rt.alloc(), &rows)
+}
+
+#[test]
+fn says_whether_no_lines_are_enough(rt: HostRuntime) -> Result<(), Fail> {
+    let rows = [
         (
             "words x:1 show ((x = 1) or not (x = 1))",
             "",
@@ -266,19 +290,7 @@ fn says_whether_the_lines_prove_the_formula(rt: HostRuntime) -> Result<(), Fail>
             "refused 3 text line 1\n",
         ),
     ];
-    for (text, proofs, status, printed, fault) in rows {
-        let answer = valid_of(
-            rt.alloc(),
-            Some(text.as_bytes()),
-            Some(proofs.as_bytes()),
-            1,
-        );
-        assert!(rt; answer.status == status);
-        assert!(rt;
-            answer.out.bytes() == printed.as_bytes() && answer.faults.bytes() == fault.as_bytes()
-        );
-    }
-    Ok(())
+    expect_valid(&rt, rt.alloc(), &rows)
 }
 
 #[test]
