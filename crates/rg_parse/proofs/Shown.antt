@@ -51,11 +51,11 @@ one_show s t e =
     same_show (declared_words s.words) (declared_words t.words) (claim_of s.formula) (claim_of t.formula) (sym (builds_show s) ∙ ap (steps (declaring [] false ∷ [])) e ∙ builds_show t)
 
 -- a name's text is a name
-abbrev NameOk : Lexeme → Type 0
+abbrev pub NameOk : Lexeme → Type 0
 NameOk (name leaf) = IsName leaf.text
 NameOk _ = Unit {0}
 
-abbrev NamesOk : List Lexeme → Type 0
+abbrev pub NamesOk : List Lexeme → Type 0
 NamesOk [] = Unit {0}
 NamesOk (l ∷ ls) = NameOk l × NamesOk ls
 
@@ -67,7 +67,7 @@ lexeme_ok (Fixed If) leaf h = tt
 lexeme_ok (Fixed (Section Skip)) leaf h = tt
 lexeme_ok (Fixed _) leaf h = tt
 
-names_ok : (src : List ℕ) (ts : List Token) → All (IsTokenOf src) ts → NamesOk (map (lexeme_of src) ts)
+pub names_ok : (src : List ℕ) (ts : List Token) → All (IsTokenOf src) ts → NamesOk (map (lexeme_of src) ts)
 names_ok src [] h = tt
 names_ok src (t ∷ ts) h =
     let here = All-head (IsTokenOf src) t ts h in
@@ -81,7 +81,7 @@ declared_ok w rest h = by_mark w.fixed h
     by_mark true h = (h.1.0, h.1.1.1.1)
     by_mark false h = (h.0, h.1.1.1)
 
-words_ok : (ws : WordsText) (rest : List Lexeme) → NamesOk (words ws rest) → All (λ w. IsName w.name.text) (declared_words ws) × NamesOk rest
+pub words_ok : (ws : WordsText) (rest : List Lexeme) → NamesOk (words ws rest) → All (λ w. IsName w.name.text) (declared_words ws) × NamesOk rest
 words_ok (one w) rest h =
     let here = declared_ok w rest h.1 in
     (All-cons (λ w. IsName w.name.text) w [] here.0 (λ k d less. absurd (omega arith)), here.1)
@@ -91,7 +91,7 @@ words_ok (more ws w) rest h =
     (All-append (λ w. IsName w.name.text) (declared_words ws) (w ∷ []) front.0 (All-cons (λ w. IsName w.name.text) w [] here.0 (λ k d less. absurd (omega arith))), here.1)
 
 -- so the tokens of declarations that say these words have names
-tokens_named : (src : List ℕ) (ds : List Declaration) → All (λ w. IsName w.name.text) (map (declared_word src) ds) → All (λ d. IsName (text_of src d.name)) ds
+pub tokens_named : (src : List ℕ) (ds : List Declaration) → All (λ w. IsName w.name.text) (map (declared_word src) ds) → All (λ d. IsName (text_of src d.name)) ds
 tokens_named src [] h = λ k d less. absurd (omega arith)
 tokens_named src (d ∷ ds) h =
     All-cons (λ d. IsName (text_of src d.name)) d ds (All-head (λ w. IsName w.name.text) (declared_word src d) (map (declared_word src) ds) h)
@@ -103,7 +103,7 @@ declarations_named src ts ds s each spelled e =
     let named = (words_ok s.words _ ok).0 in
     tokens_named src ds (subst (λ ws. All (λ w. IsName w.name.text) ws) (sym e) named)
 
-length-declared : (ws : WordsText) → length (declared_words ws) ≡ word_count ws
+pub length-declared : (ws : WordsText) → length (declared_words ws) ≡ word_count ws
 length-declared (one w) = refl
 length-declared (more ws w) = length-append (declared_words ws) (w ∷ []) ∙ ap (λ n. n + 1) (length-declared ws)
 

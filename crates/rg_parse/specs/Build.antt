@@ -8,7 +8,7 @@ use Rattle.rg_parse.specs.Grammar.{Lexeme, FormulaText, ChainText, ExpressionTex
 use Rattle.rg_parse.specs.Grammar as grammar
 use Rattle.rg_text.specs.Text.{Leaf}
 use Rattle.rg_parse.specs.Syntax.{Term, Claim, number, word, next_word, inverse, binary, shifted, choice, truth, negation, joined, implied, compared, DeclaredWord, ShownClaim, SettingTree, MoveTree, SpecTree, DerivationLine}
-use Rattle.rg_parse.specs.Frames.{Piece, a_claim, a_term, Open, whole, negated, inverted, first, another, second, comparing, operating, chosen, condition, consequent, alternative, finished, after_claim, after_term, after_next, counted, closing, after_condition, after_consequent, declaring, declared, showing, finished_show, SetFor, for_start, for_move, setting_words, set_word, moving}
+use Rattle.rg_parse.specs.Frames.{Piece, a_claim, a_term, Open, whole, negated, inverted, first, another, second, comparing, operating, chosen, condition, consequent, alternative, finished, after_claim, after_term, after_next, counted, closing, after_condition, after_consequent, declaring, declared, showing, finished_show, SetFor, for_start, for_move, setting_words, set_word, moving, whole_value, valued}
 
 -- the open parts, the innermost first, after a whole item; where it may not stand nothing changes
 abbrev pub with_claim : List Open → Claim → List Open
@@ -31,6 +31,7 @@ with_term (operating o b ∷ os) a = closing (a_term (binary o b a)) ∷ os
 with_term (chosen ∷ os) a = closing (a_term a) ∷ os
 with_term (consequent f ∷ os) a = after_consequent f a ∷ os
 with_term (alternative f b ∷ os) a = with_term os (choice f b a)
+with_term (whole_value ∷ os) a = valued a ∷ os
 with_term (o ∷ os) a = o ∷ os
 
 abbrev pub with_piece : List Open → Piece → List Open

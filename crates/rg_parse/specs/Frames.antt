@@ -61,6 +61,8 @@ pub data Open : Type 0 where
   setting_words : SetFor → List SettingTree → Open
   set_word : SetFor → List SettingTree → Leaf → Open
   moving : List MoveTree → Open
+  whole_value : Open
+  valued : Term → Open
 
 abbrev pub open_of : List ℕ → Frame → Open
 open_of src frames.Whole = whole
@@ -90,3 +92,5 @@ open_of src (frames.ShowEnd ws f) = finished_show (map (declared_word src) ws.it
 open_of src (frames.Settings w ss) = setting_words (setter_of src w) (map (setting src) ss.items)
 open_of src (frames.SettingWord w ss l) = set_word (setter_of src w) (map (setting src) ss.items) (leaf_of src l)
 open_of src (frames.Moves ms) = moving (map (move_text src) ms.items)
+open_of src frames.WholeValue = whole_value
+open_of src (frames.Valued a) = valued (term src a)

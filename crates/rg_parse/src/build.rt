@@ -64,6 +64,9 @@ pub enum Frame {
     SettingWord(Setter, Vec<Setting>, Token),
     /// Whole moves, before the first `at` or after another.
     Moves(Vec<MoveText>),
+    /// Before an expression that stands alone, and after it.
+    WholeValue,
+    Valued(Expr),
 }
 
 /// Takes a whole formula into the parts around it.
@@ -131,6 +134,7 @@ fn take_expression(
             let choice = Expr::If(formula, first, Box::new(alloc, expression)?);
             take_expression(alloc, frames, choice)?;
         }
+        Some(Frame::WholeValue) => frames.push(Frame::Valued(expression))?,
         Some(other) => frames.push(other)?,
     }
     Ok(())

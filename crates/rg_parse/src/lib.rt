@@ -1,7 +1,7 @@
 //! The parser: from tokens to typed trees, or the first fault.
 #![tactic(auto)]
 
-mod build;
+pub mod build;
 pub mod declare;
 mod derivation;
 pub mod inputs;

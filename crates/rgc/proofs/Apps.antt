@@ -9,7 +9,10 @@ use Rattle.clap.specs.declared.parser.matches.ArgMatches.{ArgMatches}
 use Rattle.clap.specs.declared.error.Error.{Error}
 use Rattle.clap.specs.declared.builder.command.Command.{Command}
 use Rattle.rgc.specs.App.{IsLeaf, rgc_app}
-use Rattle.rgc.specs.Line.{Names, HasFields, name_of}
+use Rattle.rgc.specs.Line.{Names, HasFields, name_of, IsFieldFault, IsLineFault}
+use Rattle.rgc.specs.declared.fields.FieldFault.{FieldFault}
+use Rattle.rgc.specs.declared.fields.FieldFault.TheVariants.{Incomplete, Apart}
+use Rattle.rgc.specs.declared.line.LineFault.TheVariants.{Fields}
 use Rattle.rgc.specs.declared.command.Command.{Command as RgCommand}
 
 -- a subcommand that is added is the last of the subcommands
@@ -56,3 +59,8 @@ subcommand_at a b words m is simple h =
 -- a command by its name and rows
 pub names_of_rows : (sub : Option (Text × List Row)) (name : Text) (rows : List Row) (command : RgCommand) → sub ≡ Some (name, rows) → name_of command ≡ name → HasFields rows command → Names sub command
 names_of_rows sub name rows command is named fields = (rows, is ∙ ap (λ (n : Text). Some (n, rows)) (sym named), fields)
+
+-- a fault of a subcommand's matches is a fault of the words
+pub fields_refused : (words : List Text) (name : Text) (rows : List Row) (fault : FieldFault) → fault_of rgc_app words ≡ [] → subcommand_of rgc_app words ≡ Some (name, rows) → IsFieldFault rows fault → IsLineFault words (Fields fault)
+fields_refused words name rows Incomplete clean is why = clean
+fields_refused words name rows Apart clean is why = (clean, name, rows, is, why)

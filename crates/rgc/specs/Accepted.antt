@@ -1,4 +1,5 @@
--- When a derivation and clause proofs are accepted for a program, why they are refused, and what is then known of the program's code.
+-- When a derivation and clause proofs are accepted for a program, and all three for its text; why they are refused; and what is then known of the
+-- program's code.
 use Rattle.std.specs.Prelude.{◌⊎◌, ℕ, List, ◌++◌, map}
 use Rattle.rg_words.specs.declared.refusal.Refusal.{Refusal}
 use Rattle.rg_tree.specs.Claims.{Claim}
@@ -12,6 +13,7 @@ use Rattle.rg_rules.specs.Reading.{FitsProgram, IsDerivationRefusal}
 use Rattle.rg_par.specs.Parallel.{parallel_obligations}
 use Rattle.rg_hints.specs.Proved.{AreProved, IsProofsRefusal}
 use Rattle.rg_code.specs.Code.{BlockTree, HasRunsOf}
+use Rattle.rg_program.specs.Programs.{SpellsProgram, IsProgramRefusal}
 
 -- what the rules ask of a program and the lines of its derivation: first for the lines, then for the parallel parts
 abbrev pub asked_of : ProgramTree → List LineTree → List Obligation
@@ -39,3 +41,23 @@ pub record IsBuilt (p : ProgramTree) (derivation proofs : List ℕ) (code : List
   pub accepted : IsAccepted p derivation proofs
   pub runs : HasRunsOf p code
   pub satisfied : IsSatisfied p
+
+-- a text, a derivation and clause proofs are accepted by the written rules: the text spells this program, for which the other two are accepted
+pub record AreAccepted (text derivation proofs : List ℕ) (p : ProgramTree) : Type 0 where
+  pub spells : SpellsProgram text p
+  pub accepted : IsAccepted p derivation proofs
+
+-- they are accepted for some program
+abbrev pub IsAcceptedText : List ℕ → List ℕ → List ℕ → Type 0
+IsAcceptedText text derivation proofs = (p : ProgramTree) × AreAccepted text derivation proofs p
+
+-- the first fault over all three files: of the text, then of the derivation, then of the proofs
+abbrev pub IsAcceptTextRefusal : List ℕ → List ℕ → List ℕ → Refusal → Type 0
+IsAcceptTextRefusal text derivation proofs e =
+    IsProgramRefusal text e ⊎ ((p : ProgramTree) × SpellsProgram text p × IsAcceptRefusal p derivation proofs e)
+
+-- the text spells this program, whose derivation and proofs are accepted by the written rules; the code has exactly its runs, and it satisfies its
+-- specification
+pub record IsBuiltText (text derivation proofs : List ℕ) (p : ProgramTree) (code : List (List BlockTree)) : Type 0 where
+  pub spells : SpellsProgram text p
+  pub built : IsBuilt p derivation proofs code

@@ -1,4 +1,4 @@
--- What the stages from a program to code hold.
+-- What the stages from a text to code hold.
 use Rattle.std.specs.Prelude.{List, map}
 use Rattle.rg_tree.specs.Statements.{ProgramTree}
 use Rattle.rg_tree.specs.ProgramTrees.{program}
@@ -6,11 +6,15 @@ use Rattle.rg_tree.specs.Lines.{LineTree}
 use Rattle.rg_tree.specs.Lines.{line_tree}
 use Rattle.rg_code.specs.Code.{BlockTree}
 use Rattle.rg_code.specs.CodeTrees.{code_blocks}
+use Rattle.rgc.specs.declared.stages.Parsed.{Parsed}
 use Rattle.rgc.specs.declared.stages.Derived.{Derived}
 use Rattle.rgc.specs.declared.stages.Accepted.{Accepted}
 use Rattle.rgc.specs.declared.stages.Emitted.{Emitted}
 
 -- the program of a stage
+abbrev pub parsed_program : Parsed → ProgramTree
+parsed_program a = program a.program
+
 abbrev pub derived_program : Derived → ProgramTree
 derived_program a = program a.program
 

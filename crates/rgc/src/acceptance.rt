@@ -1,13 +1,14 @@
-//! From a program, its derivation and its clause proofs to code.
+//! From a program's text or tree, its derivation and its clause proofs to code.
 
 ghost use Rattle.std.specs.Prelude.{◌≡◌, IfOk, IfErr, OnOk};
 ghost use Rattle.rg_words.specs.Refusals.{no_memory};
 ghost use Rattle.rg_tree.specs.ProgramTrees.{program as program_tree};
 ghost use Rattle.rg_tree.specs.Programs.{IsSatisfied};
-ghost use Rattle.rgc.specs.Accepted.{IsAccepted, IsAcceptRefusal, IsBuilt};
+ghost use Rattle.rgc.specs.Accepted.{IsAccepted, IsAcceptRefusal, IsBuilt, AreAccepted, IsAcceptedText, IsAcceptTextRefusal, IsBuiltText};
 ghost use Rattle.rgc.specs.Stages.{accepted_program, emitted_program, emitted_blocks};
 
-use crate::stages::{Accepted, Derived, Emitted};
+use crate::stages::{Accepted, Derived, Emitted, Parsed};
+use rg_program::program::one_program;
 use rg_rules::derivations_read_in_one_way;
 use rg_tree::program::Program;
 use rg_words::Refusal;
@@ -69,6 +70,69 @@ pub fn build_program(
     };
     match accepted.emit(alloc) {
         Ok(emitted) => Ok(emitted),
+        Err(refusal) => Err(refusal),
+    }
+}
+
+/// The program that a text spells, where the derivation and the proofs prove that it satisfies its specification.
+///
+/// # Errors
+///
+/// The first fault over all three files: of the text, as `rg_parse::program::program` tells it; then of the derivation, as
+/// `rg_rules::Derivation::read` tells it; then of the proofs, as `rg_hints::prove` tells it. `Memory` where memory is refused.
+pub fn accept(
+    alloc: Global,
+    text: &[u8],
+    derivation: &[u8],
+    proofs: &[u8],
+) -> Result<Accepted, Refusal>
+    // Ok exactly where the written rules accept all three files, unless memory runs out.
+    ensures accepted { IfOk result (λ a. AreAccepted text.now derivation.now proofs.now (accepted_program a)) }
+    ensures accepts { IsAcceptedText text.now derivation.now proofs.now → IfErr result (λ e. e ≡ no_memory) }
+    ensures refused { IfErr result (IsAcceptTextRefusal text.now derivation.now proofs.now) }
+    // What is accepted satisfies its specification.
+    ensures satisfied { IfOk result (λ a. IsSatisfied (accepted_program a)) }
+{
+    // The bytes spell one program and one derivation.
+    one_program();
+    derivations_read_in_one_way();
+    let parsed = match Parsed::read(alloc, text) {
+        Ok(parsed) => parsed,
+        Err(refusal) => return Err(refusal),
+    };
+    let derived = match parsed.derive(alloc, derivation) {
+        Ok(derived) => derived,
+        Err(refusal) => return Err(refusal),
+    };
+    match derived.prove(alloc, proofs) {
+        Ok(proved) => Ok(proved),
+        Err(refusal) => Err(refusal),
+    }
+}
+
+/// Where a text, its derivation and its clause proofs are accepted, which is exactly where the written rules accept them, the emitted code has
+/// exactly the text's runs, and every run from the pre whose environment steps lie inside the rely makes only steps inside the guarantee
+/// and, where it has ended, stands in the post. Each step of a part is also inside that part's own guarantee.
+///
+/// # Errors
+///
+/// As `accept`.
+pub fn build(
+    alloc: Global,
+    text: &[u8],
+    derivation: &[u8],
+    proofs: &[u8],
+) -> Result<Emitted, Refusal>
+    ensures built { IfOk result (λ e. IsBuiltText text.now derivation.now proofs.now (emitted_program e) (emitted_blocks e)) }
+    ensures accepts { IsAcceptedText text.now derivation.now proofs.now → IfErr result (λ e. e ≡ no_memory) }
+    ensures refused { IfErr result (IsAcceptTextRefusal text.now derivation.now proofs.now) }
+{
+    let accepted = match accept(alloc, text, derivation, proofs) {
+        Ok(accepted) => accepted,
+        Err(refusal) => return Err(refusal),
+    };
+    match accepted.emit(alloc) {
+        Ok(coded) => Ok(coded),
         Err(refusal) => Err(refusal),
     }
 }

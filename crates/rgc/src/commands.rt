@@ -1,22 +1,23 @@
 //! One command over files in memory, with writers for its output and its faults.
 
-ghost use Rattle.std.specs.Prelude.{◌≡◌, ◌-◌, ◌^◌, ◌<◌, ◌≤◌, IsTrue, IfOk, OnOk};
-ghost use Rattle.std.specs.Io.KnownBytes.{Appends};
-ghost use Rattle.rg_hints.specs.Normal.{section_text};
-ghost use Rattle.rgc.specs.Done.{HasPrintedHolds, HasPrintedClauses, HasPrintedLines, IsDone};
+ghost use Rattle.std.specs.Prelude.{◌≡◌, ◌-◌, ◌^◌, ◌<◌, ◌≤◌, IsTrue, Some, IfOk, OnOk};
+ghost use Rattle.rgc.specs.Done.{AreClausesDone, AreLinesDone, IsDone};
 
-use crate::command::Command;
+use crate::command::{Chosen, Command};
 use crate::line::Line;
-use crate::shown::{clauses, find, valid};
-use rg_find::{Judged, Watcher};
-use rg_hints::Lines;
-use rg_words::{Layout, Out, Refusal, RefusalNumber, State, write_all};
-use std::alloc::{AllocError, Global};
+use crate::printed::{
+    print_accepted, print_clauses, print_condition_clauses, print_condition_found,
+    print_conditions, print_found, print_listing, print_numbers, print_proofs, print_valid,
+};
+use rg_find::Watcher;
+use rg_words::{Out, Refusal, RefusalNumber, write_all};
+use std::alloc::Global;
 
 /// The bytes of the files that a command names; none where it isn't named or can't be read.
 #[derive(Clone, Copy)]
 pub struct Files<'a> {
     pub text: Option<&'a [u8]>,
+    pub derivation: Option<&'a [u8]>,
     pub proofs: Option<&'a [u8]>,
 }
 
@@ -29,106 +30,95 @@ enum Stop {
     Told,
 }
 
-/// Prints `holds` where the hint lines prove the formula.
-fn print_valid<W: Out>(
+impl From<Refusal> for Stop {
+    fn from(refusal: Refusal) -> Stop {
+        Stop::Refused(refusal)
+    }
+}
+
+/// A file's bytes, where it can be read.
+fn needed<'a>(file: Option<&'a [u8]>, fault: &'static str) -> Result<&'a [u8], Stop>
+    ensures { IfOk result (λ bytes. file.entry ≡ Some bytes) }
+{
+    match file {
+        Some(bytes) => Ok(bytes),
+        None => Err(Stop::Device(fault)),
+    }
+}
+
+fn text_of<'a>(files: &Files<'a>) -> Result<&'a [u8], Stop>
+    ensures { IfOk result (λ bytes. files.now.text ≡ Some bytes) }
+{
+    needed(files.text, "device text\n")
+}
+
+fn derivation_of<'a>(files: &Files<'a>) -> Result<&'a [u8], Stop>
+    ensures { IfOk result (λ bytes. files.now.derivation ≡ Some bytes) }
+{
+    needed(files.derivation, "device derivation\n")
+}
+
+fn proofs_of<'a>(files: &Files<'a>) -> Result<&'a [u8], Stop>
+    ensures { IfOk result (λ bytes. files.now.proofs ≡ Some bytes) }
+{
+    needed(files.proofs, "device proofs\n")
+}
+
+/// Done only where a proof was found.
+fn proved(is_found: bool) -> Result<(), Stop>
+    ensures { OnOk result (IsTrue is_found) }
+{
+    if is_found {
+        return Ok(());
+    }
+    Err(Stop::Told)
+}
+
+/// Prints the clauses of the formula, or of the chosen condition.
+fn carry_out_clauses<W: Out>(
     alloc: Global,
     text: &[u8],
-    proofs: &[u8],
+    chosen: Option<Chosen<'_>>,
+    files: &Files<'_>,
     out: &mut W,
-) -> Result<(), Refusal>
+) -> Result<(), Stop>
     requires { W.failures out.old < 2 ^ 64 - 1 }
-    ensures printed { OnOk result (HasPrintedHolds text.now proofs.now (W.contents out.old) (W.contents out.new)) }
+    ensures done { OnOk result (AreClausesDone chosen.entry text.now files.now.derivation (W.contents out.old) (W.contents out.new)) }
     ensures failures { OnOk result (W.failures out.new ≡ W.failures out.old) }
 {
-    valid(alloc, text, proofs)?;
-    write_all(out, b"holds\n")?;
-    Ok(())
-}
-
-/// Prints the clauses of the formula.
-fn print_clauses<W: Out>(alloc: Global, text: &[u8], out: &mut W) -> Result<(), Refusal>
-    requires { W.failures out.old < 2 ^ 64 - 1 }
-    ensures printed { OnOk result (HasPrintedClauses text.now (W.contents out.old) (W.contents out.new)) }
-    ensures failures { OnOk result (W.failures out.new ≡ W.failures out.old) }
-{
-    let clauses = clauses(alloc, text)?;
-    clauses.write_cnf(out)?;
-    Ok(())
-}
-
-/// Adds a line with a title and each word's value.
-fn push_state(
-    alloc: Global,
-    text: &mut String,
-    title: &str,
-    words: &Layout,
-    state: &State,
-) -> Result<(), AllocError> {
-    text.push_str(title)?;
-    for word in 0..words.len().min(state.len()) {
-        let value = format!(in alloc; " {}={}", words.name(word), state.get(word))?;
-        text.push_str(&value)?;
+    match chosen {
+        None => print_clauses(alloc, text, out)?,
+        Some(chosen) => {
+            let derivation = derivation_of(files)?;
+            print_condition_clauses(alloc, text, derivation, chosen.condition, out)?;
+        }
     }
-    text.push_str("\n")
-}
-
-/// The text that tells the states at which a formula fails.
-pub(crate) fn failure_text(
-    alloc: Global,
-    words: &Layout,
-    first: &State,
-    second: &Option<State>,
-) -> Result<String, AllocError> {
-    let mut text = String::from_str(alloc, "fails\n")?;
-    push_state(alloc, &mut text, "before", words, first)?;
-    if let Some(second) = second {
-        push_state(alloc, &mut text, "after", words, second)?;
-    }
-    Ok(text)
-}
-
-/// Prints hint lines.
-fn print_lines<W: Out>(alloc: Global, lines: &Lines, out: &mut W) -> Result<(), Refusal>
-    requires { W.failures out.old < 2 ^ 64 - 1 }
-    ensures printed { OnOk result (Appends (W.contents out.old) (W.contents out.new) (section_text lines.now)) }
-    ensures failures { OnOk result (W.failures out.new ≡ W.failures out.old) }
-{
-    let text = lines.text(alloc)?;
-    write_all(out, text.as_bytes())?;
     Ok(())
 }
 
-/// Prints the lines that prove the formula; else, and then it answers false, the states at which it fails or that the search gave up.
-fn print_found<W: Out, P: Watcher>(
+/// Prints lines that prove the formula, or the chosen condition.
+fn carry_out_find<W: Out, P: Watcher>(
     alloc: Global,
     text: &[u8],
     steps: u64,
+    chosen: Option<Chosen<'_>>,
+    files: &Files<'_>,
     out: &mut W,
     watcher: &mut P,
-) -> Result<bool, Refusal>
+) -> Result<(), Stop>
     requires { W.failures out.old < 2 ^ 64 - 1 }
-    ensures printed { IfOk result (λ b. IsTrue b → HasPrintedLines text.now (W.contents out.old) (W.contents out.new)) }
-    ensures failures { IfOk result (λ b. IsTrue b → W.failures out.new ≡ W.failures out.old) }
+    ensures done { OnOk result (AreLinesDone chosen.entry text.now files.now.derivation (W.contents out.old) (W.contents out.new)) }
+    ensures failures { OnOk result (W.failures out.new ≡ W.failures out.old) }
 {
-    let (condition, judged) = match find(alloc, text, steps, watcher) {
-        Ok(found) => found,
-        Err(refusal) => return Err(refusal),
-    };
-    match judged {
-        Judged::Holds(lines) => {
-            print_lines(alloc, &lines, out)?;
-            Ok(true)
-        }
-        Judged::Fails(first, second) => {
-            let told = failure_text(alloc, &condition.layout, &first, &second)?;
-            write_all(out, told.as_bytes())?;
-            Ok(false)
-        }
-        Judged::GaveUp => {
-            write_all(out, b"gave up\n")?;
-            Ok(false)
+    match chosen {
+        None => proved(print_found(alloc, text, steps, out, watcher)?)?,
+        Some(chosen) => {
+            let derivation = derivation_of(files)?;
+            let number = chosen.condition;
+            proved(print_condition_found(alloc, text, derivation, number, steps, out, watcher)?)?;
         }
     }
+    Ok(())
 }
 
 /// Does the command, or says why not.
@@ -140,30 +130,30 @@ fn carry_out<W: Out, P: Watcher>(
     watcher: &mut P,
 ) -> Result<(), Stop>
     requires { W.failures out.old < 2 ^ 64 - 1 }
-    ensures done { OnOk result (IsDone command.entry files.now.text files.now.proofs (W.contents out.old) (W.contents out.new)) }
+    ensures done { OnOk result (IsDone command.entry files.now.text files.now.derivation files.now.proofs (W.contents out.old) (W.contents out.new)) }
     ensures failures { OnOk result (W.failures out.new ≡ W.failures out.old) }
 {
-    let Some(text) = files.text else {
-        return Err(Stop::Device("device text\n"));
-    };
-    let done = match command {
-        Command::Valid { .. } => {
-            let Some(proofs) = files.proofs else {
-                return Err(Stop::Device("device proofs\n"));
-            };
-            print_valid(alloc, text, proofs, out)
+    let text = text_of(files)?;
+    match command {
+        Command::Number { .. } => print_numbers(alloc, text, out)?,
+        Command::Check { .. } => {
+            print_accepted(alloc, text, derivation_of(files)?, proofs_of(files)?, out)?;
         }
-        Command::Clauses { .. } => print_clauses(alloc, text, out),
-        Command::Find { steps, .. } => match print_found(alloc, text, steps, out, watcher) {
-            Ok(true) => Ok(()),
-            Ok(false) => return Err(Stop::Told),
-            Err(refusal) => Err(refusal),
-        },
-    };
-    match done {
-        Ok(()) => Ok(()),
-        Err(refusal) => Err(Stop::Refused(refusal)),
+        Command::Conditions { .. } => print_conditions(alloc, text, derivation_of(files)?, out)?,
+        Command::Prove { steps, .. } => {
+            let derivation = derivation_of(files)?;
+            proved(print_proofs(alloc, text, derivation, steps, out, watcher)?)?;
+        }
+        Command::Emit { .. } => {
+            print_listing(alloc, text, derivation_of(files)?, proofs_of(files)?, out)?;
+        }
+        Command::Valid { .. } => print_valid(alloc, text, proofs_of(files)?, out)?,
+        Command::Clauses { chosen, .. } => carry_out_clauses(alloc, text, chosen, files, out)?,
+        Command::Find { steps, chosen, .. } => {
+            carry_out_find(alloc, text, steps, chosen, files, out, watcher)?;
+        }
     }
+    Ok(())
 }
 
 /// Tells a refusal in a line of its own; the status. A failing write is passed over.
@@ -207,7 +197,7 @@ pub fn perform<W: Out, F: Out, P: Watcher>(
     requires faults { F.failures faults.old < 2 ^ 64 - 1 }
     ensures status { result ≤ 3 }
     ensures failures { result ≡ 0 → W.failures out.new ≡ W.failures out.old }
-    ensures done { result ≡ 0 → IsDone line.now.command files.now.text files.now.proofs (W.contents out.old) (W.contents out.new) }
+    ensures done { result ≡ 0 → IsDone line.now.command files.now.text files.now.derivation files.now.proofs (W.contents out.old) (W.contents out.new) }
 {
     match carry_out(alloc, line.command, files, out, watcher) {
         Ok(()) => 0,

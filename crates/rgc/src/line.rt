@@ -34,7 +34,8 @@ impl<'a> Line<'a> {
         // The command, its files and its options are those that `clap` reads in the words.
         ensures command { IfOk result (λ line. Names (subcommand_of rgc_app (map S.text words.now)) line.command) }
 
-        // Words come to a command only where `clap` finds no fault in them, and else to a fault that it finds.
+        // Words come to a command only where `clap` finds no fault in them, and else to a fault that it finds, or to two options that go
+        // together and don't.
         ensures fault { MatchResult result
             (λ _. fault_of rgc_app (map S.text words.now) ≡ [])
             (IsLineFault (map S.text words.now)) }

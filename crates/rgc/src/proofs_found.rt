@@ -4,7 +4,7 @@ ghost use Rattle.std.specs.Prelude.{IfOk};
 ghost use Rattle.rgc.specs.Proofs.{AreFoundFor};
 ghost use Rattle.rgc.specs.Stages.{derived_program, derived_lines};
 
-use crate::commands::failure_text;
+use crate::judged::failure_text;
 use crate::stages::Derived;
 use rg_find::{Judged, Watcher, judge};
 use rg_hints::prove;

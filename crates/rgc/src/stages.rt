@@ -1,5 +1,5 @@
-//! The stages from a program to code: what each holds. Each is made from the one before alone, by a call that takes it by value: what is refused
-//! is dropped.
+//! The stages from a text to code: what each holds. Each is made from the one before alone, by a call that takes it by value: what is refused
+//! is dropped. A typed program that was read from no text comes in at `Derived`.
 
 ghost use Rattle.std.specs.Prelude.{map};
 ghost use Rattle.rg_tree.specs.declared.program.Program.{Program};
@@ -18,6 +18,12 @@ use rg_code::checked::Checked;
 use rg_code::code::Code;
 use rg_rules::Derivation;
 use rg_tree::program::Program;
+
+/// The program that a text spells.
+#[derive(Drop)]
+pub struct Parsed {
+    program: Program,
+}
 
 /// A program with lines that derive its parts.
 #[derive(Drop)]

@@ -23,10 +23,14 @@ struct Answer {
 /// The answer of `clauses` on a text.
 fn clauses_of(alloc: Global, text: &str) -> Answer {
     let line = Line {
-        command: Command::Clauses { text: "text" },
+        command: Command::Clauses {
+            text: "text",
+            chosen: None,
+        },
     };
     let files = Files {
         text: Some(text.as_bytes()),
+        derivation: None,
         proofs: None,
     };
     let mut out = Taker::new(alloc, 1 << 20);
@@ -40,14 +44,23 @@ fn clauses_of(alloc: Global, text: &str) -> Answer {
 }
 
 /// The answer of `valid` on a text and proofs, to writers that take so many bytes a call.
-fn valid_of(alloc: Global, text: Option<&[u8]>, proofs: Option<&[u8]>, most: usize) -> Answer {
+fn valid_of<'a>(
+    alloc: Global,
+    text: Option<&'a [u8]>,
+    proofs: Option<&'a [u8]>,
+    most: usize,
+) -> Answer {
     let line = Line {
         command: Command::Valid {
             text: "text",
             proofs: "proofs",
         },
     };
-    let files = Files { text, proofs };
+    let files = Files {
+        text,
+        derivation: None,
+        proofs,
+    };
     let mut out = Taker::new(alloc, most);
     let mut faults = Taker::new(alloc, most);
     let status = perform(alloc, &line, &files, &mut out, &mut faults, &mut Unwatched);
@@ -64,10 +77,12 @@ fn find_of(alloc: Global, text: &str, steps: u64) -> Answer {
         command: Command::Find {
             text: "text",
             steps,
+            chosen: None,
         },
     };
     let files = Files {
         text: Some(text.as_bytes()),
+        derivation: None,
         proofs: None,
     };
     let mut out = Taker::new(alloc, 1 << 20);
@@ -312,7 +327,10 @@ const DONE: [(Command<'static>, &str); 2] = [
         "holds\n",
     ),
     (
-        Command::Clauses { text: "text" },
+        Command::Clauses {
+            text: "text",
+            chosen: None,
+        },
         "p cnf 4 7\n-3 1 0\n-3 2 0\n3 -1 -2 0\n-4 -1 0\n-4 3 0\n4 1 -3 0\n4 0\n",
     ),
 ];
@@ -321,6 +339,7 @@ const DONE: [(Command<'static>, &str); 2] = [
 fn first_files() -> Files<'static> {
     Files {
         text: Some(FIRST.as_bytes()),
+        derivation: None,
         proofs: Some(b"8 0 7 5 1 4 0".as_slice()),
     }
 }
@@ -357,9 +376,16 @@ fn passes_over_failing_faults(rt: HostRuntime) -> Result<(), Fail> {
     let rows = [(Some(b")".as_slice()), 1), (None, 3)];
     for (text, status) in rows {
         let line = Line {
-            command: Command::Clauses { text: "text" },
+            command: Command::Clauses {
+                text: "text",
+                chosen: None,
+            },
         };
-        let files = Files { text, proofs: None };
+        let files = Files {
+            text,
+            derivation: None,
+            proofs: None,
+        };
         let mut out = Taker::new(rt.alloc(), 1);
         let mut faults = Fuse::new(Taker::new(rt.alloc(), 1), 4);
         assert!(rt;
@@ -409,12 +435,12 @@ fn reads_the_command_line(rt: HostRuntime) -> Result<(), Fail> {
     let asked = ["rgc", "find", "a", "--steps", "7"];
     let read = Line::read(rt.alloc(), asked.as_slice()).ok();
     let found =
-        matches!(&read, Some(line) if matches!(&line.command, Command::Find { text: "a", steps: 7 }));
+        matches!(&read, Some(line) if matches!(&line.command, Command::Find { text: "a", steps: 7, chosen: None }));
     assert!(rt; found);
     let plain = ["rgc", "find", "a"];
     let read = Line::read(rt.alloc(), plain.as_slice()).ok();
     let found =
-        matches!(&read, Some(line) if matches!(&line.command, Command::Find { text: "a", steps: 1_000_000 }));
+        matches!(&read, Some(line) if matches!(&line.command, Command::Find { text: "a", steps: 1_000_000, chosen: None }));
     assert!(rt; found);
     Ok(())
 }
@@ -433,7 +459,7 @@ fn tells_what_is_wrong_with_the_words(rt: HostRuntime) -> Result<(), Fail> {
             true,
         ),
         (
-            ["rgc", "prove", "a"].as_slice(),
+            ["rgc", "proof", "a"].as_slice(),
             ErrorKind::InvalidSubcommand,
             true,
         ),

@@ -73,7 +73,7 @@ impl Watcher for Terminal<'_> {
     }
 }
 
-/// Does the command over its files, and writes what it printed; the status. What `find` prints goes out at once, all else
+/// Does the command over its files, and writes what it printed; the status. What `find` and `prove` print goes out at once, all else
 /// through a buffer.
 fn done(rt: &HostRuntime, line: &Line<'_>, files: &Files<'_>) -> Result<u8, AllocError> {
     let mut faults = Device::new(rt.stderr());
@@ -82,7 +82,7 @@ fn done(rt: &HostRuntime, line: &Line<'_>, files: &Files<'_>) -> Result<u8, Allo
         is_terminal: rt.stderr().is_terminal(),
         next: CONFLICTS_TOLD,
     };
-    if matches!(line.command, Command::Find { .. }) {
+    if matches!(line.command, Command::Find { .. } | Command::Prove { .. }) {
         let mut out = Device::new(rt.stdout());
         return Ok(perform(rt.alloc(), line, files, &mut out, &mut faults, &mut watcher));
     }
@@ -94,19 +94,27 @@ fn done(rt: &HostRuntime, line: &Line<'_>, files: &Files<'_>) -> Result<u8, Allo
     Ok(status)
 }
 
+/// The bytes of a file that may not be named, or none where it isn't or can't be read.
+fn bytes_of_named(
+    rt: &HostRuntime,
+    name: Option<&str>,
+    most: usize,
+) -> Result<Option<Vec<u8>>, AllocError> {
+    match name {
+        Some(name) => bytes_of(rt, name, most),
+        None => Ok(None),
+    }
+}
+
 /// Reads the files that the command names, and does it; the status.
 fn run(rt: &HostRuntime, line: &Line<'_>) -> Result<u8, AllocError> {
-    let (text, proofs) = match line.command {
-        Command::Valid { text, proofs } => (text, Some(proofs)),
-        Command::Clauses { text } | Command::Find { text, .. } => (text, None),
-    };
-    let text = bytes_of(rt, text, MOST_TEXT_BYTES)?;
-    let proofs = match proofs {
-        Some(name) => bytes_of(rt, name, MOST_PROOF_BYTES)?,
-        None => None,
-    };
+    let named = line.command.named();
+    let text = bytes_of(rt, named.text, MOST_TEXT_BYTES)?;
+    let derivation = bytes_of_named(rt, named.derivation, MOST_TEXT_BYTES)?;
+    let proofs = bytes_of_named(rt, named.proofs, MOST_PROOF_BYTES)?;
     let files = Files {
         text: text.as_ref().map(|bytes| bytes.as_slice()),
+        derivation: derivation.as_ref().map(|bytes| bytes.as_slice()),
         proofs: proofs.as_ref().map(|bytes| bytes.as_slice()),
     };
     done(rt, line, &files)

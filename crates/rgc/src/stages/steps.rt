@@ -6,23 +6,70 @@ ghost use Rattle.rg_tree.specs.ProgramTrees.{program as program_tree};
 ghost use Rattle.rg_tree.specs.Conditions.{claim};
 ghost use Rattle.rg_tree.specs.Obligations.{AllConditionsHold};
 ghost use Rattle.rg_tree.specs.Programs.{IsSatisfied};
+ghost use Rattle.rg_tree.specs.Statements.{ProgramTree};
 ghost use Rattle.rg_tree.specs.Lines.{LineTree};
 ghost use Rattle.rg_hints.specs.Proved.{AreProved, IsProofsRefusal};
 ghost use Rattle.rg_code.specs.Code.{HasRunsOf};
 ghost use Rattle.rg_rules.specs.Reading.{FitsProgram, IsDerivationRefusal};
 ghost use Rattle.rgc.specs.Accepted.{conditions_of};
 ghost use Rattle.rgc.specs.Conditions.{names_of};
-ghost use Rattle.rgc.specs.Stages.{derived_program, derived_lines, accepted_program, emitted_program, emitted_blocks};
+ghost use Rattle.rg_program.specs.Programs.{SpellsProgram, IsProgramRefusal};
+ghost use Rattle.rgc.specs.Stages.{parsed_program, derived_program, derived_lines, accepted_program, emitted_program, emitted_blocks};
 
-use super::{Accepted, Derived, Emitted};
+use super::{Accepted, Derived, Emitted, Parsed};
 use rg_code::compile::compile;
 use rg_par::conditions::add_conditions;
 use rg_par::names::add_names;
+use rg_program::program::program;
 use rg_rules::Derivation;
 use rg_tree::condition::Condition;
 use rg_tree::program::Program;
 use rg_words::Refusal;
 use std::alloc::{AllocError, Global};
+
+impl Parsed {
+    /// The program that a text spells.
+    ///
+    /// # Errors
+    ///
+    /// The first fault of the text, as `rg_parse::program::program` tells it.
+    pub fn read(alloc: Global, text: &[u8]) -> Result<Parsed, Refusal>
+        // Ok exactly where the text spells a program, unless memory runs out; that program is kept.
+        ensures spells { IfOk result (λ p. SpellsProgram text.now (parsed_program p)) }
+        ensures refused { IfErr result (IsProgramRefusal text.now) }
+        ensures accepts { (t : ProgramTree) → SpellsProgram text.now t → IfErr result (λ e. e ≡ no_memory) }
+    {
+        match program(alloc, text) {
+            Ok(program) => Ok(Parsed { program }),
+            Err(refusal) => Err(refusal),
+        }
+    }
+
+    /// The program.
+    pub fn program(&self) -> &Program
+        ensures { program_tree result.now ≡ parsed_program self.now }
+    {
+        &self.program
+    }
+
+    /// The program with the lines that a derivation spells, which derive its parts.
+    ///
+    /// # Errors
+    ///
+    /// As `Derived::read`.
+    pub fn derive(self, alloc: Global, derivation: &[u8]) -> Result<Derived, Refusal>
+        ensures program { IfOk result (λ d. derived_program d ≡ parsed_program self) }
+        ensures fits { IfOk result (λ d. FitsProgram (parsed_program self) derivation.now (derived_lines d)) }
+        ensures refused { IfErr result (IsDerivationRefusal (parsed_program self) derivation.now) }
+        ensures accepts { (ls : List LineTree) → FitsProgram (parsed_program self) derivation.now ls → IfErr result (λ e. e ≡ no_memory) }
+    {
+        let Parsed { program } = self;
+        match Derived::read(alloc, program, derivation) {
+            Ok(derived) => Ok(derived),
+            Err(refusal) => Err(refusal),
+        }
+    }
+}
 
 impl Derived {
     /// The program with the lines that a derivation spells, which derive its parts.

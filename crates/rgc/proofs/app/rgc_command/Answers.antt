@@ -1,13 +1,13 @@
 use Rattle.std.proofs.Common.{codes}
 use Rattle.std.proofs.lemmas.Result.{IfOk-weaker}
-use Rattle.rgc.specs.App.{rgc_app, leaf, valid_files, text_files, find_rules}
+use Rattle.rgc.specs.App.{rgc_app, leaf, valid_files, clauses_rules, find_rules}
 use Rattle.rgc.proofs.Apps.{subcommand_added}
 use Rattle.rgc.proofs.app.rgc_command.Goals as goal
 
 pub returns : goal.returns
 unfolding rgc_app
 returns c =
-    let one = subcommand_added _ _ _ _ (leaf (codes "valid") valid_files) c.rgc_alone.ensures c.in_ok-valid_command.ensures c.in_ok-subcommand.ensures in
-    let two = subcommand_added _ _ _ _ (leaf (codes "clauses") text_files) one c.in_ok-clauses_command.ensures c.in_ok-subcommand-2.ensures in
+    let one = subcommand_added _ _ _ _ (leaf (codes "valid") valid_files) c.in_ok-with_programs.ensures c.in_ok-valid_command.ensures c.in_ok-subcommand.ensures in
+    let two = subcommand_added _ _ _ _ (leaf (codes "clauses") clauses_rules) one c.in_ok-chosen_command.ensures c.in_ok-subcommand-2.ensures in
     IfOk-weaker c.subcommand-3.result _ _
     (λ _ adds. subcommand_added _ _ _ _ (leaf (codes "find") find_rules) two c.in_ok-find_command.ensures adds) c.subcommand-3.ensures

@@ -1,0 +1,5 @@
+use Rattle.std.proofs.Common.{inl, inr}
+use Rattle.rgc.proofs.chosen.chosen_condition.Goals as goal
+
+pub returns-in-Err-clause-refused : goal.returns-in-Err-clause-refused
+returns-in-Err-clause-refused c = inr (inl c.in-Err.ensures.refused)

@@ -1,0 +1,143 @@
+//! A derivation of a text's program, and one of its conditions, chosen by its number.
+
+ghost use Rattle.std.specs.Prelude.{◌≡◌, ◌≤◌, None, Some, map, IfOk, IfErr};
+ghost use Rattle.rg_words.specs.declared.limits.TheConstants.{MOST_VARIABLES};
+ghost use Rattle.rg_words.specs.declared.refusal.RefusalNumber.TheVariants.{UnknownCondition};
+ghost use Rattle.rg_words.specs.declared.refusal.SourceFile.TheVariants.{Derivation};
+ghost use Rattle.rg_words.specs.declared.refusal.Place.TheVariants.{Condition as the_condition};
+ghost use Rattle.rg_words.specs.Refusals.{refused_in};
+ghost use Rattle.rg_tree.specs.Conditions.{claim};
+ghost use Rattle.rg_tree.specs.Programs.{nth};
+ghost use Rattle.rg_clauses.specs.Conditions.{clauses_of_claim};
+ghost use Rattle.rg_find.specs.Judged.{IsJudged};
+ghost use Rattle.rgc.specs.Chosen.{AreDerived, IsDeriveRefusal, IsChosen, IsChoiceRefusal, IsChosenClausesRefusal, IsChosenFindRefusal};
+ghost use Rattle.rgc.specs.Stages.{derived_program, derived_lines};
+
+use crate::stages::{Derived, Parsed};
+use rg_clauses::Clauses;
+use rg_find::{Judged, Watcher, judge};
+use rg_tree::condition::Condition;
+use rg_words::{Place, Refusal, RefusalNumber, SourceFile};
+use std::alloc::Global;
+
+/// The program that a text spells, with the lines that a derivation spells, which derive its parts.
+///
+/// # Errors
+///
+/// The first fault: of the text, then of the derivation, as `Derived::read` tells it. `Memory` where memory is refused.
+pub fn derive_program(alloc: Global, text: &[u8], derivation: &[u8]) -> Result<Derived, Refusal>
+    ensures derived { IfOk result (λ d. AreDerived text.now derivation.now (derived_program d) (derived_lines d)) }
+    ensures refused { IfErr result (IsDeriveRefusal text.now derivation.now) }
+{
+    let parsed = match Parsed::read(alloc, text) {
+        Ok(parsed) => parsed,
+        Err(refusal) => return Err(refusal),
+    };
+    match parsed.derive(alloc, derivation) {
+        Ok(derived) => Ok(derived),
+        Err(refusal) => Err(refusal),
+    }
+}
+
+/// The condition of a number, from 1.
+fn condition_at(mut conditions: Vec<Condition>, number: u64) -> Result<Condition, Refusal>
+    ensures found { IfOk result (λ c. nth (map claim conditions.items) number ≡ Some (claim c)) }
+    ensures none { IfErr result (λ _. nth (map claim conditions.items) number ≡ None) }
+    ensures refused { IfErr result (λ e. e ≡ refused_in UnknownCondition Derivation (the_condition number)) }
+{
+    if number == 0 || number > conditions.len() as u64 {
+        return Err(Refusal::at(
+            RefusalNumber::UnknownCondition,
+            SourceFile::Derivation,
+            Place::Condition(number),
+        ));
+    }
+    Ok(conditions.swap_remove((number - 1) as usize))
+}
+
+/// The condition of this number, from 1, of the text's program with this derivation.
+///
+/// # Errors
+///
+/// As `derive_program`; then `UnknownCondition` at this condition of the derivation where there is none of this number.
+pub fn chosen_condition(
+    alloc: Global,
+    text: &[u8],
+    derivation: &[u8],
+    number: u64,
+) -> Result<Condition, Refusal>
+    ensures chosen { IfOk result (λ c. IsChosen text.now derivation.now number (claim c)) }
+    ensures refused { IfErr result (IsChoiceRefusal text.now derivation.now number) }
+{
+    let derived = match derive_program(alloc, text, derivation) {
+        Ok(derived) => derived,
+        Err(refusal) => return Err(refusal),
+    };
+    let conditions = derived.conditions(alloc)?;
+    match condition_at(conditions, number) {
+        Ok(condition) => Ok(condition),
+        Err(refusal) => Err(refusal),
+    }
+}
+
+/// The clauses of the condition of this number, from 1, of the text's program with this derivation: they can be satisfied exactly where it
+/// fails for some pair of states that agree on the fixed words. No other condition's clauses are built.
+///
+/// # Errors
+///
+/// As `chosen_condition`; then `Limit` at this condition of the derivation where it has too many variables.
+pub fn condition_clauses(
+    alloc: Global,
+    text: &[u8],
+    derivation: &[u8],
+    number: u64,
+) -> Result<(Condition, Clauses), Refusal>
+    ensures chosen { IfOk result (λ r. IsChosen text.now derivation.now number (claim r.0)) }
+    ensures clauses { IfOk result (λ r. r.1 ≡ clauses_of_claim (claim r.0)) }
+    ensures within { IfOk result (λ r. (clauses_of_claim (claim r.0)).variables ≤ MOST_VARIABLES) }
+    ensures refused { IfErr result (IsChosenClausesRefusal text.now derivation.now number) }
+{
+    let chosen = match chosen_condition(alloc, text, derivation, number) {
+        Ok(condition) => condition,
+        Err(refusal) => return Err(refusal),
+    };
+    match Clauses::of(alloc, &chosen, SourceFile::Derivation, number) {
+        Ok(clauses) => Ok((chosen, clauses)),
+        Err(refusal) => Err(refusal),
+    }
+}
+
+/// What a search says of the condition of this number, from 1, of the text's program with this derivation, with the condition: lines that prove it,
+/// or the states at which it fails, or nothing after so many decisions. The watcher is told of a long search.
+///
+/// # Errors
+///
+/// As `condition_clauses`; then `Limit`, without a file and a place, where more than `MOST_DECISIONS` are asked for.
+pub fn find_condition<W: Watcher>(
+    alloc: Global,
+    text: &[u8],
+    derivation: &[u8],
+    number: u64,
+    steps: u64,
+    watcher: &mut W,
+) -> Result<(Condition, Judged), Refusal>
+    ensures chosen { IfOk result (λ r. IsChosen text.now derivation.now number (claim r.0)) }
+    ensures judged { IfOk result (λ r. IsJudged (claim r.0) r.1) }
+    ensures refused { IfErr result (IsChosenFindRefusal text.now derivation.now number steps) }
+{
+    let condition = match chosen_condition(alloc, text, derivation, number) {
+        Ok(condition) => condition,
+        Err(refusal) => return Err(refusal),
+    };
+    match judge(
+        alloc,
+        &condition,
+        SourceFile::Derivation,
+        number,
+        steps,
+        watcher,
+    ) {
+        Ok(judged) => Ok((condition, judged)),
+        Err(refusal) => Err(refusal),
+    }
+}
