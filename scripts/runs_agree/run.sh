@@ -8,13 +8,14 @@ here=$(CDPATH= cd -- "$(dirname -- "$0")" && pwd)
 root=$(CDPATH= cd -- "$here/../.." && pwd)
 work=${1:-$(mktemp -d)}
 mkdir -p "$work/crates"
-sed 's/^rg_program: .*/rg_program: rg_words rg_text rg_tree rg_parse rg_runs rg_code rg_machine/' "$root/crates.txt" > "$work/crates.txt"
-for crate in rg_words rg_text rg_tree rg_parse rg_runs rg_code rg_machine rg_program; do
+: > "$work/crates.txt"
+for crate in rg_words rg_text rg_tree rg_parse rg_program rg_runs rg_code rg_machine rg_reading_tests; do
+    grep "^$crate:" "$root/crates.txt" | sed '/^rg_reading_tests: /s/$/ rg_runs rg_code rg_machine/' >> "$work/crates.txt"
     rm -rf "$work/crates/$crate"
     mkdir -p "$work/crates/$crate"
-    (cd "$root/crates/$crate" && tar cf - --exclude=./out --exclude=./must-fail .) | tar xf - -C "$work/crates/$crate"
+    (cd "$root/crates/$crate" && tar cf - --exclude=./out --exclude='./*must-fail' .) | tar xf - -C "$work/crates/$crate"
 done
-cp "$here/runs.rt.txt" "$work/crates/rg_program/src/tests/runs.rt"
-sed -i 's/^mod limits;/mod limits;\nmod runs;/' "$work/crates/rg_program/src/tests.rt"
-cd "$work/crates/rg_program"
+cp "$here/runs.rt.txt" "$work/crates/rg_reading_tests/src/programs/runs.rt"
+sed -i 's/^mod limits;/mod limits;\nmod runs;/' "$work/crates/rg_reading_tests/src/programs.rt"
+cd "$work/crates/rg_reading_tests"
 rt try --test

@@ -13,7 +13,7 @@ use rg_gates::{GateError, Gates, Lit, Table};
 use std::alloc::Global;
 
 /// An operation bit by bit.
-#[derive(Clone, Copy, Debug)]
+#[derive(Clone, Copy)]
 pub enum BitOperation {
     And,
     Or,
@@ -22,7 +22,7 @@ pub enum BitOperation {
 }
 
 /// A test of two rows, made from the low bit up.
-#[derive(Clone, Copy, Debug)]
+#[derive(Clone, Copy)]
 pub enum Test {
     Equal,
     AtLeast,

@@ -12,9 +12,6 @@ ghost use Rattle.rg_clauses.specs.Formula.{Satisfies, IsUnsatisfiable, value_at}
 ghost use Rattle.rg_clauses.specs.Encoding.{IsSatisfiable};
 ghost use Rattle.rg_clauses.specs.Conditions.{clauses_of_claim, CanFail};
 
-#[cfg(test)]
-mod tests;
-
 use crate::Clauses;
 use rg_bits::{formula, inputs};
 use rg_gates::{GateError, Gates, Table};

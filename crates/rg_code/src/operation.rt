@@ -4,7 +4,7 @@ use rg_words::operators::{Comparison, Connective, Operator, Shift};
 
 /// An operation over a stack of numbers: it takes its operands from the top, where the one that was worked out last stands,
 /// and leaves its result there. A truth value is 1 or 0.
-#[derive(Clone, Copy, Debug, PartialEq, Eq)]
+#[derive(Clone, Copy)]
 pub enum Operation {
     /// This number.
     Number(u64),

@@ -21,8 +21,6 @@ mod simulation;
 mod solver;
 mod sweep;
 mod table;
-#[cfg(test)]
-mod tests;
 mod watcher;
 
 pub use answer::{Found, find, find_watched};

@@ -8,9 +8,6 @@ ghost use Rattle.rg_clauses.specs.Formula.{IsUnsatisfiable};
 ghost use Rattle.rg_hints.specs.Proved.{section_for, Closes, AreClosedBy, IsProvedBy, AllProvedFrom, AreProved, IsUnclosed, IsConditionRefusal, IsFirstRefusal, IsProofsRefusal};
 ghost use Rattle.rg_hints.specs.SectionForms.{text_of, HasRoom, AreFrom};
 
-#[cfg(test)]
-mod tests;
-
 use crate::lines::Lines;
 use crate::section::{check, has_empty_clause};
 use crate::sections::{SectionBytes, read_sections};

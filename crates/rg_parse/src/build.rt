@@ -14,14 +14,14 @@ use rg_words::operators::{Comparison, Operator, Shift};
 use std::alloc::{AllocError, Global};
 
 /// A formula or an expression.
-#[derive(Debug, Drop)]
+#[derive(Drop)]
 pub enum Item {
     Formula(Formula),
     Expression(Expr),
 }
 
 /// What words are set for: a start, or a move of this number after others.
-#[derive(Debug, Drop)]
+#[derive(Drop)]
 pub enum Setter {
     Start,
     Move(Vec<MoveText>, Token),
@@ -29,7 +29,7 @@ pub enum Setter {
 
 /// An open part of the text, with what was read of it. Each stands where the `Point` of its name
 /// does.
-#[derive(Debug, Drop)]
+#[derive(Drop)]
 pub enum Frame {
     Whole,
     Negated,
@@ -69,6 +69,14 @@ pub enum Frame {
     Valued(Expr),
 }
 
+/// Opens a part. It stands apart so that each call that fails drops no part in place: the checker would spell that out, kind by kind.
+fn put(frames: &mut Vec<Frame>, frame: Frame) -> Result<(), AllocError>
+    ensures { OnOk result (frames.new.items ≡ frames.old.items ++ frame ∷ []) }
+{
+    frames.push(frame)?;
+    Ok(())
+}
+
 /// Takes a whole formula into the parts around it.
 fn take_formula(alloc: Global, frames: &mut Vec<Frame>, formula: Formula) -> Result<(), AllocError>
     ensures { (src : List ℕ) → OnOk result (map (open_of src) (reverse frames.new.items)
@@ -76,25 +84,25 @@ fn take_formula(alloc: Global, frames: &mut Vec<Frame>, formula: Formula) -> Res
 {
     match frames.pop() {
         None => {}
-        Some(Frame::Whole) => frames.push(Frame::End(formula))?,
+        Some(Frame::Whole) => put(frames, Frame::End(formula))?,
         Some(Frame::Negated) => {
             let negation = Formula::Not(Box::new(alloc, formula)?);
             take_formula(alloc, frames, negation)?;
         }
-        Some(Frame::First) => frames.push(Frame::AfterFormula(formula))?,
+        Some(Frame::First) => put(frames, Frame::AfterFormula(formula))?,
         Some(Frame::Next(junction, left)) => {
             let left = Box::new(alloc, left)?;
             let chain = Formula::Joined(junction, left, Box::new(alloc, formula)?);
-            frames.push(Frame::AfterNext(junction, chain))?;
+            put(frames, Frame::AfterNext(junction, chain))?;
         }
         Some(Frame::Second(conditional, left)) => {
             let left = Box::new(alloc, left)?;
             let whole = Formula::Implied(conditional, left, Box::new(alloc, formula)?);
-            frames.push(Frame::Closing(Item::Formula(whole)))?;
+            put(frames, Frame::Closing(Item::Formula(whole)))?;
         }
-        Some(Frame::Condition) => frames.push(Frame::AfterCondition(formula))?,
-        Some(Frame::Showing(words)) => frames.push(Frame::ShowEnd(words, formula))?,
-        Some(other) => frames.push(other)?,
+        Some(Frame::Condition) => put(frames, Frame::AfterCondition(formula))?,
+        Some(Frame::Showing(words)) => put(frames, Frame::ShowEnd(words, formula))?,
+        Some(other) => put(frames, other)?,
     }
     Ok(())
 }
@@ -114,19 +122,19 @@ fn take_expression(
             let inverse = Expr::Inverse(Box::new(alloc, expression)?);
             take_expression(alloc, frames, inverse)?;
         }
-        Some(Frame::First) => frames.push(Frame::AfterExpression(expression))?,
+        Some(Frame::First) => put(frames, Frame::AfterExpression(expression))?,
         Some(Frame::Compared(comparison, left)) => {
             let whole = Formula::Compared(comparison, left, expression);
-            frames.push(Frame::Closing(Item::Formula(whole)))?;
+            put(frames, Frame::Closing(Item::Formula(whole)))?;
         }
         Some(Frame::Operated(operator, left)) => {
             let left = Box::new(alloc, left)?;
             let whole = Expr::Binary(operator, left, Box::new(alloc, expression)?);
-            frames.push(Frame::Closing(Item::Expression(whole)))?;
+            put(frames, Frame::Closing(Item::Expression(whole)))?;
         }
-        Some(Frame::Chosen) => frames.push(Frame::Closing(Item::Expression(expression)))?,
+        Some(Frame::Chosen) => put(frames, Frame::Closing(Item::Expression(expression)))?,
         Some(Frame::Consequent(formula)) => {
-            frames.push(Frame::AfterConsequent(formula, expression))?;
+            put(frames, Frame::AfterConsequent(formula, expression))?;
         }
         Some(Frame::Alternative(formula, first)) => {
             let formula = Box::new(alloc, formula)?;
@@ -134,8 +142,8 @@ fn take_expression(
             let choice = Expr::If(formula, first, Box::new(alloc, expression)?);
             take_expression(alloc, frames, choice)?;
         }
-        Some(Frame::WholeValue) => frames.push(Frame::Valued(expression))?,
-        Some(other) => frames.push(other)?,
+        Some(Frame::WholeValue) => put(frames, Frame::Valued(expression))?,
+        Some(other) => put(frames, other)?,
     }
     Ok(())
 }
@@ -152,7 +160,7 @@ fn take_close(alloc: Global, frames: &mut Vec<Frame>) -> Result<(), AllocError>
         Some(Frame::Closing(Item::Expression(expression))) => {
             take_expression(alloc, frames, expression)?;
         }
-        Some(other) => frames.push(other)?,
+        Some(other) => put(frames, other)?,
     }
     Ok(())
 }
@@ -165,10 +173,10 @@ fn take_if(frames: &mut Vec<Frame>) -> Result<(), AllocError>
     match frames.pop() {
         None => {}
         Some(Frame::First) => {
-            frames.push(Frame::Chosen)?;
-            frames.push(Frame::Condition)?;
+            put(frames, Frame::Chosen)?;
+            put(frames, Frame::Condition)?;
         }
-        Some(other) => frames.push(other)?,
+        Some(other) => put(frames, other)?,
     }
     Ok(())
 }
@@ -181,35 +189,35 @@ fn take_between(frames: &mut Vec<Frame>, terminal: Terminal) -> Result<(), Alloc
     match (frames.pop(), terminal) {
         (None, _) => {}
         (Some(Frame::AfterFormula(f)), Terminal::Join(junction)) => {
-            frames.push(Frame::Next(junction, f))?;
+            put(frames, Frame::Next(junction, f))?;
         }
         (Some(Frame::AfterNext(junction, f)), Terminal::Join(_)) => {
-            frames.push(Frame::Next(junction, f))?;
+            put(frames, Frame::Next(junction, f))?;
         }
         (Some(Frame::AfterFormula(f)), Terminal::Imply(conditional)) => {
-            frames.push(Frame::Second(conditional, f))?;
+            put(frames, Frame::Second(conditional, f))?;
         }
         (Some(Frame::AfterExpression(a)), Terminal::Compare(comparison)) => {
-            frames.push(Frame::Compared(comparison, a))?;
+            put(frames, Frame::Compared(comparison, a))?;
         }
         (Some(Frame::AfterExpression(a)), Terminal::Operate(operator)) => {
-            frames.push(Frame::Operated(operator, a))?;
+            put(frames, Frame::Operated(operator, a))?;
         }
         (Some(Frame::AfterExpression(a)), Terminal::ShiftBy(shift)) => {
-            frames.push(Frame::Counted(shift, a))?;
+            put(frames, Frame::Counted(shift, a))?;
         }
-        (Some(Frame::AfterCondition(f)), Terminal::Then) => frames.push(Frame::Consequent(f))?,
+        (Some(Frame::AfterCondition(f)), Terminal::Then) => put(frames, Frame::Consequent(f))?,
         (Some(Frame::AfterConsequent(f, a)), Terminal::Else) => {
-            frames.push(Frame::Alternative(f, a))?;
+            put(frames, Frame::Alternative(f, a))?;
         }
         (Some(Frame::Declaring(words, _)), Terminal::Section(Keyword::Fixed)) => {
-            frames.push(Frame::Declaring(words, true))?;
+            put(frames, Frame::Declaring(words, true))?;
         }
-        (Some(Frame::Declaring(words, _)), Terminal::Show) => frames.push(Frame::Showing(words))?,
+        (Some(Frame::Declaring(words, _)), Terminal::Show) => put(frames, Frame::Showing(words))?,
         (Some(Frame::Settings(setter, settings)), Terminal::Section(Keyword::At)) => {
             take_at(frames, setter, settings)?;
         }
-        (Some(other), _) => frames.push(other)?,
+        (Some(other), _) => put(frames, other)?,
     }
     Ok(())
 }
@@ -224,11 +232,11 @@ fn take_at(
         ≡ after_at (setter_of src setter) (map (setting src) settings.items) ∷ map (open_of src) (reverse frames.old.items)) }
 {
     match setter {
-        Setter::Start => frames.push(Frame::Settings(Setter::Start, settings))?,
+        Setter::Start => put(frames, Frame::Settings(Setter::Start, settings))?,
         Setter::Move(moves, number) => {
             let mut moves = moves;
             moves.push(MoveText { number, settings })?;
-            frames.push(Frame::Moves(moves))?;
+            put(frames, Frame::Moves(moves))?;
         }
     }
     Ok(())
@@ -244,10 +252,10 @@ fn take_terminal(
         ≡ step (map (open_of src) (reverse frames.old.items)) (lexeme_as (Kind.Fixed terminal) leaf)) }
 {
     match terminal {
-        Terminal::Open => frames.push(Frame::First)?,
+        Terminal::Open => put(frames, Frame::First)?,
         Terminal::Close => take_close(alloc, frames)?,
-        Terminal::Not => frames.push(Frame::Negated)?,
-        Terminal::Inv => frames.push(Frame::Inverted)?,
+        Terminal::Not => put(frames, Frame::Negated)?,
+        Terminal::Inv => put(frames, Frame::Inverted)?,
         Terminal::If => take_if(frames)?,
         Terminal::Truth(truth) => take_formula(alloc, frames, Formula::Truth(truth))?,
         other => take_between(frames, other)?,
@@ -263,13 +271,13 @@ fn take_name(alloc: Global, frames: &mut Vec<Frame>, token: Token) -> Result<(),
     match frames.pop() {
         None => {}
         Some(Frame::Declaring(words, fixed)) => {
-            frames.push(Frame::Declared(words, fixed, token))?;
+            put(frames, Frame::Declared(words, fixed, token))?;
         }
         Some(Frame::Settings(setter, settings)) => {
-            frames.push(Frame::SettingWord(setter, settings, token))?;
+            put(frames, Frame::SettingWord(setter, settings, token))?;
         }
         Some(other) => {
-            frames.push(other)?;
+            put(frames, other)?;
             take_expression(alloc, frames, Expr::Word(token))?;
         }
     }
@@ -286,7 +294,7 @@ fn take_number(alloc: Global, frames: &mut Vec<Frame>, token: Token) -> Result<(
         None => {}
         Some(Frame::Counted(shift, value)) => {
             let whole = Expr::Shifted(shift, Box::new(alloc, value)?, token);
-            frames.push(Frame::Closing(Item::Expression(whole)))?;
+            put(frames, Frame::Closing(Item::Expression(whole)))?;
         }
         Some(Frame::Declared(words, fixed, name)) => {
             let mut words = words;
@@ -295,18 +303,21 @@ fn take_number(alloc: Global, frames: &mut Vec<Frame>, token: Token) -> Result<(
                 name,
                 width: token,
             })?;
-            frames.push(Frame::Declaring(words, false))?;
+            put(frames, Frame::Declaring(words, false))?;
         }
         Some(Frame::SettingWord(setter, settings, word)) => {
             let mut settings = settings;
             settings.push(Setting { word, value: token })?;
-            frames.push(Frame::Settings(setter, settings))?;
+            put(frames, Frame::Settings(setter, settings))?;
         }
         Some(Frame::Moves(moves)) => {
-            frames.push(Frame::Settings(Setter::Move(moves, token), Vec::new(alloc)))?;
+            put(
+                frames,
+                Frame::Settings(Setter::Move(moves, token), Vec::new(alloc)),
+            )?;
         }
         Some(other) => {
-            frames.push(other)?;
+            put(frames, other)?;
             take_expression(alloc, frames, Expr::Number(token))?;
         }
     }
@@ -333,7 +344,7 @@ fn read(alloc: Global, first: Frame, tokens: &[Token]) -> Result<Vec<Frame>, All
         ≡ steps (open_of src first ∷ []) (map (lexeme_of src) tokens.now)) }
 {
     let mut frames = Vec::new(alloc);
-    frames.push(first)?;
+    put(&mut frames, first)?;
     for token in tokens {
         take_token(alloc, &mut frames, *token)?;
     }

@@ -16,7 +16,7 @@ use rg_tree::line::Rule;
 use std::alloc::{AllocError, Global};
 
 /// What a token says outside the formulas of a derivation.
-#[derive(Clone, Copy, Debug)]
+#[derive(Clone, Copy)]
 pub enum Sign {
     /// A line begins with it.
     Line(Token),
@@ -30,7 +30,7 @@ pub enum Sign {
 }
 
 /// A line before its specification.
-#[derive(Debug, Drop)]
+#[derive(Drop)]
 pub struct LineHead {
     pub begin: Token,
     pub number: Token,
@@ -40,7 +40,7 @@ pub struct LineHead {
 }
 
 /// The formulas of a line before the one that is read.
-#[derive(Debug, Drop)]
+#[derive(Drop)]
 pub enum Claims {
     None,
     Pre(Formula),
@@ -49,7 +49,7 @@ pub enum Claims {
 }
 
 /// How far a line is read before its specification.
-#[derive(Debug, Drop)]
+#[derive(Drop)]
 pub enum Head {
     /// Its `line` is wanted.
     Unread,
@@ -64,14 +64,14 @@ pub enum Head {
 }
 
 /// Where a derivation is read: before the specification of a line, or in one of its formulas.
-#[derive(Debug, Drop)]
+#[derive(Drop)]
 pub enum LinePlace {
     Head(Head),
     Claim(LineHead, Claims, Vec<Frame>),
 }
 
 /// The whole lines, and the one that is open.
-#[derive(Debug, Drop)]
+#[derive(Drop)]
 pub struct Draft {
     pub lines: Vec<LineText>,
     pub place: LinePlace,
@@ -319,6 +319,3 @@ pub fn build_derivation(alloc: Global, tokens: &[Token]) -> Result<Vec<LineText>
 
 /// Lets formulas go.
 fn discard(_claims: Claims, _formula: Option<Formula>) {}
-
-#[cfg(test)]
-mod tests;

@@ -6,9 +6,6 @@ ghost use Rattle.rg_words.specs.Refusals.{no_memory};
 ghost use Rattle.rg_tree.specs.Moves.{MoveTree, move, AreMoves};
 ghost use Rattle.rg_parse.specs.Inputs.{SpellsStart, IsStartRefusal, SpellsMoves, IsMovesRefusal, OneSpelledStart, OneSpelledMoves};
 
-#[cfg(test)]
-mod tests;
-
 use crate::parse::{parse_moves, parse_start};
 use crate::resolve::{resolve_moves, resolve_start};
 use rg_text::Tokens;

@@ -16,6 +16,3 @@ pub mod syntax;
 
 pub use inputs::{moves, start};
 pub use point::TextKind;
-
-#[cfg(test)]
-mod tests;

@@ -11,7 +11,7 @@ use rg_words::limits::{
 use rg_words::operators::Comparison;
 
 /// A kind of text.
-#[derive(Clone, Copy, Debug, PartialEq, Eq)]
+#[derive(Clone, Copy)]
 pub enum TextKind {
     /// A formula alone.
     Formula,
@@ -28,14 +28,14 @@ pub enum TextKind {
 }
 
 /// A formula or an expression.
-#[derive(Clone, Copy, Debug, PartialEq, Eq)]
+#[derive(Clone, Copy)]
 pub enum Sort {
     Formula,
     Expression,
 }
 
 /// Some of the two sorts.
-#[derive(Clone, Copy, Debug, PartialEq, Eq)]
+#[derive(Clone, Copy)]
 pub struct Sorts {
     pub formula: bool,
     pub expression: bool,
@@ -43,7 +43,7 @@ pub struct Sorts {
 
 /// Whose specification it is: the program's own, that of the part of this number, or that of the
 /// line of this number in a derivation, from 1.
-#[derive(Clone, Copy, Debug, PartialEq, Eq)]
+#[derive(Clone, Copy)]
 pub enum Owner {
     Program,
     Part(u8),
@@ -51,7 +51,7 @@ pub enum Owner {
 }
 
 /// A formula of a specification.
-#[derive(Clone, Copy, Debug, PartialEq, Eq)]
+#[derive(Clone, Copy)]
 pub enum Clause {
     Pre,
     Rely,
@@ -61,7 +61,7 @@ pub enum Clause {
 
 /// What a block of statements is: the body of the part of this number, or a block of an `if` or a
 /// `while`.
-#[derive(Clone, Copy, Debug, PartialEq, Eq)]
+#[derive(Clone, Copy)]
 pub enum Block {
     Body(u8),
     Then,
@@ -72,7 +72,7 @@ pub enum Block {
 /// A place between two tokens, as seen from one open part of the text.
 ///
 /// The places of a parse are a stack, with one place for each open opener and one below them all.
-#[derive(Clone, Copy, Debug, PartialEq, Eq)]
+#[derive(Clone, Copy)]
 pub enum Point {
     /// A formula is wanted, after which the text ends.
     Whole,
@@ -189,7 +189,7 @@ pub enum Point {
 }
 
 /// How a token may begin an item.
-#[derive(Clone, Copy, Debug, PartialEq, Eq)]
+#[derive(Clone, Copy)]
 pub enum Start {
     /// It is an item of this sort.
     Leaf(Sort),
@@ -202,7 +202,7 @@ pub enum Start {
 }
 
 /// What a token does to the place where it stands.
-#[derive(Clone, Copy, Debug, PartialEq, Eq)]
+#[derive(Clone, Copy)]
 pub enum Turn {
     /// This place follows.
     On(Point),

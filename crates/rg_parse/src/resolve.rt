@@ -33,8 +33,6 @@ mod line;
 mod part;
 mod scope;
 mod setting;
-#[cfg(test)]
-mod tests;
 
 use crate::declare::declare;
 use crate::syntax;

@@ -15,7 +15,7 @@ use rg_words::limits::MOST_OPENERS;
 use std::alloc::{AllocError, AllocFailed, Global};
 
 /// Why the tokens aren't those of a text. A place in the list of tokens counts from 0.
-#[derive(Debug, Drop)]
+#[derive(Drop)]
 pub enum ShapeFault {
     /// Memory was refused.
     Memory,

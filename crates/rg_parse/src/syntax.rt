@@ -6,7 +6,7 @@ use rg_tree::line::Rule;
 use rg_words::operators::{Comparison, Operator, Shift};
 
 /// An expression.
-#[derive(Debug, Drop)]
+#[derive(Drop)]
 #[cycle(syntax)]
 pub enum Expr {
     Number(Token),
@@ -19,7 +19,6 @@ pub enum Expr {
 }
 
 /// A formula.
-#[derive(Debug)]
 #[cycle(syntax)]
 pub enum Formula {
     Truth(bool),
@@ -56,7 +55,7 @@ impl Drop for Formula {
 }
 
 /// A declaration of a word: the tokens of its name and of its width.
-#[derive(Clone, Copy, Debug)]
+#[derive(Clone, Copy)]
 pub struct Declaration {
     pub fixed: bool,
     pub name: Token,
@@ -64,35 +63,35 @@ pub struct Declaration {
 }
 
 /// A text to show: its declared words, in their order, and a formula over them.
-#[derive(Debug, Drop)]
+#[derive(Drop)]
 pub struct ShowText {
     pub words: Vec<Declaration>,
     pub formula: Formula,
 }
 
 /// A word and the number that it is set to, in a start or in a move.
-#[derive(Clone, Copy, Debug)]
+#[derive(Clone, Copy)]
 pub struct Setting {
     pub word: Token,
     pub value: Token,
 }
 
 /// A move of the environment: after how many steps it comes, and what it sets.
-#[derive(Debug, Drop)]
+#[derive(Drop)]
 pub struct MoveText {
     pub number: Token,
     pub settings: Vec<Setting>,
 }
 
 /// An assignment.
-#[derive(Debug, Drop)]
+#[derive(Drop)]
 pub struct Assigned {
     pub target: Token,
     pub value: Expr,
 }
 
 /// A statement, with its first token. A block is a list of one statement or more.
-#[derive(Debug, Drop)]
+#[derive(Drop)]
 #[cycle(statement)]
 pub enum Statement {
     Skip(Token),
@@ -103,7 +102,7 @@ pub enum Statement {
 }
 
 /// The four formulas of a specification.
-#[derive(Debug, Drop)]
+#[derive(Drop)]
 pub struct SpecText {
     pub pre: Formula,
     pub rely: Formula,
@@ -112,7 +111,7 @@ pub struct SpecText {
 }
 
 /// A part: its name, its own specification, and its block.
-#[derive(Debug, Drop)]
+#[derive(Drop)]
 pub struct PartText {
     pub name: Token,
     pub spec: SpecText,
@@ -120,7 +119,7 @@ pub struct PartText {
 }
 
 /// A program: its declared words, its specification, and its parts, in their order.
-#[derive(Debug, Drop)]
+#[derive(Drop)]
 pub struct ProgramText {
     pub words: Vec<Declaration>,
     pub spec: SpecText,
@@ -129,7 +128,7 @@ pub struct ProgramText {
 
 /// A line of a derivation: the word `line`, its number, its rule, its statement's number, the numbers of its premises, and
 /// its four formulas.
-#[derive(Debug, Drop)]
+#[derive(Drop)]
 pub struct LineText {
     pub begin: Token,
     pub number: Token,

@@ -5,5 +5,3 @@ mod begun;
 mod draft;
 pub mod parse;
 pub mod program;
-#[cfg(test)]
-mod tests;

@@ -13,7 +13,7 @@ use rg_words::Layout;
 use std::alloc::Global;
 
 /// An assignment to a word.
-#[derive(Debug, Drop)]
+#[derive(Drop)]
 pub struct Assign {
     /// The word's number: its place in the layout, from 0.
     pub word: usize,
@@ -22,7 +22,7 @@ pub struct Assign {
 }
 
 /// The second state of a condition.
-#[derive(Debug, Drop)]
+#[derive(Drop)]
 pub enum Second {
     /// The first state itself.
     Same,

@@ -14,7 +14,7 @@ pub struct WordValue {
 }
 
 /// A move: the words that it names get these values, and the others keep theirs.
-#[derive(Debug, Drop)]
+#[derive(Drop)]
 pub struct Move {
     /// The count of steps that are made before it.
     pub at: u64,

@@ -3,7 +3,7 @@
 use rg_words::operators::{Comparison, Connective, Operator, Shift};
 
 /// An expression. A `u32` before an operand is a width in bits; a word is its place in the layout, from 0.
-#[derive(Debug, Drop)]
+#[derive(Drop)]
 #[cycle(tree)]
 pub enum Expr {
     /// A number of this width.
@@ -22,7 +22,6 @@ pub enum Expr {
 }
 
 /// A formula.
-#[derive(Debug)]
 #[cycle(tree)]
 pub enum Formula {
     Truth(bool),

@@ -9,8 +9,6 @@ pub mod operators;
 mod refusal;
 mod sink;
 mod state;
-#[cfg(test)]
-mod tests;
 mod writers;
 
 pub use buffered::Buffered;

@@ -27,16 +27,3 @@ pub use numbers::write_numbers;
 pub use proofs_found::{ProofsFound, find_proofs};
 pub use shown::{clauses, find, valid};
 pub use stages::{Accepted, Derived, Emitted, Parsed};
-
-#[cfg(test)]
-mod command_tests;
-#[cfg(test)]
-mod line_tests;
-#[cfg(test)]
-mod program_tests;
-#[cfg(test)]
-mod tests;
-#[cfg(test)]
-mod text_tests;
-#[cfg(test)]
-mod whole_tests;

@@ -37,7 +37,7 @@ fn part_name(parts: &[Part], number: usize) -> &str
 }
 
 /// A statement's line of the text.
-pub(crate) fn line_of(alloc: Global, name: &str, statement: &Numbered) -> Result<String, AllocError>
+fn line_of(alloc: Global, name: &str, statement: &Numbered) -> Result<String, AllocError>
     ensures { IfOk result (λ line. string_bytes line ≡ number_line name.now statement.now) }
 {
     let number = statement.number;

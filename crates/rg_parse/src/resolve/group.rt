@@ -12,7 +12,7 @@ use rg_words::Layout;
 use rg_words::limits::MOST_WIDTH;
 
 /// What is asked of the leaves of a comparison.
-#[derive(Clone, Copy, Debug, PartialEq, Eq)]
+#[derive(Clone, Copy)]
 pub enum Group {
     /// Each word has this width, in bits, and each number is below 2 to its power.
     Width(u32),
