@@ -14,17 +14,27 @@ pub(crate) struct Answer {
     pub(crate) faults: Taker,
 }
 
-/// The answer of a command on files, to writers that take seven bytes a call.
-pub(crate) fn answer_of(alloc: Global, command: Command<'_>, files: &Files<'_>) -> Answer {
+/// The answer of a command on files, to writers that take so many bytes a call.
+pub(crate) fn answer_by(
+    alloc: Global,
+    command: Command<'_>,
+    files: &Files<'_>,
+    most: usize,
+) -> Answer {
     let line = Line { command };
-    let mut out = Taker::new(alloc, 7);
-    let mut faults = Taker::new(alloc, 7);
+    let mut out = Taker::new(alloc, most);
+    let mut faults = Taker::new(alloc, most);
     let status = perform(alloc, &line, files, &mut out, &mut faults, &mut Unwatched);
     Answer {
         status,
         out,
         faults,
     }
+}
+
+/// The same, to writers that take seven bytes a call.
+pub(crate) fn answer_of(alloc: Global, command: Command<'_>, files: &Files<'_>) -> Answer {
+    answer_by(alloc, command, files, 7)
 }
 
 /// The condition of this number of the derivation.

@@ -1,5 +1,6 @@
 //! Whole texts: what is told of each, by the commands over files in memory.
 
+use crate::commands::{Answer, answer_by};
 use clap::error::ErrorKind;
 use rg_find::Unwatched;
 use rg_words::{Device, Fuse, Out, Taker};
@@ -8,35 +9,23 @@ use std::alloc::{AllocError, Global};
 use std::process::Abort;
 use std::test::Fail;
 
-/// What a command answered: its status, its output and its faults.
-#[derive(Drop)]
-struct Answer {
-    status: u8,
-    out: Taker,
-    faults: Taker,
+/// The files of a formula's text and its proofs, where they are there.
+fn files_of<'a>(text: Option<&'a [u8]>, proofs: Option<&'a [u8]>) -> Files<'a> {
+    Files {
+        text,
+        derivation: None,
+        proofs,
+    }
 }
 
 /// The answer of `clauses` on a text.
 fn clauses_of(alloc: Global, text: &str) -> Answer {
-    let line = Line {
-        command: Command::Clauses {
-            text: "text",
-            chosen: None,
-        },
+    let command = Command::Clauses {
+        text: "text",
+        chosen: None,
     };
-    let files = Files {
-        text: Some(text.as_bytes()),
-        derivation: None,
-        proofs: None,
-    };
-    let mut out = Taker::new(alloc, 1 << 20);
-    let mut faults = Taker::new(alloc, 1 << 20);
-    let status = perform(alloc, &line, &files, &mut out, &mut faults, &mut Unwatched);
-    Answer {
-        status,
-        out,
-        faults,
-    }
+    let files = files_of(Some(text.as_bytes()), None);
+    answer_by(alloc, command, &files, 1 << 20)
 }
 
 /// The answer of `valid` on a text and proofs, to writers that take so many bytes a call.
@@ -46,49 +35,22 @@ fn valid_of<'a>(
     proofs: Option<&'a [u8]>,
     most: usize,
 ) -> Answer {
-    let line = Line {
-        command: Command::Valid {
-            text: "text",
-            proofs: "proofs",
-        },
+    let command = Command::Valid {
+        text: "text",
+        proofs: "proofs",
     };
-    let files = Files {
-        text,
-        derivation: None,
-        proofs,
-    };
-    let mut out = Taker::new(alloc, most);
-    let mut faults = Taker::new(alloc, most);
-    let status = perform(alloc, &line, &files, &mut out, &mut faults, &mut Unwatched);
-    Answer {
-        status,
-        out,
-        faults,
-    }
+    answer_by(alloc, command, &files_of(text, proofs), most)
 }
 
 /// The answer of `find` on a text, with at most so many decisions.
 fn find_of(alloc: Global, text: &str, steps: u64) -> Answer {
-    let line = Line {
-        command: Command::Find {
-            text: "text",
-            steps,
-            chosen: None,
-        },
+    let command = Command::Find {
+        text: "text",
+        steps,
+        chosen: None,
     };
-    let files = Files {
-        text: Some(text.as_bytes()),
-        derivation: None,
-        proofs: None,
-    };
-    let mut out = Taker::new(alloc, 1 << 20);
-    let mut faults = Taker::new(alloc, 1 << 20);
-    let status = perform(alloc, &line, &files, &mut out, &mut faults, &mut Unwatched);
-    Answer {
-        status,
-        out,
-        faults,
-    }
+    let files = files_of(Some(text.as_bytes()), None);
+    answer_by(alloc, command, &files, 1 << 20)
 }
 
 /// A text of a front, a piece so many times, and an end.
