@@ -10,3 +10,5 @@ pub mod laws;
 pub mod listing;
 pub mod operation;
 mod postfix;
+#[cfg(test)]
+mod tests;

@@ -10,3 +10,5 @@ mod replay;
 mod room;
 mod stack;
 mod stores;
+#[cfg(test)]
+mod tests;

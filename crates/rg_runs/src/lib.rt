@@ -4,6 +4,8 @@
 mod follow;
 mod states;
 mod step;
+#[cfg(test)]
+mod tests;
 mod trace;
 
 pub use follow::follows;

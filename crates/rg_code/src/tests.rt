@@ -7,8 +7,8 @@ ghost use Rattle.rg_tree.specs.ProgramView.{statement, specification, part as pa
 ghost use Rattle.rg_tree.specs.Numbering.{statements};
 ghost use Rattle.rg_tree.specs.TypedPrograms.{IsTypedPredicate, IsTypedStatement};
 
-use rg_code::compile::compile;
-use rg_code::listing::listing;
+use crate::compile::compile;
+use crate::listing::listing;
 use rg_tree::condition::Assign;
 use rg_tree::part::{Part, Spec};
 use rg_tree::program::Program;

@@ -1,7 +1,7 @@
 //! Rows of derivations from their bytes, with the expected answers written by hand.
 
-use super::two_skips;
-use rg_rules::{Derivation, Rule};
+use crate::tests::two_skips;
+use crate::{Derivation, Rule};
 use rg_tree::program::Program;
 use rg_words::{Place, Refusal, RefusalNumber, SourceFile};
 use std::alloc::Global;

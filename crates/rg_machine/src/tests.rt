@@ -9,10 +9,10 @@ ghost use Rattle.rg_tree.specs.ProgramView.{statement, specification};
 ghost use Rattle.rg_tree.specs.TypedPrograms.{IsTypedStatement};
 ghost use Rattle.rg_tree.specs.Numbering.{statements};
 
+use crate::config::Config;
+use crate::event::Event;
 use rg_code::code::Code;
 use rg_code::compile::compile;
-use rg_machine::config::Config;
-use rg_machine::event::Event;
 use rg_tree::condition::Assign;
 use rg_tree::part::{Part, Spec};
 use rg_tree::program::Program;

@@ -4,8 +4,8 @@ ghost use Rattle.std.specs.Prelude.{[], IfOk};
 ghost use Rattle.rg_tree.specs.ProgramView.{specification};
 ghost use Rattle.rg_tree.specs.TypedPrograms.{IsTypedSpecification};
 
-use rg_par::conditions::conditions;
-use rg_par::names::names;
+use crate::conditions::conditions;
+use crate::names::names;
 use rg_tree::part::{Part, Spec};
 use rg_tree::program::Program;
 use rg_tree::statement::Stmt;

@@ -9,7 +9,7 @@ ghost use Rattle.rg_tree.specs.TypedPrograms.{IsTypedSpecification, IsTypedState
 ghost use Rattle.rg_tree.specs.Numbering.{statements};
 ghost use Rattle.rg_tree.specs.ProgramView.{specification, statement};
 
-use rg_rules::{Derivation, Line, Rule};
+use crate::{Derivation, Line, Rule};
 use rg_tree::part::{Part, Spec};
 use rg_tree::program::Program;
 use rg_tree::statement::{Items, Stmt};
@@ -18,9 +18,6 @@ use rg_words::operators::Connective;
 use rg_words::{Layout, Place, Refusal, RefusalNumber, SourceFile};
 use std::alloc::Global;
 use std::test::Fail;
-
-#[cfg(test)]
-mod read;
 
 /// A pre: a truth value, or with the test `true`, or without it.
 #[derive(Clone, Copy)]

@@ -11,7 +11,8 @@ ghost use Rattle.rg_tree.specs.ProgramView.{statement, specification};
 ghost use Rattle.rg_tree.specs.Numbering.{statements};
 ghost use Rattle.rg_tree.specs.TypedPrograms.{IsTypedStatement};
 
-use rg_runs::{Step, Trace, follows};
+use crate::follow::follows;
+use crate::trace::{Step, Trace};
 use rg_tree::condition::Assign;
 use rg_tree::part::{Part, Spec};
 use rg_tree::program::Program;
