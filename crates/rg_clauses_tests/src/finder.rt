@@ -1,21 +1,23 @@
-//! Worked searches, decisions that are counted, and random circuits beside all their inputs.
+//! Searches over given clauses, decisions that are counted by calls, and random circuits.
 
-ghost use Rattle.std.specs.Prelude.{◌≡◌, ◌≤◌, IsTrue, IfOk};
+ghost use Rattle.std.specs.Prelude.{◌≡◌, IsTrue, IfOk, All};
+ghost use Rattle.rg_clauses.specs.Formula.{IsLiteral};
 ghost use Rattle.rg_gates.specs.Circuit.{variable_count, IsLitOf};
 
 use rg_clauses::Clauses;
 use rg_find::{Found, find};
 use rg_gates::{GateError, Gates, Lit, Table};
-use std::alloc::Global;
+use rg_words::Refusal;
+use std::alloc::{AllocError, Global};
 use std::test::Fail;
 
 /// What a search answered, in short.
-#[derive(Clone, Copy, Debug, PartialEq, Eq)]
+#[derive(Clone, Copy, PartialEq, Eq)]
 enum Kind {
     Lines,
     Values,
     GaveUp,
-    Refused(u8),
+    Refused,
 }
 
 fn found_kind(alloc: Global, clauses: &Clauses, steps: u64) -> Kind {
@@ -23,7 +25,7 @@ fn found_kind(alloc: Global, clauses: &Clauses, steps: u64) -> Kind {
         Ok(Found::Lines(_)) => Kind::Lines,
         Ok(Found::Values(_)) => Kind::Values,
         Ok(Found::GaveUp) => Kind::GaveUp,
-        Err(refusal) => Kind::Refused(refusal.number.code()),
+        Err(_) => Kind::Refused,
     }
 }
 
@@ -49,16 +51,6 @@ fn and<T: Table>(gates: &mut Gates<T>, a: Lit, b: Lit) -> Result<Lit, GateError>
     Err(GateError::TooManyVariables)
 }
 
-fn or<T: Table>(gates: &mut Gates<T>, a: Lit, b: Lit) -> Result<Lit, GateError> {
-    Ok(and(gates, a.negated(), b.negated())?.negated())
-}
-
-fn xor<T: Table>(gates: &mut Gates<T>, a: Lit, b: Lit) -> Result<Lit, GateError> {
-    let left = and(gates, a, b.negated())?;
-    let right = and(gates, a.negated(), b)?;
-    or(gates, left, right)
-}
-
 fn clauses_of<T: Table>(
     alloc: Global,
     gates: &Gates<T>,
@@ -70,150 +62,98 @@ fn clauses_of<T: Table>(
     Err(GateError::TooManyVariables)
 }
 
-#[test]
-fn proves_an_implication_without_a_decision(rt: HostRuntime) -> Result<(), Fail> {
-    let mut gates = Gates::input(rt.alloc(), 2);
-    let both = and(&mut gates, variable(1, false), variable(2, false))?;
-    let fails = and(&mut gates, both, variable(1, true))?;
-    let clauses = clauses_of(rt.alloc(), &gates, fails)?;
-    assert_eq!(rt; found_kind(rt.alloc(), &clauses, 0), Kind::Lines);
-    assert_eq!(rt; found_kind(rt.alloc(), &clauses, 1_000), Kind::Lines);
-    Ok(())
-}
-
-#[test]
-fn counts_one_decision(rt: HostRuntime) -> Result<(), Fail> {
-    let mut gates = Gates::input(rt.alloc(), 2);
-    let differ = xor(&mut gates, variable(1, false), variable(2, false))?;
-    let clauses = clauses_of(rt.alloc(), &gates, differ)?;
-    assert_eq!(rt; found_kind(rt.alloc(), &clauses, 0), Kind::GaveUp);
-    assert_eq!(rt; found_kind(rt.alloc(), &clauses, 1), Kind::Values);
-    Ok(())
-}
-
-#[test]
-fn counts_each_decision(rt: HostRuntime) -> Result<(), Fail> {
-    let mut clauses = Clauses::new(rt.alloc(), 20);
+/// Five clauses of two literals each, which share no variable.
+fn five_clauses(alloc: Global) -> Result<Clauses, AllocError> {
+    let mut clauses = Clauses::new(alloc, 20);
     clauses.push(&[1, 2])?;
     clauses.push(&[3, -4])?;
     clauses.push(&[-5, 6])?;
     clauses.push(&[-7, -8])?;
     clauses.push(&[20, 9])?;
+    Ok(clauses)
+}
+
+#[test]
+fn counts_each_decision(rt: HostRuntime) -> Result<(), Fail> {
+    let clauses = five_clauses(rt.alloc())?;
     for steps in 0..5 {
-        assert_eq!(rt;
-            found_kind(rt.alloc(), &clauses, steps),
-            Kind::GaveUp,
+        assert!(rt;
+            found_kind(rt.alloc(), &clauses, steps) == Kind::GaveUp,
             "{steps} steps"
         );
     }
-    assert_eq!(rt; found_kind(rt.alloc(), &clauses, 10), Kind::Values);
+    assert!(rt; found_kind(rt.alloc(), &clauses, 10) == Kind::Values);
     Ok(())
 }
 
-#[test]
-fn refuses_more_steps_than_the_most(rt: HostRuntime) -> Result<(), Fail> {
-    let mut clauses = Clauses::new(rt.alloc(), 1);
-    clauses.push(&[-1])?;
-    assert_eq!(rt;
-        found_kind(rt.alloc(), &clauses, 1_000_000_000),
-        Kind::Values
-    );
-    assert_eq!(rt;
-        found_kind(rt.alloc(), &clauses, 1_000_000_001),
-        Kind::Refused(11)
-    );
-    assert_eq!(rt;
-        found_kind(rt.alloc(), &clauses, u64::MAX),
-        Kind::Refused(11)
-    );
-    Ok(())
+/// Whether the search gives these values without a decision.
+fn gives_values(alloc: Global, clauses: &Clauses, expected: &[bool]) -> bool {
+    match find(alloc, clauses, 0) {
+        Ok(Found::Values(values)) => values.as_slice() == expected,
+        _ => false,
+    }
 }
 
-#[test]
-fn hands_out_lines_and_values(rt: HostRuntime) -> Result<(), Fail> {
-    let mut clauses = Clauses::new(rt.alloc(), 2);
-    let mut seen = 0;
+/// Whether the search gives lines of this text without a decision.
+fn gives_lines(alloc: Global, clauses: &Clauses, expected: &str) -> Result<bool, Refusal> {
+    match find(alloc, clauses, 0)? {
+        Found::Lines(lines) => Ok(lines.text(alloc)?.as_str() == expected),
+        _ => Ok(false),
+    }
+}
+
+/// Two clauses over two variables, of which the second is a unit.
+fn two_clauses(alloc: Global) -> Result<Clauses, AllocError>
+    ensures { IfOk result (λ c. c.variables ≡ 2) }
+{
+    let mut clauses = Clauses::new(alloc, 2);
     clauses.push(&[1, -2])?;
     clauses.push(&[2])?;
-    if let Found::Values(values) = find(rt.alloc(), &clauses, 0)? {
-        assert_eq!(rt; values.as_slice(), [true, true].as_slice());
-        seen += 1;
-    }
-    clauses.push(&[-1])?;
-    if let Found::Lines(lines) = find(rt.alloc(), &clauses, 0)? {
-        assert_eq!(rt; lines.text(rt.alloc())?.as_str(), "4 0 3 2 1 0\n");
-        seen += 1;
-    }
-    clauses.push(&[])?;
-    if let Found::Lines(lines) = find(rt.alloc(), &clauses, 0)? {
-        assert_eq!(rt; lines.len(), 0);
-        seen += 1;
-    }
-    assert_eq!(rt; seen, 3);
-    Ok(())
+    Ok(clauses)
 }
 
 #[test]
-fn takes_clauses_with_repeated_literals(rt: HostRuntime) -> Result<(), Fail> {
-    let mut clauses = Clauses::new(rt.alloc(), 3);
+fn hands_out_values(rt: HostRuntime) -> Result<(), Fail> {
+    let clauses = two_clauses(rt.alloc())?;
+    assert!(rt; gives_values(rt.alloc(), &clauses, &[true, true]));
+    Ok(())
+}
+
+/// Whether the search gives lines of this text for the two clauses and one more.
+fn gives_lines_with(alloc: Global, clause: &[i32], expected: &str) -> Result<bool, Refusal>
+    requires { All (IsLiteral 2) clause.now }
+{
+    let mut clauses = two_clauses(alloc)?;
+    clauses.push(clause)?;
+    gives_lines(alloc, &clauses, expected)
+}
+
+#[test]
+fn hands_out_lines(rt: HostRuntime) -> Result<(), Fail> {
+    let refuted = gives_lines_with(rt.alloc(), &[-1], "4 0 3 2 1 0\n")?;
+    let empty = gives_lines_with(rt.alloc(), &[], "")?;
+    assert!(rt; refuted && empty);
+    Ok(())
+}
+
+/// Clauses with repeated literals, which values satisfy.
+fn repeated_literals(alloc: Global) -> Result<Clauses, AllocError>
+    ensures { IfOk result (λ c. c.variables ≡ 3) }
+{
+    let mut clauses = Clauses::new(alloc, 3);
     clauses.push(&[1, 1])?;
     clauses.push(&[-1, 2, 2])?;
     clauses.push(&[3, -3])?;
     clauses.push(&[-2, -2, 3])?;
-    assert_eq!(rt; found_kind(rt.alloc(), &clauses, 100), Kind::Values);
-    clauses.push(&[-3, -1, -3])?;
-    assert_eq!(rt; found_kind(rt.alloc(), &clauses, 100), Kind::Lines);
-    Ok(())
-}
-
-/// The bits of a sum.
-fn sum<T: Table>(
-    alloc: Global,
-    gates: &mut Gates<T>,
-    a: &[Lit],
-    b: &[Lit],
-) -> Result<Vec<Lit>, GateError> {
-    let mut carry = Lit::False;
-    let mut bits = Vec::new(alloc);
-    for (a, b) in a.iter().zip(b) {
-        let differ = xor(gates, *a, *b)?;
-        bits.push(xor(gates, differ, carry)?)?;
-        let both = and(gates, *a, *b)?;
-        let one = and(gates, carry, differ)?;
-        carry = or(gates, both, one)?;
-    }
-    Ok(bits)
-}
-
-/// The literal that is true where two rows differ.
-fn rows_differ<T: Table>(gates: &mut Gates<T>, a: &[Lit], b: &[Lit]) -> Result<Lit, GateError> {
-    let mut differ = Lit::False;
-    for (a, b) in a.iter().zip(b) {
-        let bit = xor(gates, *a, *b)?;
-        differ = or(gates, differ, bit)?;
-    }
-    Ok(differ)
+    Ok(clauses)
 }
 
 #[test]
-fn proves_that_sums_associate(rt: HostRuntime) -> Result<(), Fail> {
-    let alloc = rt.alloc();
-    let mut gates = Gates::input(alloc, 12);
-    let mut x = Vec::new(alloc);
-    let mut y = Vec::new(alloc);
-    let mut z = Vec::new(alloc);
-    for number in 1..5 {
-        x.push(variable(number, false))?;
-        y.push(variable(number + 4, false))?;
-        z.push(variable(number + 8, false))?;
-    }
-    let front = sum(alloc, &mut gates, &x, &y)?;
-    let left = sum(alloc, &mut gates, &front, &z)?;
-    let back = sum(alloc, &mut gates, &y, &z)?;
-    let right = sum(alloc, &mut gates, &x, &back)?;
-    let fails = rows_differ(&mut gates, &left, &right)?;
-    let clauses = clauses_of(alloc, &gates, fails)?;
-    assert_eq!(rt; found_kind(alloc, &clauses, 1_000), Kind::Lines);
+fn takes_clauses_with_repeated_literals(rt: HostRuntime) -> Result<(), Fail> {
+    let mut clauses = repeated_literals(rt.alloc())?;
+    assert!(rt; found_kind(rt.alloc(), &clauses, 100) == Kind::Values);
+    clauses.push(&[-3, -1, -3])?;
+    assert!(rt; found_kind(rt.alloc(), &clauses, 100) == Kind::Lines);
     Ok(())
 }
 

@@ -1,6 +1,6 @@
 //! Worked gates, both tables, and the limit.
 
-ghost use Rattle.std.specs.Prelude.{◌≡◌, ◌≤◌, ◌<◌, ℕ};
+ghost use Rattle.std.specs.Prelude.{◌≡◌, ◌≤◌};
 ghost use Rattle.rg_gates.specs.declared.Lit.TheVariants.{Variable};
 ghost use Rattle.rg_gates.specs.Circuit.{variable_count};
 
@@ -25,23 +25,54 @@ fn implication<T: Table>(gates: &mut Gates<T>) -> Result<Lit, GateError>
     Ok(Gates::not(fails))
 }
 
-#[test]
-fn worked_gates(rt: HostRuntime) -> Result<(), Fail> {
-    let mut gates = Gates::input(rt.alloc(), 2);
-    let literal = implication(&mut gates)?;
-    assert_eq!(rt; literal, variable(4, true));
-    let first = Gate {
+/// The first gate of the implication.
+fn first_gate() -> Gate {
+    Gate {
         first: variable(1, false),
         second: variable(2, false),
-    };
-    let second = Gate {
+    }
+}
+
+/// Its second gate.
+fn second_gate() -> Gate {
+    Gate {
         first: variable(1, true),
         second: variable(3, false),
-    };
-    assert_eq!(rt; gates.gates(), [first, second].as_slice());
-    assert_eq!(rt; gates.table().get_index_of(&second), Some(1));
-    let values = gates.eval(rt.alloc(), &[true, true])?;
-    assert_eq!(rt; values.as_slice(), [true, true, true, false].as_slice());
+    }
+}
+
+/// Whether the gates of the implication are these two, after which its literal is the negation of the second one.
+fn builds_worked_gates<T: Table>(gates: &mut Gates<T>) -> Result<bool, GateError>
+    requires { 2 ≤ variable_count gates.old }
+{
+    let literal = implication(gates)?;
+    let expected = [first_gate(), second_gate()];
+    Ok(literal == variable(4, true) && gates.gates() == expected.as_slice())
+}
+
+#[test]
+fn worked_gates(rt: HostRuntime) {
+    let mut gates = Gates::input(rt.alloc(), 2);
+    let worked = builds_worked_gates(&mut gates);
+    let place = gates.table().get_index_of(&second_gate());
+    assert!(rt; worked == Ok(true) && place == Some(1));
+}
+
+/// Whether the values of the implication's gates, where both words are 1, are the worked ones.
+fn has_worked_values<T: Table>(alloc: Global, gates: &mut Gates<T>) -> Result<bool, Fail>
+    requires inputs { gates.old.inputs ≡ 2 }
+    requires count { 2 ≤ variable_count gates.old }
+{
+    implication(gates)?;
+    let values = gates.eval(alloc, &[true, true])?;
+    Ok(values.as_slice() == [true, true, true, false].as_slice())
+}
+
+#[test]
+fn worked_values(rt: HostRuntime) -> Result<(), Fail> {
+    let mut gates = Gates::input(rt.alloc(), 2);
+    let worked = has_worked_values(rt.alloc(), &mut gates)?;
+    assert!(rt; worked);
     values_are_one();
     Ok(())
 }
@@ -62,19 +93,29 @@ fn all_pairs<T: Table>(alloc: Global, gates: &mut Gates<T>) -> Result<Vec<Lit>, 
     Ok(answers)
 }
 
+/// Whether both tables answer the same for each pair.
+fn answers_agree<S: Table, T: Table>(
+    alloc: Global,
+    mapped: &mut Gates<S>,
+    scanned: &mut Gates<T>,
+) -> Result<bool, Fail> {
+    let answers = all_pairs(alloc, mapped)?;
+    let others = all_pairs(alloc, scanned)?;
+    Ok(answers == others)
+}
+
 #[test]
 fn both_tables_agree(rt: HostRuntime) -> Result<(), Fail> {
     let mut mapped = Gates::input(rt.alloc(), 3);
     let mut scanned = Gates::scanning(rt.alloc(), 3);
-    let answers = all_pairs(rt.alloc(), &mut mapped)?;
-    assert_eq!(rt; answers, all_pairs(rt.alloc(), &mut scanned)?);
-    assert_eq!(rt; mapped.gates(), scanned.gates());
-    assert_eq!(rt; mapped.table().as_slice(), scanned.gates());
+    let answers = answers_agree(rt.alloc(), &mut mapped, &mut scanned)?;
+    let gates = mapped.gates() == scanned.gates();
+    assert!(rt; answers && gates && mapped.table().as_slice() == scanned.gates());
     Ok(())
 }
 
-/// What `and` answers at one variable below the limit: a gate, the same gate, and one too many.
-fn answers_at_limit<T: Table>(gates: &mut Gates<T>) -> [Result<Lit, GateError>; 3]
+/// Whether `and` at one variable below the limit answers a gate, the same gate again, and that there is one too many.
+fn stops_after_one_more<T: Table>(gates: &mut Gates<T>) -> bool
     requires { 3 ≤ variable_count gates.old }
 {
     let one = variable(1, false);
@@ -82,17 +123,15 @@ fn answers_at_limit<T: Table>(gates: &mut Gates<T>) -> [Result<Lit, GateError>; 
     let made = gates.and(one, two);
     let found = gates.and(two, one);
     let refused = gates.and(one, variable(3, false));
-    [made, found, refused]
+    let last = Ok(variable(MOST_VARIABLES, false));
+    made == last && found == last && refused == Err(GateError::TooManyVariables)
 }
 
 #[test]
 fn stops_at_the_limit(rt: HostRuntime) {
-    let last = Ok(variable(MOST_VARIABLES, false));
-    let expected = [last, last, Err(GateError::TooManyVariables)];
     let mut mapped = Gates::input(rt.alloc(), MOST_VARIABLES - 1);
-    assert_eq!(rt; answers_at_limit(&mut mapped), expected);
-    assert_eq!(rt; mapped.variables(), MOST_VARIABLES);
     let mut scanned = Gates::scanning(rt.alloc(), MOST_VARIABLES - 1);
-    assert_eq!(rt; answers_at_limit(&mut scanned), expected);
-    assert_eq!(rt; scanned.gates(), mapped.gates());
+    let stopped = stops_after_one_more(&mut mapped) && stops_after_one_more(&mut scanned);
+    let full = mapped.variables() == MOST_VARIABLES && scanned.gates() == mapped.gates();
+    assert!(rt; stopped && full);
 }

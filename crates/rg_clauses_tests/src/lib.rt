@@ -1,4 +1,4 @@
-//! Rows of gates, clauses, clause proofs and the finder, over public calls alone.
+//! Rows of gates, clauses, clause proofs and the finder that no command reaches, over public calls alone.
 #![tactic(auto)]
 
 #[cfg(test)]
@@ -11,5 +11,3 @@ mod finder;
 mod gates;
 #[cfg(test)]
 mod lines;
-#[cfg(test)]
-mod sections;

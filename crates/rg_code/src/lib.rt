@@ -10,5 +10,3 @@ pub mod laws;
 pub mod listing;
 pub mod operation;
 mod postfix;
-#[cfg(test)]
-mod tests;

@@ -94,13 +94,26 @@ fn searched<W: Watcher>(
     let inputs = clauses.inputs() as usize;
     let number = u32::try_from(given).unwrap_or(u32::MAX);
     let mut solver = Solver::new(alloc, variables as usize, inputs, number)?;
-    prepare(alloc, clauses, steps, &mut solver, watcher)?;
+    searched_by(&mut solver, alloc, clauses, steps, watcher)
+}
+
+/// The search by a solver, which the caller lets go of in one place.
+fn searched_by<W: Watcher>(
+    solver: &mut Solver,
+    alloc: Global,
+    clauses: &Clauses,
+    steps: u64,
+    watcher: &mut W,
+) -> Result<Found, AllocError>
+    ensures { IfOk result (IsOver clauses.now) }
+{
+    prepare(alloc, clauses, steps, solver, watcher)?;
     match solver.search(steps, watcher)? {
-        Outcome::Refuted => match lines_of(alloc, given, &solver.log)? {
+        Outcome::Refuted => match lines_of(alloc, clauses.len(), &solver.log)? {
             Some(lines) => Ok(Found::Lines(lines)),
             None => Ok(Found::GaveUp),
         },
-        Outcome::Assigned => Ok(Found::Values(values_of(alloc, variables, &solver)?)),
+        Outcome::Assigned => Ok(Found::Values(values_of(alloc, clauses.variables(), solver)?)),
         Outcome::GaveUp => Ok(Found::GaveUp),
     }
 }

@@ -14,6 +14,16 @@ pub struct Order {
 }
 
 impl Order {
+    /// Of no inputs.
+    pub fn empty(alloc: Global) -> Self {
+        Order {
+            heap: Vec::new(alloc),
+            places: Vec::new(alloc),
+            activity: Vec::new(alloc),
+            step: 1.0,
+        }
+    }
+
     /// No inputs yet, of so many.
     pub fn new(alloc: Global, inputs: usize) -> Result<Self, AllocError> {
         let size = inputs.saturating_add(1);

@@ -115,48 +115,76 @@ impl Solver {
         inputs: usize,
         given: u32,
     ) -> Result<Self, AllocError> {
-        let size = variables.saturating_add(1);
-        let literals = size.saturating_mul(2);
-        let mut watches = Vec::new(alloc);
-        for _ in 0..literals {
-            watches.push(Vec::new(alloc))?;
-        }
-        Ok(Solver {
+        let mut solver = Solver::empty(alloc, inputs, given);
+        solver.make_room(variables)?;
+        Ok(solver)
+    }
+
+    /// A solver with no variables.
+    fn empty(alloc: Global, inputs: usize, given: u32) -> Self {
+        Solver {
             alloc,
             inputs,
             is_refuted: false,
-            values: vec![in alloc; OPEN; literals]?,
-            levels: vec![in alloc; 0; size]?,
-            reasons: vec![in alloc; NO_CLAUSE; size]?,
-            units: vec![in alloc; 0; size]?,
+            values: Vec::new(alloc),
+            levels: Vec::new(alloc),
+            reasons: Vec::new(alloc),
+            units: Vec::new(alloc),
             trail: Vec::new(alloc),
             level_starts: Vec::new(alloc),
             head: 0,
-            watches,
+            watches: Vec::new(alloc),
             arena: Vec::new(alloc),
             spans: Vec::new(alloc),
             log: Log::new(alloc, given),
-            order: Order::new(alloc, inputs)?,
-            near: Order::new(alloc, variables)?,
+            order: Order::empty(alloc),
+            near: Order::empty(alloc),
             cone: Vec::new(alloc),
-            cone_marks: vec![in alloc; 0; size]?,
+            cone_marks: Vec::new(alloc),
             cone_stamp: 1,
             has_cone: false,
             effort: 0,
-            phases: vec![in alloc; false; size]?,
-            seen: vec![in alloc; false; size]?,
-            in_learned: vec![in alloc; false; size]?,
+            phases: Vec::new(alloc),
+            seen: Vec::new(alloc),
+            in_learned: Vec::new(alloc),
             touched: Vec::new(alloc),
             learned: Vec::new(alloc),
             stack: Vec::new(alloc),
             hints: Vec::new(alloc),
             open: 0,
-            level_marks: vec![in alloc; 0; size]?,
+            level_marks: Vec::new(alloc),
             stamp: 0,
             next_reduction: 2000,
             kept_learned: 0,
             conflicts: 0,
-        })
+        }
+    }
+
+    /// Room for so many variables.
+    fn make_room(&mut self, variables: usize) -> Result<(), AllocError> {
+        let alloc = self.alloc;
+        let size = variables.saturating_add(1);
+        let literals = size.saturating_mul(2);
+        self.values = vec![in alloc; OPEN; literals]?;
+        for _ in 0..literals {
+            self.watches.push(Vec::new(alloc))?;
+        }
+        self.levels = vec![in alloc; 0; size]?;
+        self.reasons = vec![in alloc; NO_CLAUSE; size]?;
+        self.units = vec![in alloc; 0; size]?;
+        self.order = Order::new(alloc, self.inputs)?;
+        self.near = Order::new(alloc, variables)?;
+        self.mark_room(size)
+    }
+
+    fn mark_room(&mut self, size: usize) -> Result<(), AllocError> {
+        let alloc = self.alloc;
+        self.cone_marks = vec![in alloc; 0; size]?;
+        self.phases = vec![in alloc; false; size]?;
+        self.seen = vec![in alloc; false; size]?;
+        self.in_learned = vec![in alloc; false; size]?;
+        self.level_marks = vec![in alloc; 0; size]?;
+        Ok(())
     }
 
     #[inline]

@@ -10,5 +10,3 @@ mod replay;
 mod room;
 mod stack;
 mod stores;
-#[cfg(test)]
-mod tests;

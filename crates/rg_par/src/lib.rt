@@ -4,7 +4,5 @@
 pub mod conditions;
 mod laws;
 pub mod names;
-#[cfg(test)]
-mod tests;
 
 pub use laws::parallel_rule;

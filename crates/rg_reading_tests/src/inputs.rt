@@ -2,10 +2,9 @@
 
 use rg_parse::inputs::{moves, start};
 use rg_parse::show::show;
-use rg_tree::moves::WordValue;
+use rg_tree::moves::{Move, WordValue};
 use rg_words::{Layout, Place, Refusal, RefusalNumber, SourceFile};
 use std::alloc::Global;
-use std::process::Abort;
 use std::test::Fail;
 
 /// Two words: x of 1 bit and y of 8.
@@ -26,21 +25,45 @@ fn told(refusal: Refusal, file: SourceFile) -> Result<(RefusalNumber, u64), Refu
     }
 }
 
-fn expect_start_refused(
-    rt: &impl Abort,
-    alloc: Global,
-    text: &str,
-    number: RefusalNumber,
-    line: u64,
-) -> Result<(), Fail> {
+/// A fault at a line, or none.
+type Fault = Option<(RefusalNumber, u64)>;
+
+/// The fault of a start.
+fn fault_of_start(alloc: Global, layout: &Layout, text: &str) -> Result<Fault, Refusal> {
+    match start(alloc, layout, text.as_bytes()) {
+        Ok(_) => Ok(None),
+        Err(refusal) => Ok(Some(told(refusal, SourceFile::Start)?)),
+    }
+}
+
+/// The same, over the two words.
+fn fault_in_start(alloc: Global, text: &str) -> Result<Fault, Refusal> {
     let layout = words(alloc)?;
-    match start(alloc, &layout, text.as_bytes()) {
-        Ok(_) => assert!(rt; false, "{text} is read"),
-        Err(refusal) => assert_eq!(rt;
-            told(refusal, SourceFile::Start)?,
-            (number, line),
-            "at {text}"
+    fault_of_start(alloc, &layout, text)
+}
+
+#[test]
+fn shapes_of_starts(rt: HostRuntime) -> Result<(), Fail> {
+    // Each token has a line of its own.
+    let rows = [
+        ("", None),
+        ("x\n=\n1", None),
+        // The shape is accepted, and a word stands twice.
+        (
+            "x\n=\n1\ny\n=\n99\nx\n=\n0",
+            Some((RefusalNumber::NameTwice, 7)),
         ),
+        ("x", Some((RefusalNumber::Unfinished, 1))),
+        ("x\n=", Some((RefusalNumber::Unfinished, 2))),
+        ("x\n!=\n1", Some((RefusalNumber::Unexpected, 2))),
+        ("x\n=\ny", Some((RefusalNumber::Unexpected, 3))),
+        ("x\n=\n1\n2", Some((RefusalNumber::Unexpected, 4))),
+        ("x'\n=\n1", Some((RefusalNumber::Unexpected, 1))),
+        ("at\n1", Some((RefusalNumber::Unexpected, 1))),
+    ];
+    for (text, expected) in &rows {
+        let found = fault_in_start(rt.alloc(), text)?;
+        assert!(rt; found == *expected);
     }
     Ok(())
 }
@@ -57,63 +80,183 @@ fn a_start_names_words_once_with_values_that_fit(rt: HostRuntime) -> Result<(), 
         ("x = 1 y\n=", RefusalNumber::Unfinished, 2),
         ("x = 1\n# y = 2\nat 0", RefusalNumber::Unexpected, 3),
         ("x = 9 !", RefusalNumber::BadByte, 1),
+        // The tokens of the settings, in their order.
+        ("z\n=\n1\ny\n=\n2", RefusalNumber::UnknownName, 1),
+        ("x\n=\n2\ny\n=\n2", RefusalNumber::NumberTooLarge, 3),
+        ("x\n=\n1\nz\n=\n2", RefusalNumber::UnknownName, 4),
+        ("x\n=\n1\ny\n=\n256", RefusalNumber::NumberTooLarge, 6),
     ];
-    for (text, number, line) in rows {
-        expect_start_refused(&rt, rt.alloc(), text, number, line)?;
+    for (text, number, line) in &rows {
+        let found = fault_in_start(rt.alloc(), text)?;
+        assert!(rt; found == Some((*number, *line)));
     }
     Ok(())
+}
+
+/// The fault where the first word has a value of so many digits 9.
+fn fault_of_digits(alloc: Global, count: usize) -> Result<Fault, Refusal> {
+    let mut text = String::from_str(alloc, "x = ")?;
+    for _ in 0..count {
+        text.push_str("9")?;
+    }
+    fault_in_start(alloc, &text)
 }
 
 #[test]
 fn a_value_of_many_digits_is_too_large(rt: HostRuntime) -> Result<(), Fail> {
-    let mut text = String::from_str(rt.alloc(), "x = ")?;
-    for _ in 0..1000 {
-        text.push_str("9")?;
-    }
-    expect_start_refused(&rt, rt.alloc(), &text, RefusalNumber::NumberTooLarge, 1)
+    let found = fault_of_digits(rt.alloc(), 1000)?;
+    assert!(rt; found == Some((RefusalNumber::NumberTooLarge, 1)));
+    Ok(())
+}
+
+/// How many words the start of a text has.
+fn count_of(alloc: Global, text: &str) -> Result<usize, Refusal> {
+    let layout = words(alloc)?;
+    Ok(start(alloc, &layout, text.as_bytes())?.len())
+}
+
+/// Whether two texts give one state.
+fn agree(alloc: Global, layout: &Layout, first: &str, second: &str) -> Result<bool, Refusal> {
+    let one = start(alloc, layout, first.as_bytes())?;
+    let other = start(alloc, layout, second.as_bytes())?;
+    Ok(one.same(&other))
+}
+
+/// The same, over the two words.
+fn agree_in(alloc: Global, first: &str, second: &str) -> Result<bool, Refusal> {
+    let layout = words(alloc)?;
+    agree(alloc, &layout, first, second)
 }
 
 #[test]
 fn words_that_a_start_does_not_name_are_zero(rt: HostRuntime) -> Result<(), Fail> {
-    let layout = words(rt.alloc())?;
-    let empty = start(rt.alloc(), &layout, b"# nothing\n")?;
-    let _count = layout.len();
-    assert_eq!(rt; empty.len(), 2);
-    let state = start(rt.alloc(), &layout, b"y = 0255")?;
-    let same = start(rt.alloc(), &layout, b"y = 255 x = 0")?;
-    let other = start(rt.alloc(), &layout, b"y = 255 x = 1")?;
-    assert!(rt; state.same(&same));
-    assert!(rt; !state.same(&other));
-    assert!(rt; !state.same(&empty));
+    let rows = [
+        ("y = 255 x = 0", true),
+        ("y = 255 x = 1", false),
+        ("# nothing\n", false),
+    ];
+    for (other, same) in &rows {
+        let found = agree_in(rt.alloc(), "y = 0255", other)?;
+        assert!(rt; found == *same);
+    }
+    let count = count_of(rt.alloc(), "# nothing\n")?;
+    assert!(rt; count == 2);
+    Ok(())
+}
+
+/// How many moves a text has.
+fn count_of_moves(alloc: Global, text: &str) -> Result<usize, Refusal> {
+    let layout = words(alloc)?;
+    Ok(moves(alloc, &layout, text.as_bytes())?.len())
+}
+
+/// Whether a move of a list comes at this number and sets these words; not so past the last.
+fn is_so(list: &[Move], number: usize, at: u64, values: &[WordValue]) -> bool {
+    match list.get(number) {
+        Some(one) => one.at == at && one.values.as_slice() == values,
+        None => false,
+    }
+}
+
+/// The same of a move of the text below.
+fn is_move(alloc: Global, number: usize, at: u64, values: &[WordValue]) -> Result<bool, Refusal> {
+    let layout = words(alloc)?;
+    let list = moves(alloc, &layout, MOVES.as_bytes())?;
+    Ok(is_so(list.as_slice(), number, at, values))
+}
+
+const MOVES: &str = "at 7 y = 3 x = 1 at 0 at 4294967295 x = 0";
+
+#[test]
+fn moves_are_read_in_order(rt: HostRuntime) -> Result<(), Fail> {
+    let first = [
+        WordValue { word: 1, value: 3 },
+        WordValue { word: 0, value: 1 },
+    ];
+    let last = [WordValue { word: 0, value: 0 }];
+    let one = is_move(rt.alloc(), 0, 7, &first)?;
+    let two = is_move(rt.alloc(), 1, 0, &[])?;
+    let three = is_move(rt.alloc(), 2, 4_294_967_295, &last)?;
+    assert!(rt; one && two && three);
+    let count = count_of_moves(rt.alloc(), MOVES)?;
+    let none = count_of_moves(rt.alloc(), "")?;
+    assert!(rt; count == 3 && none == 0);
+    Ok(())
+}
+
+/// The fault of a text of moves.
+fn fault_of_moves(alloc: Global, layout: &Layout, text: &str) -> Result<Fault, Refusal> {
+    match moves(alloc, layout, text.as_bytes()) {
+        Ok(_) => Ok(None),
+        Err(refusal) => Ok(Some(told(refusal, SourceFile::Moves)?)),
+    }
+}
+
+/// The same, over the two words.
+fn fault_in_moves(alloc: Global, text: &str) -> Result<Fault, Refusal> {
+    let layout = words(alloc)?;
+    fault_of_moves(alloc, &layout, text)
+}
+
+#[test]
+fn shapes_of_moves(rt: HostRuntime) -> Result<(), Fail> {
+    // Each token has a line of its own.
+    let rows = [
+        ("", None),
+        ("at\n1", None),
+        ("at\n0\nat\n0\nx\n=\n1\ny\n=\n2\nat\n7", None),
+        ("at", Some((RefusalNumber::Unfinished, 1))),
+        ("at\nx", Some((RefusalNumber::Unexpected, 2))),
+        ("x\n=\n1", Some((RefusalNumber::Unexpected, 1))),
+        ("at\n1\n2", Some((RefusalNumber::Unexpected, 3))),
+        ("at\n1\nx", Some((RefusalNumber::Unfinished, 3))),
+        ("at\n1\nx\nat", Some((RefusalNumber::Unexpected, 4))),
+        ("at\n1\nx\n=\n1\n=", Some((RefusalNumber::Unexpected, 6))),
+    ];
+    for (text, expected) in &rows {
+        let found = fault_in_moves(rt.alloc(), text)?;
+        assert!(rt; found == *expected);
+    }
     Ok(())
 }
 
 #[test]
-fn moves_are_read_in_order(rt: HostRuntime) -> Result<(), Fail> {
-    let layout = words(rt.alloc())?;
-    let none = moves(rt.alloc(), &layout, b"")?;
-    assert_eq!(rt; none.len(), 0);
-    let list = moves(
-        rt.alloc(),
-        &layout,
-        b"at 7 y = 3 x = 1 at 0 at 4294967295 x = 0",
-    )?;
-    assert_eq!(rt; list.len(), 3);
-    for (k, one) in list.iter().enumerate() {
-        let (at, expected) = match k {
-            0 => (
-                7,
-                [
-                    WordValue { word: 1, value: 3 },
-                    WordValue { word: 0, value: 1 },
-                ]
-                .as_slice(),
-            ),
-            1 => (0, [].as_slice()),
-            _ => (4_294_967_295, [WordValue { word: 0, value: 0 }].as_slice()),
-        };
-        assert_eq!(rt; one.at, at);
-        assert!(rt; one.values.as_slice() == expected);
+fn settings_of_moves_are_kept_in_order(rt: HostRuntime) -> Result<(), Fail> {
+    // The tokens of two moves with settings, in their order.
+    let rows = [
+        ("at\n4294967296", RefusalNumber::NumberTooLarge, 2),
+        ("at\n3\nat\n4294967296", RefusalNumber::NumberTooLarge, 4),
+        ("at\n3\nat\n3\nz\n=\n1", RefusalNumber::UnknownName, 5),
+        ("at\n3\nat\n3\nx\n=\n2", RefusalNumber::NumberTooLarge, 7),
+        (
+            "at\n3\nat\n3\nx\n=\n1\nz\n=\n2",
+            RefusalNumber::UnknownName,
+            8,
+        ),
+        (
+            "at\n3\nat\n3\nx\n=\n1\ny\n=\n256",
+            RefusalNumber::NumberTooLarge,
+            10,
+        ),
+        (
+            "at\n3\nat\n3\nx\n=\n1\ny\n=\n2\nat\n4294967296",
+            RefusalNumber::NumberTooLarge,
+            12,
+        ),
+        (
+            "at\n3\nat\n3\nx\n=\n1\ny\n=\n2\nat\n4\nz\n=\n0",
+            RefusalNumber::UnknownName,
+            13,
+        ),
+        (
+            "at\n3\nat\n3\nx\n=\n1\ny\n=\n2\nat\n4\nx\n=\n2",
+            RefusalNumber::NumberTooLarge,
+            15,
+        ),
+    ];
+    for (text, number, line) in &rows {
+        let found = fault_in_moves(rt.alloc(), text)?;
+        assert!(rt; found == Some((*number, *line)));
     }
     Ok(())
 }
@@ -132,17 +275,9 @@ fn the_first_fault_of_moves_is_told(rt: HostRuntime) -> Result<(), Fail> {
         ("x = 1", RefusalNumber::Unexpected, 1),
         ("at 0 x = 1\nat", RefusalNumber::Unfinished, 2),
     ];
-    let alloc = rt.alloc();
-    let layout = words(alloc)?;
-    for (text, number, line) in rows {
-        match moves(alloc, &layout, text.as_bytes()) {
-            Ok(_) => assert!(rt; false, "{text} is read"),
-            Err(refusal) => assert_eq!(rt;
-                told(refusal, SourceFile::Moves)?,
-                (number, line),
-                "at {text}"
-            ),
-        }
+    for (text, number, line) in &rows {
+        let found = fault_in_moves(rt.alloc(), text)?;
+        assert!(rt; found == Some((*number, *line)));
     }
     Ok(())
 }

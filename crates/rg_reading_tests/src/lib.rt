@@ -1,4 +1,4 @@
-//! Rows of the words, the texts, the trees and their parsers, over public calls alone.
+//! What no command reaches of the words, the tokens, the trees and their parsers, over public calls alone.
 #![tactic(auto)]
 
 #[cfg(test)]
@@ -6,11 +6,7 @@ mod derivations;
 #[cfg(test)]
 mod inputs;
 #[cfg(test)]
-mod meaning;
-#[cfg(test)]
 mod programs;
-#[cfg(test)]
-mod shapes;
 #[cfg(test)]
 mod tokens;
 #[cfg(test)]

@@ -1,19 +1,19 @@
-// Worked rows: values, truth, steps inside a formula, printed text, copies and conditions.
+//! Values, truth, steps inside a formula, printed text, copies and formulas by themselves, with the expected answers written by hand.
 
-ghost use Rattle.std.specs.Prelude.{◌≡◌, ◌≤◌, ◌<◌, ◌^◌, [], ◌∷◌, IfOk, length};
+ghost use Rattle.std.specs.Prelude.{◌≡◌, ◌≤◌, ◌<◌, ◌^◌, [], ◌∷◌, IfOk};
 ghost use Rattle.rg_words.specs.Layout.{widths_of};
-ghost use Rattle.rg_tree.specs.View.{expression, formula};
-ghost use Rattle.rg_tree.specs.Trees.{number, word, binary, shifted, compared};
+ghost use Rattle.rg_tree.specs.View.{expression};
+ghost use Rattle.rg_tree.specs.Trees.{number, word, binary};
 
-use rg_tree::condition::{Condition, Second};
+use rg_parse::show::{formula, show};
 use rg_tree::copy::copy_formula;
 use rg_tree::equal::same_formula;
 use rg_tree::meaning::{holds, inside, value};
 use rg_tree::print::print;
 use rg_tree::tree::{Expr, Formula};
 use rg_words::names::is_name;
-use rg_words::operators::{Comparison, Connective, Operator, Shift};
-use rg_words::{Layout, State};
+use rg_words::operators::{Comparison, Operator, Shift};
+use rg_words::{Layout, Place, Refusal, RefusalNumber, SourceFile, State};
 use std::alloc::Global;
 use std::process::Abort;
 use std::test::Fail;
@@ -24,9 +24,8 @@ fn two_words(rt: &impl Abort, alloc: Global, width: u32) -> Result<Layout, Fail>
     requires most { width ≤ 64 }
     ensures { IfOk result (λ l. widths_of l ≡ width ∷ width ∷ []) }
 {
+    assert!(rt; is_name("x") && is_name("y"));
     let mut layout = Layout::new(alloc);
-    assert!(rt; is_name("x"));
-    assert!(rt; is_name("y"));
     layout.add("x", width)?;
     layout.add("y", width)?;
     Ok(layout)
@@ -56,25 +55,35 @@ fn with_number(alloc: Global, operator: Operator, width: u32, n: u64) -> Result<
     Ok(Expr::Binary(operator, width, left, right))
 }
 
-/// Whether the first word is a number.
-fn is_number(n: u64) -> Formula
-    ensures { formula result ≡ compared Comparison.Equal (word 0) (number 2 n) }
-{
-    Formula::Compare(Comparison::Equal, Expr::Word(0), Expr::Number(2, n))
+/// What is left where 1 is taken from 0.
+fn difference(rt: &impl Abort, alloc: Global) -> Result<u64, Fail> {
+    let zero = state(rt, alloc, 8, 0, 0)?;
+    let tree = with_number(alloc, Operator::Subtract, 8, 1)?;
+    Ok(value(&tree, &zero, &zero))
+}
+
+/// What the sum of 1 and the largest number of 64 bits is.
+fn sum(rt: &impl Abort, alloc: Global) -> Result<u64, Fail> {
+    let widest = state(rt, alloc, 64, u64::MAX, 0)?;
+    let tree = with_number(alloc, Operator::Add, 64, 1)?;
+    Ok(value(&tree, &widest, &widest))
+}
+
+/// What eight bits moved by eight are.
+fn moved(rt: &impl Abort, alloc: Global) -> Result<u64, Fail> {
+    let full = state(rt, alloc, 8, 255, 0)?;
+    let tree = Expr::Shifted(Shift::Left, 8, Box::new(alloc, Expr::Word(0))?, 8);
+    Ok(value(&tree, &full, &full))
 }
 
 #[test]
 fn values_are_modulo_the_width(rt: HostRuntime) -> Result<(), Fail> {
-    let alloc = rt.alloc();
-    let zero = state(&rt, alloc, 8, 0, 0)?;
-    let difference = with_number(alloc, Operator::Subtract, 8, 1)?;
-    assert_eq!(rt; value(&difference, &zero, &zero), 255);
-    let full = state(&rt, alloc, 8, 255, 0)?;
-    let moved = Expr::Shifted(Shift::Left, 8, Box::new(alloc, Expr::Word(0))?, 8);
-    assert_eq!(rt; value(&moved, &full, &full), 0);
-    let widest = state(&rt, alloc, 64, u64::MAX, 0)?;
-    let sum = with_number(alloc, Operator::Add, 64, 1)?;
-    assert_eq!(rt; value(&sum, &widest, &widest), 0);
+    let difference = difference(&rt, rt.alloc())?;
+    assert!(rt; difference == 255);
+    let sum = sum(&rt, rt.alloc())?;
+    assert!(rt; sum == 0);
+    let moved = moved(&rt, rt.alloc())?;
+    assert!(rt; moved == 0);
     Ok(())
 }
 
@@ -86,80 +95,118 @@ fn comparisons_are_unsigned(rt: HostRuntime) -> Result<(), Fail> {
     Ok(())
 }
 
+/// Whether a step of the first word, of eight bits, is inside that it rises.
+fn is_inside(rt: &impl Abort, alloc: Global, from: u64, to: u64) -> Result<bool, Fail>
+    requires from { from < 2 ^ 8 }
+    requires to { to < 2 ^ 8 }
+{
+    let first = state(rt, alloc, 8, from, 7)?;
+    let second = state(rt, alloc, 8, to, 7)?;
+    let rises = Formula::Compare(Comparison::Less, Expr::Word(0), Expr::NextWord(0));
+    Ok(inside(&rises, &first, &second))
+}
+
 #[test]
 fn a_step_that_changes_nothing_is_inside(rt: HostRuntime) -> Result<(), Fail> {
-    let alloc = rt.alloc();
-    let one = state(&rt, alloc, 8, 1, 7)?;
-    let two = state(&rt, alloc, 8, 2, 7)?;
-    let rises = Formula::Compare(Comparison::Less, Expr::Word(0), Expr::NextWord(0));
-    assert!(rt; inside(&rises, &one, &two));
-    assert!(rt; !inside(&rises, &two, &one));
-    assert!(rt; inside(&rises, &one, &one));
+    let rises = is_inside(&rt, rt.alloc(), 1, 2)?;
+    let falls = is_inside(&rt, rt.alloc(), 2, 1)?;
+    let stays = is_inside(&rt, rt.alloc(), 1, 1)?;
+    assert!(rt; rises && stays);
+    assert!(rt; !falls);
     Ok(())
 }
 
-#[test]
-fn chains_are_printed_nested(rt: HostRuntime) -> Result<(), Fail> {
-    let alloc = rt.alloc();
-    let layout = two_words(&rt, alloc, 2)?;
-    let not_three = Formula::Not(Box::new(alloc, is_number(3))?);
-    let first = Box::new(alloc, is_number(1))?;
-    let pair = Formula::Connect(Connective::And, first, Box::new(alloc, is_number(2))?);
-    let chain = Formula::Connect(
-        Connective::And,
-        Box::new(alloc, pair)?,
-        Box::new(alloc, not_three)?,
-    );
-    let text = print(alloc, &layout, &chain)?;
-    assert_eq!(rt; text.as_str(), "(((x = 1) and (x = 2)) and not (x = 3))");
-    Ok(())
+/// Whether the formula of a text to show is printed so.
+fn is_printed(alloc: Global, text: &str, expected: &str) -> Result<bool, Refusal> {
+    let (layout, tree) = show(alloc, text.as_bytes())?;
+    let printed = print(alloc, &layout, &tree)?;
+    Ok(printed.as_str() == expected)
 }
 
 #[test]
-fn expressions_are_printed(rt: HostRuntime) -> Result<(), Fail> {
-    let alloc = rt.alloc();
-    let layout = two_words(&rt, alloc, 8)?;
-    let moved = Expr::Shifted(Shift::Right, 8, Box::new(alloc, Expr::Word(1))?, 12);
-    let inverse = Expr::Inverse(8, Box::new(alloc, Expr::NextWord(0))?);
-    let test = Formula::Compare(Comparison::GreaterOrEqual, Expr::Word(0), Expr::Word(1));
-    let choice = Expr::If(
-        Box::new(alloc, test)?,
-        Box::new(alloc, moved)?,
-        Box::new(alloc, inverse)?,
-    );
-    let sum = with_number(alloc, Operator::BitXor, 8, 107)?;
-    let equal = Formula::Compare(Comparison::NotEqual, choice, sum);
-    let f = Formula::Connect(
-        Connective::Implies,
-        Box::new(alloc, equal)?,
-        Box::new(alloc, Formula::Truth(false))?,
-    );
-    let text = print(alloc, &layout, &f)?;
-    assert_eq!(rt;
-        text.as_str(),
-        "(((if (x >= y) then (y shr 12) else inv x') != (x bxor 107)) implies false)"
-    );
+fn formulas_are_printed(rt: HostRuntime) -> Result<(), Fail> {
+    let rows = [
+        (
+            "words x:8 y:8 show (((if(x>=y)then(y shr 012)else inv x')!=(x bxor 107))implies false)",
+            "(((if (x >= y) then (y shr 12) else inv x') != (x bxor 107)) implies false)",
+        ),
+        (
+            "words x:8 y:8 show ((x' - 1) < inv (2 + y))",
+            "((x' - 1) < inv (2 + y))",
+        ),
+        (
+            "words x:8 y:8 z:8 show ((if (x = 1) then y' else 2) = z)",
+            "((if (x = 1) then y' else 2) = z)",
+        ),
+        (
+            "words x:8 fixed y:16 show (3 = (if (y' = 300) then x else 1))",
+            "(3 = (if (y' = 300) then x else 1))",
+        ),
+    ];
+    for (text, expected) in &rows {
+        let found = is_printed(rt.alloc(), text, expected)?;
+        assert!(rt; found);
+    }
     Ok(())
+}
+
+/// The formula of a text to show.
+fn shown(alloc: Global, text: &str) -> Result<Formula, Refusal> {
+    let (_layout, tree) = show(alloc, text.as_bytes())?;
+    Ok(tree)
+}
+
+/// Whether a copy of the one formula is the other.
+fn is_copy(alloc: Global, one: &Formula, other: &Formula) -> Result<bool, Refusal> {
+    let copy = copy_formula(alloc, one)?;
+    Ok(same_formula(&copy, other))
 }
 
 #[test]
 fn copies_are_the_same(rt: HostRuntime) -> Result<(), Fail> {
-    let alloc = rt.alloc();
-    let sum = with_number(alloc, Operator::Add, 2, 1)?;
-    let f = Formula::Compare(Comparison::Less, Expr::NextWord(0), sum);
-    let copy = copy_formula(alloc, &f)?;
-    assert!(rt; same_formula(&f, &copy));
-    assert!(rt; !same_formula(&f, &is_number(1)));
+    let one = shown(rt.alloc(), "words x:2 show (x' < (x + 1))")?;
+    let same = is_copy(rt.alloc(), &one, &one)?;
+    assert!(rt; same);
+    let other = shown(rt.alloc(), "words x:2 show (x = 1)")?;
+    let same = is_copy(rt.alloc(), &one, &other)?;
+    assert!(rt; !same);
     Ok(())
 }
 
+/// What is refused of a formula over declared words; nothing where it is read.
+fn refused_in(alloc: Global, layout: &Layout, text: &str) -> Option<Refusal> {
+    match formula(alloc, layout, text.as_bytes()) {
+        Ok(_) => None,
+        Err(refusal) => Some(refusal),
+    }
+}
+
+/// The same, over the word x of eight bits.
+fn refused(alloc: Global, text: &str) -> Result<Option<Refusal>, Refusal> {
+    let (layout, _tree) = show(alloc, b"words x:8 show true")?;
+    Ok(refused_in(alloc, &layout, text))
+}
+
+/// A fault of the text at a line.
+fn fault(number: RefusalNumber, line: u64) -> Option<Refusal> {
+    Some(Refusal::at(number, SourceFile::Text, Place::Line(line)))
+}
+
 #[test]
-fn a_shown_formula_has_two_states_where_a_prime_stands(rt: HostRuntime) -> Result<(), Fail> {
-    let alloc = rt.alloc();
-    let plain = Condition::show(alloc, two_words(&rt, alloc, 2)?, is_number(3));
-    assert!(rt; matches!(&plain.second, Second::Same));
-    let same = Formula::Compare(Comparison::Equal, Expr::NextWord(1), Expr::NextWord(1));
-    let primed = Condition::show(alloc, two_words(&rt, alloc, 2)?, same);
-    assert!(rt; matches!(&primed.second, Second::Free));
+fn a_formula_is_read_by_itself(rt: HostRuntime) -> Result<(), Fail> {
+    let rows = [
+        ("(x' = 1)", None),
+        ("(x = 1)", None),
+        ("", fault(RefusalNumber::Unfinished, 1)),
+        ("not\n", fault(RefusalNumber::Unfinished, 1)),
+        ("(x\n)", fault(RefusalNumber::Unexpected, 2)),
+        ("true\ntrue", fault(RefusalNumber::Unexpected, 2)),
+        ("(x' =\n256)", fault(RefusalNumber::NumberTooLarge, 2)),
+        ("(x =\nz')", fault(RefusalNumber::UnknownName, 2)),
+    ];
+    for (text, expected) in &rows {
+        let found = refused(rt.alloc(), text)?;
+        assert!(rt; found == *expected);
+    }
     Ok(())
 }

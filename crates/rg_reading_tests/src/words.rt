@@ -8,14 +8,30 @@ use rg_words::{
 use std::alloc::{AllocError, Global};
 use std::test::Fail;
 
+/// Whether all of these are names.
+fn are_names(texts: &[&str]) -> bool {
+    for text in texts {
+        if !is_name(text) {
+            return false;
+        }
+    }
+    true
+}
+
+/// Whether one of these is a name.
+fn has_name(texts: &[&str]) -> bool {
+    for text in texts {
+        if is_name(text) {
+            return true;
+        }
+    }
+    false
+}
+
 #[test]
 fn tells_names(rt: HostRuntime) {
-    for name in ["x", "_", "Lock_2", "iffy", "WORDS", "x0"] {
-        assert!(rt; is_name(name), "{name}");
-    }
-    for text in ["", "2x", "x'", "x y", "x-y", "é", "words", "if", "at"] {
-        assert!(rt; !is_name(text), "{text}");
-    }
+    assert!(rt; are_names(&["x", "_", "Lock_2", "iffy", "WORDS", "x0"]));
+    assert!(rt; !has_name(&["", "2x", "x'", "x y", "x-y", "é", "words", "if", "at"]));
     assert!(rt; as_name(b"x").is_some() && as_name(&[120, 255]).is_none());
     assert!(rt; is_keyword("conseq") && !is_keyword("consequence"));
 }
@@ -32,62 +48,111 @@ fn sample(alloc: Global) -> Result<Layout, Refusal> {
     Ok(layout)
 }
 
+/// Whether a layout's word of this number is so.
+fn has_word(layout: &Layout, number: usize, name: &str, width: u32, is_fixed: bool) -> bool {
+    number < layout.len()
+        && layout.name(number) == name
+        && layout.width(number) == width
+        && layout.is_fixed(number) == is_fixed
+}
+
+/// Whether a layout has the two words of the sample.
+fn is_sample(layout: &Layout) -> bool {
+    layout.len() == 2
+        && has_word(layout, 0, "x", 8, false)
+        && has_word(layout, 1, "limit", 64, true)
+        && layout.find("limit") == Some(1)
+        && layout.find("lim").is_none()
+}
+
+/// Whether a copy is the same, and an empty layout is not the same as the copy.
+fn copies_well(alloc: Global, layout: &Layout) -> Result<bool, AllocError> {
+    let copy = layout.copy()?;
+    Ok(copy.same(layout) && !copy.same(&Layout::new(alloc)))
+}
+
 #[test]
 fn declares_words(rt: HostRuntime) -> Result<(), Fail> {
     let layout = sample(rt.alloc())?;
-    assert_eq!(rt; layout.len(), 2);
-    assert_eq!(rt;
-        (layout.name(0), layout.width(0), layout.is_fixed(0)),
-        ("x", 8, false)
-    );
-    assert_eq!(rt;
-        (layout.name(1), layout.width(1), layout.is_fixed(1)),
-        ("limit", 64, true)
-    );
-    assert_eq!(rt; layout.find("limit"), Some(1));
-    assert_eq!(rt; layout.find("lim"), None);
-    let copy = layout.copy()?;
-    assert!(rt; copy.same(&layout) && !copy.same(&Layout::new(rt.alloc())));
+    assert!(rt; is_sample(&layout));
+    let copied = copies_well(rt.alloc(), &layout)?;
+    assert!(rt; copied);
     Ok(())
+}
+
+/// A layout of 64 words of one bit, from `w0` on.
+fn full(alloc: Global) -> Result<Layout, Refusal> {
+    let mut layout = Layout::new(alloc);
+    for number in 0..64 {
+        let name = format!(in alloc; "w{number}")?;
+        if is_name(&name) {
+            layout.add(&name, 1)?;
+        }
+    }
+    Ok(layout)
+}
+
+/// Whether a layout of 64 words refuses one more so, and is left as it was.
+fn refuses(alloc: Global, name: &str, width: u32, number: RefusalNumber) -> Result<bool, Refusal> {
+    let mut layout = full(alloc)?;
+    if !is_name(name) {
+        return Ok(false);
+    }
+    let added = layout.add(name, width);
+    Ok(added == Err(Refusal::new(number)) && layout.len() == 64)
 }
 
 #[test]
 fn refuses_words(rt: HostRuntime) -> Result<(), Fail> {
-    let mut layout = Layout::new(rt.alloc());
-    for number in 0..64 {
-        let name = format!(in rt.alloc(); "w{number}")?;
-        assert!(rt; is_name(&name));
-        layout.add(&name, 1)?;
-    }
-    assert!(rt; is_name("w0") && is_name("more"));
-    for (name, width, number) in [
+    let rows = [
         ("w0", 65, RefusalNumber::NameTwice),
         ("more", 65, RefusalNumber::Width),
         ("more", 0, RefusalNumber::Width),
         ("more", 1, RefusalNumber::Limit),
-    ] {
-        if is_name(name) {
-            assert_eq!(rt; layout.add(name, width), Err(Refusal::new(number)));
-        }
+    ];
+    for (name, width, number) in &rows {
+        let found = refuses(rt.alloc(), name, *width, *number)?;
+        assert!(rt; found);
     }
-    assert_eq!(rt; layout.len(), 64);
     Ok(())
+}
+
+/// Whether a state of the sample's words has zeros at first, and then what it is given.
+fn keeps(alloc: Global, layout: &Layout) -> Result<bool, AllocError> {
+    if layout.len() != 2 || layout.width(0) != 8 || layout.width(1) != 64 {
+        return Ok(false);
+    }
+    let mut state = State::zero(alloc, layout)?;
+    let zeros = state.get(0) == 0 && state.get(1) == 0;
+    state.set(1, 18_446_744_073_709_551_615);
+    state.set(0, 255);
+    Ok(zeros && state.get(0) == 255 && state.get(1) == 18_446_744_073_709_551_615)
+}
+
+/// Whether a copy of a state is the same, until a word of the state changes.
+fn copies_until_changed(alloc: Global, layout: &Layout) -> Result<bool, AllocError> {
+    if layout.len() != 2 || layout.width(0) != 8 {
+        return Ok(false);
+    }
+    let mut state = State::zero(alloc, layout)?;
+    let copy = state.copy()?;
+    let same = state.same(&copy);
+    state.set(0, 255);
+    Ok(same && !state.same(&copy))
+}
+
+/// Both, of the sample.
+fn keeps_and_copies(alloc: Global) -> Result<bool, Refusal> {
+    let layout = sample(alloc)?;
+    let kept = keeps(alloc, &layout)?;
+    let copied = copies_until_changed(alloc, &layout)?;
+    Ok(kept && copied)
 }
 
 #[test]
 fn keeps_values(rt: HostRuntime) -> Result<(), Fail> {
-    let layout = sample(rt.alloc())?;
-    let mut state = State::zero(rt.alloc(), &layout)?;
-    assert!(rt; layout.len() == 2 && layout.width(0) == 8 && layout.width(1) == 64);
-    assert_eq!(rt; (state.get(0), state.get(1)), (0, 0));
-    let zero = state.copy()?;
-    state.set(1, 18_446_744_073_709_551_615);
-    state.set(0, 255);
-    assert_eq!(rt;
-        (state.get(0), state.get(1)),
-        (255, 18_446_744_073_709_551_615)
-    );
-    assert!(rt; state.same(&state.copy()?) && !state.same(&zero));
+    let found = keeps_and_copies(rt.alloc())?;
+    assert!(rt; found);
     Ok(())
 }
 

@@ -8,8 +8,6 @@ mod laws;
 mod names;
 mod read;
 mod table;
-#[cfg(test)]
-mod tests;
 
 pub use derivation::Derivation;
 pub use laws::{derivations_have_no_fault, rules_are_sound};

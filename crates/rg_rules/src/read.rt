@@ -7,9 +7,6 @@ ghost use Rattle.rg_tree.specs.ProgramTrees.{program as program_tree};
 ghost use Rattle.rg_parse.specs.Parse.{last_line};
 ghost use Rattle.rg_rules.specs.Reading.{FitsProgram, IsDerivationRefusal, OneDerivation};
 
-#[cfg(test)]
-mod tests;
-
 use crate::derivation::Derivation;
 use rg_parse::parse::parse_derivation;
 use rg_parse::resolve::resolve_derivation;

@@ -4,8 +4,6 @@
 mod follow;
 mod states;
 mod step;
-#[cfg(test)]
-mod tests;
 mod trace;
 
 pub use follow::follows;

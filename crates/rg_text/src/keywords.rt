@@ -1,6 +1,6 @@
 //! The keywords, by their text.
 
-ghost use Rattle.std.specs.Prelude.{◌≡◌};
+ghost use Rattle.std.specs.Prelude.{◌≡◌, drop};
 ghost use Rattle.rg_text.specs.Spelling.{formula_keywords, section_keywords, spelled, keyword_of};
 
 use crate::kind::{Conditional, Junction, Keyword, Terminal};
@@ -33,7 +33,16 @@ fn formula_keyword(text: &[u8]) -> Option<Terminal>
         Some(Terminal::Then)
     } else if text == b"else".as_slice() {
         Some(Terminal::Else)
-    } else if text == b"not".as_slice() {
+    } else {
+        formula_keyword_from_5(text)
+    }
+}
+
+/// The keywords of formulas, from the sixth on.
+fn formula_keyword_from_5(text: &[u8]) -> Option<Terminal>
+    ensures { result ≡ spelled (drop 5 formula_keywords) text.now }
+{
+    if text == b"not".as_slice() {
         Some(Terminal::Not)
     } else if text == b"and".as_slice() {
         Some(Terminal::Join(Junction::And))
@@ -43,7 +52,16 @@ fn formula_keyword(text: &[u8]) -> Option<Terminal>
         Some(Terminal::Imply(Conditional::Implies))
     } else if text == b"iff".as_slice() {
         Some(Terminal::Imply(Conditional::Iff))
-    } else if text == b"true".as_slice() {
+    } else {
+        formula_keyword_from_10(text)
+    }
+}
+
+/// The keywords of formulas, from the eleventh on.
+fn formula_keyword_from_10(text: &[u8]) -> Option<Terminal>
+    ensures { result ≡ spelled (drop 10 formula_keywords) text.now }
+{
+    if text == b"true".as_slice() {
         Some(Terminal::Truth(true))
     } else if text == b"false".as_slice() {
         Some(Terminal::Truth(false))
@@ -53,7 +71,16 @@ fn formula_keyword(text: &[u8]) -> Option<Terminal>
         Some(Terminal::Operate(Operator::BitAnd))
     } else if text == b"bor".as_slice() {
         Some(Terminal::Operate(Operator::BitOr))
-    } else if text == b"bxor".as_slice() {
+    } else {
+        formula_keyword_from_15(text)
+    }
+}
+
+/// The keywords of formulas, from the sixteenth on.
+fn formula_keyword_from_15(text: &[u8]) -> Option<Terminal>
+    ensures { result ≡ spelled (drop 15 formula_keywords) text.now }
+{
+    if text == b"bxor".as_slice() {
         Some(Terminal::Operate(Operator::BitXor))
     } else if text == b"shl".as_slice() {
         Some(Terminal::ShiftBy(Shift::Left))
@@ -77,7 +104,16 @@ fn section_keyword(text: &[u8]) -> Option<Keyword>
         Some(Keyword::Guar)
     } else if text == b"post".as_slice() {
         Some(Keyword::Post)
-    } else if text == b"part".as_slice() {
+    } else {
+        section_keyword_from_5(text)
+    }
+}
+
+/// The keywords of sections, from the sixth on.
+fn section_keyword_from_5(text: &[u8]) -> Option<Keyword>
+    ensures { result ≡ spelled (drop 5 section_keywords) text.now }
+{
+    if text == b"part".as_slice() {
         Some(Keyword::Part)
     } else if text == b"begin".as_slice() {
         Some(Keyword::Begin)
@@ -87,7 +123,16 @@ fn section_keyword(text: &[u8]) -> Option<Keyword>
         Some(Keyword::Skip)
     } else if text == b"await".as_slice() {
         Some(Keyword::Await)
-    } else if text == b"do".as_slice() {
+    } else {
+        section_keyword_from_10(text)
+    }
+}
+
+/// The keywords of sections, from the eleventh on.
+fn section_keyword_from_10(text: &[u8]) -> Option<Keyword>
+    ensures { result ≡ spelled (drop 10 section_keywords) text.now }
+{
+    if text == b"do".as_slice() {
         Some(Keyword::Do)
     } else if text == b"while".as_slice() {
         Some(Keyword::While)
@@ -97,7 +142,16 @@ fn section_keyword(text: &[u8]) -> Option<Keyword>
         Some(Keyword::From)
     } else if text == b"basic".as_slice() {
         Some(Keyword::Basic)
-    } else if text == b"atomic".as_slice() {
+    } else {
+        section_keyword_from_15(text)
+    }
+}
+
+/// The keywords of sections, from the sixteenth on.
+fn section_keyword_from_15(text: &[u8]) -> Option<Keyword>
+    ensures { result ≡ spelled (drop 15 section_keywords) text.now }
+{
+    if text == b"atomic".as_slice() {
         Some(Keyword::Atomic)
     } else if text == b"seq".as_slice() {
         Some(Keyword::Seq)

@@ -60,10 +60,7 @@ pub fn keeps(
 {
     typed_trees_fit();
     let _ = layout.len();
-    let mut hypotheses = Vec::new(alloc);
-    hypotheses.push(copy_formula(alloc, predicate)?)?;
-    hypotheses.push(copy_formula(alloc, relation)?)?;
-    let goal = copy_formula(alloc, predicate)?;
+    let (hypotheses, goal) = kept(alloc, predicate, relation)?;
     Ok(Condition {
         layout,
         hypotheses,
@@ -136,4 +133,20 @@ pub fn implies(
         alone: true,
         or_no_change: false,
     })
+}
+
+/// Copies of a predicate and a relation, and the predicate once more.
+fn kept(
+    alloc: Global,
+    predicate: &Formula,
+    relation: &Formula,
+) -> Result<(Vec<Formula>, Formula), AllocError>
+    ensures hypotheses { IfOk result (λ r. map formula r.0.items ≡ formula predicate.now ∷ formula relation.now ∷ []) }
+    ensures goal { IfOk result (λ r. formula r.1 ≡ formula predicate.now) }
+{
+    let goal = copy_formula(alloc, predicate)?;
+    let mut hypotheses = Vec::new(alloc);
+    hypotheses.push(copy_formula(alloc, predicate)?)?;
+    hypotheses.push(copy_formula(alloc, relation)?)?;
+    Ok((hypotheses, goal))
 }

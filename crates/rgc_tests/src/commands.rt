@@ -1,116 +1,131 @@
-//! The commands over programs, with files in memory.
+//! Commands with their files, and what they print.
 
-use rg_find::Unwatched;
-use rg_words::Taker;
-use rgc::{Chosen, Command, Files, Line, perform};
-use std::alloc::Global;
-use std::test::Fail;
+use rgc::{Chosen, Command, Files};
 
-/// What a command answered: its status, its output and its faults.
-#[derive(Drop)]
-pub(crate) struct Answer {
-    pub(crate) status: u8,
-    pub(crate) out: Taker,
-    pub(crate) faults: Taker,
+/// The texts of a command's files.
+#[derive(Clone, Copy)]
+pub(crate) struct Texts {
+    text: &'static str,
+    derivation: &'static str,
+    proofs: &'static str,
 }
 
-/// The answer of a command on files, to writers that take so many bytes a call.
-pub(crate) fn answer_by(
-    alloc: Global,
-    command: Command<'_>,
-    files: &Files<'_>,
-    most: usize,
-) -> Answer {
-    let line = Line { command };
-    let mut out = Taker::new(alloc, most);
-    let mut faults = Taker::new(alloc, most);
-    let status = perform(alloc, &line, files, &mut out, &mut faults, &mut Unwatched);
-    Answer {
-        status,
-        out,
-        faults,
+/// A command over files, and what it prints.
+#[derive(Clone, Copy)]
+pub(crate) struct Printed {
+    pub(crate) command: Command<'static>,
+    pub(crate) texts: Texts,
+    pub(crate) text: &'static str,
+}
+
+impl Texts {
+    pub(crate) fn files(&self) -> Files<'static> {
+        Files {
+            text: Some(self.text.as_bytes()),
+            derivation: Some(self.derivation.as_bytes()),
+            proofs: Some(self.proofs.as_bytes()),
+        }
     }
 }
 
-/// The same, to writers that take seven bytes a call.
-pub(crate) fn answer_of(alloc: Global, command: Command<'_>, files: &Files<'_>) -> Answer {
-    answer_by(alloc, command, files, 7)
-}
+/// A program of two parts that set a word each.
+pub(crate) const TEXT: &str =
+    "words x:1 y:1\npre true\nrely ((x' = x) and (y' = y))\nguar true\npost ((x = 1) and (y = 1))\npart a\npre true rely (x' = x) guar (y' = y) post (x = 1)\nbegin x := 1 end\npart b\npre true rely (y' = y) guar (x' = x) post (y = 1)\nbegin y := 1 end\n";
 
-/// The condition of this number of the derivation.
-fn chosen(condition: u64) -> Option<Chosen<'static>> {
-    Some(Chosen {
+/// A line for each part.
+pub(crate) const DERIVATION: &str =
+    "line 1 basic 1 pre true rely (x' = x) guar (y' = y) post (x = 1)\nline 2 basic 2 pre true rely (y' = y) guar (x' = x) post (y = 1)\n";
+
+/// The sections of the six conditions, of seventeen, that need one.
+pub(crate) const PROOFS: &str =
+    "section 4\n17 0 16 13 14 10 11 8 6 0\nsection 8\n17 0 16 13 14 10 11 8 6 0\nsection 11\n29 0 28 25 26 23 0\nsection 12\n29 0 28 25 26 23 0\nsection 13\n29 0 28 25 26 22 0\nsection 14\n29 0 28 25 26 22 0\n";
+
+const PROGRAM: Texts = Texts {
+    text: TEXT,
+    derivation: DERIVATION,
+    proofs: PROOFS,
+};
+
+const FORMULA: Texts = Texts {
+    text: "words x:1 y:1 show (((x = 1) and (y = 1)) implies (x = 1))",
+    derivation: "",
+    proofs: "8 0 7 5 1 4 0",
+};
+
+const NUMBER: Printed = Printed {
+    command: Command::Number { text: "text" },
+    texts: PROGRAM,
+    text: "1 a 8 assign\n2 b 11 assign\n",
+};
+
+const CHECK: Printed = Printed {
+    command: Command::Check {
+        text: "text",
         derivation: "derivation",
-        condition,
-    })
-}
-
-pub(crate) const NUMBER: Command<'static> = Command::Number { text: "text" };
-
-pub(crate) const CHECK: Command<'static> = Command::Check {
-    text: "text",
-    derivation: "derivation",
-    proofs: "proofs",
+        proofs: "proofs",
+    },
+    texts: PROGRAM,
+    text: "accepted\n",
 };
 
-pub(crate) const CONDITIONS: Command<'static> = Command::Conditions {
-    text: "text",
-    derivation: "derivation",
-};
-
-pub(crate) const PROVE: Command<'static> = Command::Prove {
-    text: "text",
-    derivation: "derivation",
-    steps: 100,
-};
-
-pub(crate) const EMIT: Command<'static> = Command::Emit {
-    text: "text",
-    derivation: "derivation",
-    proofs: "proofs",
-};
-
-/// `clauses` and `find` on the condition of this number.
-pub(crate) fn clauses(number: u64) -> Command<'static> {
-    Command::Clauses {
+const CONDITIONS: Printed = Printed {
+    command: Command::Conditions {
         text: "text",
-        chosen: chosen(number),
-    }
-}
+        derivation: "derivation",
+    },
+    texts: PROGRAM,
+    text: "pre true\n1 line 1 reach\n2 line 1 step\n3 line 1 pre stable\n4 line 1 post stable\n5 line 2 reach\n6 line 2 step\n7 line 2 pre stable\n8 line 2 post stable\n9 all pre a\n10 all pre b\n11 all rely a\n12 all rely b\n13 all guar b rely a\n14 all guar a rely b\n15 all guar a\n16 all guar b\n17 all post\n",
+};
 
-pub(crate) fn find(number: u64) -> Command<'static> {
-    Command::Find {
+const EMIT: Printed = Printed {
+    command: Command::Emit {
         text: "text",
-        steps: 100,
-        chosen: chosen(number),
-    }
-}
+        derivation: "derivation",
+        proofs: "proofs",
+    },
+    texts: PROGRAM,
+    text: "{\"parts\":[{\"blocks\":[[\"do\",8,1,[[0,[\"num 1\"]]]],[\"end\"]],\"name\":\"a\"},{\"blocks\":[[\"do\",11,1,[[1,[\"num 1\"]]]],[\"end\"]],\"name\":\"b\"}],\"words\":[[\"x\",1],[\"y\",1]]}\n",
+};
 
-#[test]
-fn tells_the_first_file_of_a_program_that_is_missing(rt: HostRuntime) -> Result<(), Fail> {
-    let text = Some(b")".as_slice());
-    let rows = [
-        (NUMBER, None, None, "device text\n"),
-        (CHECK, None, None, "device text\n"),
-        (CHECK, text, None, "device derivation\n"),
-        (CHECK, text, text, "device proofs\n"),
-        (CONDITIONS, text, None, "device derivation\n"),
-        (PROVE, text, None, "device derivation\n"),
-        (EMIT, text, None, "device derivation\n"),
-        (EMIT, text, text, "device proofs\n"),
-        (clauses(1), text, None, "device derivation\n"),
-        (clauses(1), None, text, "device text\n"),
-        (find(1), text, None, "device derivation\n"),
-    ];
-    for (command, text, derivation, told) in rows {
-        let files = Files {
-            text,
-            derivation,
-            proofs: None,
-        };
-        let found = answer_of(rt.alloc(), command, &files);
-        assert!(rt; found.status == 3 && found.out.bytes().is_empty());
-        assert!(rt; found.faults.bytes() == told.as_bytes());
-    }
-    Ok(())
+const CONDITION_CLAUSES: Printed = Printed {
+    command: Command::Clauses {
+        text: "text",
+        chosen: Some(Chosen {
+            derivation: "derivation",
+            condition: 4,
+        }),
+    },
+    texts: PROGRAM,
+    text: "p cnf 9 16\n-5 -1 0\n-5 3 0\n5 1 -3 0\n-6 1 0\n-6 -3 0\n6 -1 3 0\n-7 -5 0\n-7 -6 0\n7 5 6 0\n-8 1 0\n-8 7 0\n8 -1 -7 0\n-9 -3 0\n-9 8 0\n9 3 -8 0\n9 0\n",
+};
+
+const VALID: Printed = Printed {
+    command: Command::Valid {
+        text: "text",
+        proofs: "proofs",
+    },
+    texts: FORMULA,
+    text: "holds\n",
+};
+
+const CLAUSES: Printed = Printed {
+    command: Command::Clauses {
+        text: "text",
+        chosen: None,
+    },
+    texts: FORMULA,
+    text: "p cnf 4 7\n-3 1 0\n-3 2 0\n3 -1 -2 0\n-4 -1 0\n-4 3 0\n4 1 -3 0\n4 0\n",
+};
+
+/// A command of each kind whose whole output is known, but for those that search.
+pub(crate) fn rows() -> [Printed; 7] {
+    [
+        NUMBER,
+        CHECK,
+        CONDITIONS,
+        EMIT,
+        CONDITION_CLAUSES,
+        VALID,
+        CLAUSES,
+    ]
 }

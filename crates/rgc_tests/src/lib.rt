@@ -1,4 +1,4 @@
-//! Rows of the library and of its commands, over public calls alone.
+//! What no command shows of the library: writers that fail, refused memory, the stages, typed programs, counts of decisions.
 #![tactic(auto)]
 
 #[cfg(test)]
@@ -6,10 +6,10 @@ mod commands;
 #[cfg(test)]
 mod line;
 #[cfg(test)]
+mod memory;
+#[cfg(test)]
 mod programs;
 #[cfg(test)]
-mod shown;
+mod stages;
 #[cfg(test)]
-mod texts;
-#[cfg(test)]
-mod whole;
+mod writers;

@@ -1,4 +1,4 @@
-//! Whole programs with their derivation and proofs, with the expected answers written by hand.
+//! Typed programs that were read from no text: two parts of one `skip` each, without a word.
 
 ghost use Rattle.rg_tree.specs.Trees.{truth};
 ghost use Rattle.std.specs.Prelude.{◌≡◌, true, false};
@@ -12,7 +12,7 @@ use rg_tree::statement::Stmt;
 use rg_tree::tree::Formula;
 use rg_words::{Fuse, Layout, Place, Refusal, RefusalNumber, SourceFile, Taker};
 use rgc::{
-    Derived, ProofsFound, accept_program, build_program, find_proofs, write_conditions,
+    Derived, Emitted, ProofsFound, accept_program, build_program, find_proofs, write_conditions,
     write_listing,
 };
 use std::alloc::{AllocError, Global};
@@ -58,89 +58,125 @@ fn two_skips(alloc: Global, post: bool) -> Result<Program, AllocError> {
     })
 }
 
-#[test]
-fn an_accepted_program_has_code(rt: HostRuntime) -> Result<(), Fail> {
-    let alloc = rt.alloc();
+/// The code of the two parts.
+fn emitted(alloc: Global) -> Result<Emitted, Refusal> {
     let program = two_skips(alloc, true)?;
-    let emitted = build_program(alloc, program, LINES.as_bytes(), b"")?;
+    build_program(alloc, program, LINES.as_bytes(), b"")
+}
+
+/// Whether the listing of this code is the one that the two parts have.
+fn is_listed(alloc: Global, emitted: &Emitted) -> bool {
     let mut out = Taker::new(alloc, 1);
-    write_listing(alloc, emitted.code(), &mut out)?;
+    let written = write_listing(alloc, emitted.code(), &mut out).is_ok();
     let listing =
         "{\"parts\":[{\"blocks\":[[\"do\",8,1,[]],[\"end\"]],\"name\":\"a\"},{\"blocks\":[[\"do\",11,1,[]],[\"end\"]],\"name\":\"b\"}],\"words\":[]}\n";
-    assert!(rt; out.bytes() == listing.as_bytes());
-    assert_eq!(rt; emitted.program().parts.len(), 2);
+    written && out.bytes() == listing.as_bytes()
+}
+
+/// Whether the two parts have their code.
+fn has_code(alloc: Global) -> bool {
+    match emitted(alloc) {
+        Ok(emitted) => is_listed(alloc, &emitted) && emitted.program().parts.len() == 2,
+        Err(_) => false,
+    }
+}
+
+#[test]
+fn an_accepted_program_has_code(rt: HostRuntime) -> Result<(), Fail> {
+    assert!(rt; has_code(rt.alloc()));
     Ok(())
 }
 
-/// The refusal of a derivation and proofs for two skips, and none where they are accepted; want of memory ends the test.
-fn told(alloc: Global, derivation: &str, proofs: &str) -> Result<Option<Refusal>, Refusal> {
-    let program = two_skips(alloc, true)?;
+/// The fault of a derivation and proofs for the two parts; none where they are accepted.
+fn fault_of(alloc: Global, derivation: &str, proofs: &str) -> Option<Refusal> {
+    let program = two_skips(alloc, true).ok()?;
     match accept_program(alloc, program, derivation.as_bytes(), proofs.as_bytes()) {
-        Ok(_) => Ok(None),
-        Err(refusal) if refusal.number == RefusalNumber::Memory => Err(refusal),
-        Err(refusal) => Ok(Some(refusal)),
+        Ok(_) => None,
+        Err(refusal) => Some(refusal),
     }
+}
+
+/// A fault at a line of a file.
+fn at_line(number: RefusalNumber, file: SourceFile, line: u64) -> Option<Refusal> {
+    Some(Refusal::at(number, file, Place::Line(line)))
 }
 
 #[test]
 fn the_first_fault_of_both_files_is_told(rt: HostRuntime) -> Result<(), Fail> {
     let rows = [
-        (LINES, "", None),
         (LINES, "section 1\nc nothing\nsection 17", None),
         (
             LINES,
             "\nsection 18",
-            Some((RefusalNumber::UnknownCondition, SourceFile::Proofs, 2)),
+            at_line(RefusalNumber::UnknownCondition, SourceFile::Proofs, 2),
         ),
         (
             "",
             "section 18",
-            Some((RefusalNumber::PartNotDerived, SourceFile::Derivation, 1)),
-        ),
-        (
-            "line 1 basic 1 pre true rely true guar true post false",
-            "",
-            Some((RefusalNumber::PartNotDerived, SourceFile::Derivation, 1)),
+            at_line(RefusalNumber::PartNotDerived, SourceFile::Derivation, 1),
         ),
     ];
-    for (derivation, proofs, fault) in rows {
-        let expected = match fault {
-            None => None,
-            Some((number, file, line)) => Some(Refusal::at(number, file, Place::Line(line))),
-        };
-        assert_eq!(rt; told(rt.alloc(), derivation, proofs)?, expected);
+    for (derivation, proofs, fault) in &rows {
+        assert!(rt; fault_of(rt.alloc(), derivation, proofs) == *fault);
     }
     Ok(())
 }
 
+/// The two parts with their derivation, where the program promises a post.
+fn derived(alloc: Global, post: bool) -> Result<Derived, Refusal> {
+    let program = two_skips(alloc, post)?;
+    Derived::read(alloc, program, LINES.as_bytes())
+}
+
+/// Whether a writer of conditions that fails after twenty bytes has these, and is told of.
+fn stops_at_twenty(alloc: Global, derived: &Derived) -> bool {
+    let mut out = Fuse::new(Taker::new(alloc, 1), 20);
+    let told = write_conditions(alloc, derived, &mut out).err();
+    told == Some(Refusal::new(RefusalNumber::Write))
+        && out.inner().bytes() == b"pre true\n1 line 1 re".as_slice()
+}
+
+/// Whether a failing writer of the conditions of the two parts is told of.
+fn is_failure_told(alloc: Global) -> bool {
+    match derived(alloc, true) {
+        Ok(derived) => stops_at_twenty(alloc, &derived),
+        Err(_) => false,
+    }
+}
+
 #[test]
-fn conditions_are_printed(rt: HostRuntime) -> Result<(), Fail> {
-    let alloc = rt.alloc();
-    let derived = Derived::read(alloc, two_skips(alloc, true)?, LINES.as_bytes())?;
-    let mut out = Taker::new(alloc, 1 << 20);
-    write_conditions(alloc, &derived, &mut out)?;
-    let printed =
-        "pre true\n1 line 1 reach\n2 line 1 step\n3 line 1 pre stable\n4 line 1 post stable\n5 line 2 reach\n6 line 2 step\n7 line 2 pre stable\n8 line 2 post stable\n9 all pre a\n10 all pre b\n11 all rely a\n12 all rely b\n13 all guar b rely a\n14 all guar a rely b\n15 all guar a\n16 all guar b\n17 all post\n";
-    assert!(rt; out.bytes() == printed.as_bytes());
-    let mut broken = Fuse::new(Taker::new(alloc, 1), 20);
-    let told = write_conditions(alloc, &derived, &mut broken).err();
-    assert_eq!(rt; told, Some(Refusal::new(RefusalNumber::Write)));
-    assert!(rt; broken.inner().bytes() == &printed.as_bytes()[..20]);
+fn a_failing_writer_of_conditions_is_told(rt: HostRuntime) -> Result<(), Fail> {
+    assert!(rt; is_failure_told(rt.alloc()));
     Ok(())
+}
+
+/// Whether proofs were found with this text, or failures told with it.
+fn is_found(found: &ProofsFound, proofs: bool, text: &str) -> bool {
+    match found {
+        ProofsFound::Proofs(found) => proofs && found.as_str() == text,
+        ProofsFound::Failures(found) => !proofs && found.as_str() == text,
+    }
+}
+
+/// Whether the search for proofs of a derivation ends so.
+fn finds(alloc: Global, derived: &Derived, proofs: bool, text: &str) -> bool {
+    match find_proofs(alloc, derived, 100, &mut Unwatched) {
+        Ok(found) => is_found(&found, proofs, text),
+        Err(_) => false,
+    }
+}
+
+/// Whether the search for proofs of the two parts ends so: with proofs where the program promises what it keeps.
+fn ends_so(alloc: Global, post: bool, text: &str) -> bool {
+    match derived(alloc, post) {
+        Ok(derived) => finds(alloc, &derived, post, text),
+        Err(_) => false,
+    }
 }
 
 #[test]
 fn proofs_are_found_or_failures_told(rt: HostRuntime) -> Result<(), Fail> {
-    let alloc = rt.alloc();
-    let rows = [(true, ""), (false, "condition 17 all post fails\nbefore\n")];
-    for (post, expected) in rows {
-        let derived = Derived::read(alloc, two_skips(alloc, post)?, LINES.as_bytes())?;
-        let found = find_proofs(alloc, &derived, 100, &mut Unwatched)?;
-        let told = match &found {
-            ProofsFound::Proofs(text) => post && text.as_str() == expected,
-            ProofsFound::Failures(text) => !post && text.as_str() == expected,
-        };
-        assert!(rt; told);
-    }
+    assert!(rt; ends_so(rt.alloc(), true, ""));
+    assert!(rt; ends_so(rt.alloc(), false, "condition 17 all post fails\nbefore\n"));
     Ok(())
 }

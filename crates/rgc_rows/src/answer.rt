@@ -1,0 +1,131 @@
+//! What a command answers to its words and its files.
+
+ghost use Rattle.std.specs.Prelude.{◌≡◌};
+
+use clap::error::ErrorKind;
+use rg_find::Unwatched;
+use rg_words::limits::{MOST_PROOF_BYTES, MOST_TEXT_BYTES};
+use rg_words::{Out, Taker, write_all};
+use rgc::{Files, Line, LineFault, perform};
+use std::alloc::{AllocError, Global};
+
+/// What a command answered: its status, its output and its faults.
+#[derive(Drop)]
+pub(crate) struct Answer {
+    pub(crate) status: u8,
+    pub(crate) out: Taker,
+    pub(crate) faults: Taker,
+}
+
+/// The files that a row gives, each by its name in the words.
+#[derive(Clone, Copy)]
+pub(crate) struct Given<'a> {
+    pub(crate) text: Option<&'a [u8]>,
+    pub(crate) derivation: Option<&'a [u8]>,
+    pub(crate) proofs: Option<&'a [u8]>,
+}
+
+impl<'a> Given<'a> {
+    /// The file of this name, if it is given.
+    fn named(&self, name: &str) -> Option<&'a [u8]> {
+        match name {
+            "text" => self.text,
+            "derivation" => self.derivation,
+            "proofs" => self.proofs,
+            _ => None,
+        }
+    }
+
+    /// The file of this name, but no more than one byte past its limit: that one shows that it has too many.
+    fn read(&self, name: Option<&str>, most: usize) -> Option<&'a [u8]> {
+        let bytes = self.named(name?)?;
+        let end = bytes.len().min(most.saturating_add(1));
+        Some(&bytes[..end])
+    }
+}
+
+/// A writer that has taken nothing, and takes all at once.
+fn writer(alloc: Global) -> Taker
+    ensures { ⟦<Taker as Out>⟧.failures result ≡ 0 }
+{
+    Taker::new(alloc, usize::MAX)
+}
+
+impl Answer {
+    /// The answer to a row that can't be read.
+    pub(crate) fn empty(alloc: Global) -> Answer {
+        Answer {
+            status: 0,
+            out: writer(alloc),
+            faults: writer(alloc),
+        }
+    }
+}
+
+/// What the program says of a fault of its words.
+fn usage_text(alloc: Global, fault: &LineFault) -> Result<String, AllocError> {
+    match fault {
+        LineFault::Usage(error) if error.kind() == ErrorKind::OutOfMemory => Err(AllocError),
+        LineFault::Usage(error) => format!(in alloc; "{error}"),
+        LineFault::Fields(fault) => format!(in alloc; "error: {fault}\n"),
+    }
+}
+
+/// Whether the words are at fault, and don't ask for help or the version.
+fn is_fault(fault: &LineFault) -> bool {
+    match fault {
+        LineFault::Usage(error) => error.use_stderr(),
+        LineFault::Fields(_) => true,
+    }
+}
+
+/// The answer to words that name no command.
+fn usage(alloc: Global, fault: &LineFault) -> Result<Answer, AllocError> {
+    let text = usage_text(alloc, fault)?;
+    let mut told = writer(alloc);
+    if write_all(&mut told, text.as_bytes()).is_err() {
+        return Err(AllocError);
+    }
+    if is_fault(fault) {
+        return Ok(Answer {
+            status: 2,
+            out: writer(alloc),
+            faults: told,
+        });
+    }
+    Ok(Answer {
+        status: 0,
+        out: told,
+        faults: writer(alloc),
+    })
+}
+
+/// The answer of a command.
+fn performed(alloc: Global, line: &Line<'_>, given: Given<'_>) -> Answer {
+    let named = line.command.named();
+    let files = Files {
+        text: given.read(Some(named.text), MOST_TEXT_BYTES),
+        derivation: given.read(named.derivation, MOST_TEXT_BYTES),
+        proofs: given.read(named.proofs, MOST_PROOF_BYTES),
+    };
+    let mut out = writer(alloc);
+    let mut faults = writer(alloc);
+    let status = perform(alloc, line, &files, &mut out, &mut faults, &mut Unwatched);
+    Answer {
+        status,
+        out,
+        faults,
+    }
+}
+
+/// The answer to these words, of which the first is the program's name.
+pub(crate) fn answer_to(
+    alloc: Global,
+    words: &[&str],
+    given: Given<'_>,
+) -> Result<Answer, AllocError> {
+    match Line::read(alloc, words) {
+        Ok(line) => Ok(performed(alloc, &line, given)),
+        Err(fault) => usage(alloc, &fault),
+    }
+}

@@ -1,0 +1,66 @@
+//! Refused memory is told. These tests allocate nothing of their own: under `rt try --test --fail-alloc N` what is refused is the call's.
+
+use crate::commands::{DERIVATION, PROOFS, Printed, TEXT, rows};
+use rg_code::checked::Checked;
+use rg_find::Unwatched;
+use rg_words::{Device, RefusalNumber};
+use rgc::{Line, build, perform};
+use std::alloc::Global;
+use std::test::Fail;
+
+/// The whole text was printed, or refused memory was told.
+fn is_printed_or_told(text: &str, status: u8, out: &[u8], faults: &[u8]) -> bool {
+    if status == 0 {
+        return out.starts_with(text.as_bytes()) && faults.starts_with(b"\0");
+    }
+    status == 3 && faults.starts_with(b"refused 99\n\0")
+}
+
+/// A command prints what it has to, or tells refused memory.
+fn prints_or_tells(alloc: Global, row: &Printed) -> bool {
+    let line = Line {
+        command: row.command,
+    };
+    let mut out = [0u8; 600];
+    let mut faults = [0u8; 100];
+    let status = perform(
+        alloc,
+        &line,
+        &row.texts.files(),
+        &mut Device::new(out.as_mut_slice()),
+        &mut Device::new(faults.as_mut_slice()),
+        &mut Unwatched,
+    );
+    is_printed_or_told(row.text, status, out.as_slice(), faults.as_slice())
+}
+
+#[test]
+fn refused_memory_is_told_of_commands(rt: HostRuntime) -> Result<(), Fail> {
+    for row in &rows() {
+        assert!(rt; prints_or_tells(rt.alloc(), row));
+    }
+    Ok(())
+}
+
+/// A program's text comes to code, or its refusal is that of memory, without a file and a place.
+fn builds_or_tells(alloc: Global) -> bool {
+    match build(
+        alloc,
+        TEXT.as_bytes(),
+        DERIVATION.as_bytes(),
+        PROOFS.as_bytes(),
+    ) {
+        Ok(emitted) => emitted.program().parts.len() == 2,
+        Err(refusal) => {
+            refusal.number == RefusalNumber::Memory
+                && refusal.file.is_none()
+                && refusal.place.is_none()
+        }
+    }
+}
+
+#[test]
+fn refused_memory_is_told_of_texts(rt: HostRuntime) -> Result<(), Fail> {
+    assert!(rt; builds_or_tells(rt.alloc()));
+    Ok(())
+}
