@@ -129,15 +129,17 @@ fn keeps(alloc: Global, layout: &Layout) -> Result<bool, AllocError> {
     Ok(zeros && state.get(0) == 255 && state.get(1) == 18_446_744_073_709_551_615)
 }
 
-/// Whether a copy of a state is the same, until a word of the state changes.
+/// Whether a copy of a state with other values than zeros is the same, until a word of the state changes.
 fn copies_until_changed(alloc: Global, layout: &Layout) -> Result<bool, AllocError> {
-    if layout.len() != 2 || layout.width(0) != 8 {
+    if layout.len() != 2 || layout.width(0) != 8 || layout.width(1) != 64 {
         return Ok(false);
     }
     let mut state = State::zero(alloc, layout)?;
+    state.set(1, 18_446_744_073_709_551_615);
+    state.set(0, 255);
     let copy = state.copy()?;
     let same = state.same(&copy);
-    state.set(0, 255);
+    state.set(0, 0);
     Ok(same && !state.same(&copy))
 }
 

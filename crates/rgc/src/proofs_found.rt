@@ -29,7 +29,7 @@ impl Search {
         condition: &Condition,
         number: usize,
         name: &str,
-        judged: Judged,
+        judged: &Judged,
     ) -> Result<(), Refusal> {
         match judged {
             Judged::Holds(lines) if lines.len() == 0 => {}
@@ -42,7 +42,7 @@ impl Search {
             Judged::Fails(first, second) => {
                 let head = format!(in alloc; "condition {number} {name} ")?;
                 self.failures.push_str(&head)?;
-                let states = failure_text(alloc, &condition.layout, &first, &second)?;
+                let states = failure_text(alloc, &condition.layout, first, second)?;
                 self.failures.push_str(&states)?;
             }
             Judged::GaveUp => {
@@ -77,7 +77,7 @@ fn search_all<P: Watcher>(
             steps,
             watcher,
         )?;
-        found.take(alloc, condition, number, name, judged)?;
+        found.take(alloc, condition, number, name, &judged)?;
     }
     Ok(found)
 }
