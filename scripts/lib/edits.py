@@ -150,6 +150,13 @@ class Heard:
             return "refused", refused[0]
         return ("survives", "") if all(answer == "survives" for answer, _ in told) else (None, "")
 
+    def in_cycles(self, edit):
+        """Returns the errors in the proofs of functions that call each other, which lie in one folder for all of them, beside an edited function."""
+        names = [name for it in edit.functions for name in names_of(it, self.crate, self.of)]
+        modules = {it.partition("::")[2].rpartition("::")[0].replace("::", "/") for it in names}
+        folders = tuple(f"./proofs/{it}/+" for it in modules)
+        return [it for it in self.lines if folders and it.startswith(folders) and ": error: " in it]
+
     def alone(self, edit):
         """Returns the answer for an edit that was tried alone, and the line that says so."""
         if self.unread:
@@ -162,5 +169,8 @@ class Heard:
             return answer, why
         if self.is_proved:
             return "survives", ""
+        errors = self.in_cycles(edit)
+        if errors:
+            return "refused", "only as a proof file names what it took away: " * all(NAMES.search(it) for it in errors) + errors[0]
         faults = [why for _, why in map(self.of_function, edit.functions) if why]
         return "bad", f"no goal of the edited function is at fault: {(faults or self.lines[-1:])[0]}"
