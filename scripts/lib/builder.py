@@ -27,7 +27,7 @@ MOST_JOBS = 8
 SILENCE = 60
 # For the crate with the longest chain, the next one and all others: the part of the processors that it gets jobs for, and how far it
 # gives way to those before it. A crate's jobs are often idle, so they may be more than the processors.
-SHARES, NICE = (1, 0.75, 0.25), (0, 3, 10)
+SHARES, NICE = (1, 1, 0.5), (0, 3, 8)
 # The memory that one job of a crate takes, in parts of the toolchain's own measure, which is of a check without kept work; and what
 # each further job takes, in bytes.
 ONE_JOB, FURTHER_JOB = 0.5, 800_000_000

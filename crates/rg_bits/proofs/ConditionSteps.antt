@@ -1,5 +1,5 @@
 -- the lemmas by which the calls of conditions compose
-use Rattle.std.proofs.Common.{◌≡◌, ℕ, zero, suc, ◌+◌, ◌<◌, ◌≤◌, min, Bool, List, [], ◌∷◌, length, get_or, drop, set, refl, sym, ap, ◌∙◌, arith, subst, add-one}
+use Rattle.std.proofs.Common.{◌≡◌, ℕ, zero, suc, ◌+◌, ◌<◌, ◌≤◌, min, Bool, cond, List, [], ◌∷◌, length, get_or, drop, set, refl, sym, ap, ◌∙◌, arith, subst, add-one}
 use Rattle.std.specs.Prelude.{Vec}
 use Rattle.std.specs.Global.{Global}
 use Rattle.std.specs.List.{zip}
@@ -9,12 +9,15 @@ use Rattle.rg_gates.specs.Circuit.{Circuit, variable_count}
 use Rattle.rg_gates.specs.Extends.{IsRowIn}
 use Rattle.rg_tree.specs.Trees.{Proposition, Assignment}
 use Rattle.rg_tree.specs.Fits.{FormulaFits, ExpressionFits}
-use Rattle.rg_tree.specs.Claims.{SecondState, AllFit, AssignmentsFit}
-use Rattle.rg_bits.specs.Build.{fold_of}
-use Rattle.rg_bits.specs.WordRows.{AreRowsIn, rows_of}
-use Rattle.rg_bits.specs.Conditions.{hypothesis_of, assign_of, same_word_of, goal_of, reached_rows}
+use Rattle.rg_tree.specs.ConditionTrees.{ConditionTree, SecondState, AllFit, AssignmentsFit}
+use Rattle.rg_bits.specs.Build.{◌>>=◌, fold_of}
+use Rattle.rg_bits.specs.Inner.Within.{AreRowsIn, rows_of}
+use Rattle.rg_bits.specs.Conditions.{hypothesis_of, assign_of, same_word_of, goal_of, conclusion_of, reached_rows}
 use Rattle.rg_bits.proofs.Means.{grows-means}
-use Rattle.rg_bits.proofs.LiteralsMean.{and-grows, or-grows}
+use Rattle.rg_bits.proofs.LiteralsMean.{and-grows, or-grows, implies-grows}
+use Rattle.rg_bits.specs.Literals.{implies_of}
+use Rattle.rg_bits.specs.Formulas.{literal_of}
+use Rattle.rg_bits.proofs.FormulaSteps.{literal-grows}
 use Rattle.rg_bits.proofs.TreeSteps.{tree_steps, row_at}
 use Rattle.rg_bits.proofs.ConditionsMean.{hypothesis-means, assign-means, same_word-means, hypotheses-means, reached-means, goal-means}
 
@@ -98,5 +101,18 @@ reached-grows k t c = grows-means (reached_rows k t) _ (reached-means k t) c
 
 pub goal-grows : (b : Bool) (g : Lit) (u s : List (List Lit)) (c : Circuit) → variable_count c ≤ variable_count (goal_of b g u s c).1
 goal-grows b g u s c = grows-means (goal_of b g u s) _ (goal-means b g u s) c
+
+-- what is built after the first parts only grows
+pub implied-grows : (b : Bool) (u s : List (List Lit)) (h g : Lit) (c : Circuit) → variable_count c ≤ variable_count ((goal_of b g u s >>= λ q. implies_of h q) c).1
+implied-grows b u s h g c = let q = goal_of b g u s c in omega (arith, goal-grows b g u s c, implies-grows h q.0 q.1)
+
+pub conclusion-grows : (k : ConditionTree) (s u : List (List Lit)) (h : Lit) (c : Circuit) → variable_count c ≤ variable_count (conclusion_of k s u h c).1
+unfolding conclusion_of
+conclusion-grows k s u h c =
+    let g = literal_of k.goal (cond k.alone u s) u c in
+    omega (arith, literal-grows k.goal (cond k.alone u s) u c, implied-grows k.or_no_change u s h g.0 g.1)
+
+pub concluded-grows : (k : ConditionTree) (s t : List (List Lit)) (h : Lit) (c : Circuit) → variable_count c ≤ variable_count ((reached_rows k.second t >>= λ u. conclusion_of k s u h) c).1
+concluded-grows k s t h c = let u = reached_rows k.second t c in omega (arith, reached-grows k.second t c, conclusion-grows k s u.0 h u.1)
 
 pub ruleset condition_steps = (tree_steps, and-grows, or-grows, hypothesis-grows, assign-grows, same_word-grows, hypotheses-grows, reached-grows, goal-grows)

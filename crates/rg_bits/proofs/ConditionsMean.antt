@@ -12,14 +12,14 @@ use Rattle.rg_gates.specs.And.{and_of}
 use Rattle.rg_words.specs.declared.operators.Comparison.TheVariants.{Equal}
 use Rattle.rg_tree.specs.Trees.{Proposition, Assignment}
 use Rattle.rg_tree.specs.Meaning.{value_of, holds}
-use Rattle.rg_tree.specs.Claims.{Claim, SecondState, same, free, after, assigned, before, reached, all_hold, are_same, condition_holds, AllTyped, AssignmentsTyped, SecondTyped, ClaimTyped}
+use Rattle.rg_tree.specs.ConditionTrees.{ConditionTree, SecondState, same, free, after, assigned, before, reached, all_hold, are_same, condition_holds, AllTyped, AssignmentsTyped, SecondTyped, ConditionTyped}
 use Rattle.rg_words.specs.Layout.{widths_of}
 use Rattle.rg_bits.specs.Build.{fold_of}
 use Rattle.rg_bits.specs.Rows.{row_value}
-use Rattle.rg_bits.specs.Literals.{or_of}
+use Rattle.rg_bits.specs.Literals.{or_of, implies_of}
 use Rattle.rg_bits.specs.Formulas.{row_of, literal_of, compared_of}
 use Rattle.rg_bits.proofs.StandFor.{StandFor}
-use Rattle.rg_bits.specs.Conditions.{hypothesis_of, assign_of, reached_rows, same_word_of, goal_of, implication_of}
+use Rattle.rg_bits.specs.Conditions.{hypothesis_of, assign_of, reached_rows, same_word_of, goal_of, conclusion_of, implication_of}
 use Rattle.rg_bits.proofs.Means.{Means, give-means, then-means, weaker-means}
 use Rattle.rg_bits.proofs.LiteralsMean.{negation_value, and-means, or-means}
 use Rattle.rg_bits.proofs.FormulasMean.{row-means, literal-means, compared-means}
@@ -134,8 +134,8 @@ cond_stand v widths true u s y x one two = one
 cond_stand v widths false u s y x one two = two
 
 -- wherever the rows stand for the states, the literal is true exactly where the condition holds
-pub implication-means : (c : Claim) (s t : List (List Lit)) → Means (implication_of c s t) (λ v l. (x y : List ℕ) → StandFor v (widths_of c.words) s x → StandFor v (widths_of c.words) t (before c.second x y) → ClaimTyped c → lit_value v l ≡ condition_holds c x y)
-unfolding implication_of
+pub implication-means : (c : ConditionTree) (s t : List (List Lit)) → Means (implication_of c s t) (λ v l. (x y : List ℕ) → StandFor v (widths_of c.words) s x → StandFor v (widths_of c.words) t (before c.second x y) → ConditionTyped c → lit_value v l ≡ condition_holds c x y)
+unfolding implication_of conclusion_of implies_of
 implication-means c s t =
     then-means (fold_of (hypothesis_of s t) c.hypotheses True) _ _ _ (hypotheses-means s t c.hypotheses True) (λ h.
     then-means (reached_rows c.second t) _ _ _ (reached-means c.second t) (λ u.

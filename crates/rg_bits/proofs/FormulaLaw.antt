@@ -7,9 +7,9 @@ use Rattle.rg_gates.specs.declared.Lit.{Lit}
 use Rattle.rg_gates.specs.Circuit.{Circuit, variable_count, lit_value}
 use Rattle.rg_gates.specs.Extends.{GatesHold}
 use Rattle.rg_words.specs.Layout.{Word, widths_of}
-use Rattle.rg_tree.specs.Claims.{Claim, SecondState, same, free, after, before, ClaimTyped, condition_holds}
+use Rattle.rg_tree.specs.ConditionTrees.{ConditionTree, SecondState, same, free, after, before, ConditionTyped, condition_holds}
 use Rattle.rg_bits.specs.Rows.{row_value}
-use Rattle.rg_bits.specs.WordRows.{AreRowsIn, rows_of}
+use Rattle.rg_bits.specs.Inner.Within.{AreRowsIn, rows_of}
 use Rattle.rg_bits.proofs.StandFor.{StandFor}
 use Rattle.rg_bits.specs.Inputs.{first_rows, total_width, free_width, before_rows, first_of, second_of}
 use Rattle.rg_bits.specs.Conditions.{condition_of}
@@ -33,7 +33,7 @@ stand v words rows e =
       value = λ k less. sym (get_or-map (row_value v) rows k [] 0 (omega (arith, sizes, count)));
     }
 
-pub first_stands : (c : Claim) (v : List Bool) → StandFor v (widths_of c.words) (first_rows 0 c.words) (first_of c v)
+pub first_stands : (c : ConditionTree) (v : List Bool) → StandFor v (widths_of c.words) (first_rows 0 c.words) (first_of c v)
 first_stands c v = stand v c.words (first_rows 0 c.words) (first_lengths 0 c.words)
 
 before_stands : (second : SecondState) (words : List Word) (v : List Bool) → StandFor v (widths_of words) (before_rows second words) (before second (map (row_value v) (first_rows 0 words)) (map (row_value v) (before_rows second words)))
@@ -42,7 +42,7 @@ before_stands (after as_) words v = stand v words (first_rows 0 words) (first_le
 before_stands free words v = stand v words (before_rows free words) (before_lengths free words)
 
 -- for all values of the circuit the literal says whether the condition holds of the states with these bits
-pub condition_law : (c : Claim) (g new : Circuit) (l : Lit) → ClaimTyped c → condition_of c g ≡ (l, new) → (values : List Bool) → GatesHold new values → lit_value values l ≡ condition_holds c (first_of c values) (second_of c values)
+pub condition_law : (c : ConditionTree) (g new : Circuit) (l : Lit) → ConditionTyped c → condition_of c g ≡ (l, new) → (values : List Bool) → GatesHold new values → lit_value values l ≡ condition_holds c (first_of c values) (second_of c values)
 condition_law c g new l typed e values hold =
     let means = implication-means c (first_rows 0 c.words) (before_rows c.second c.words) in
     let P : Lit × Circuit → Type 0 = λ r. GatesHold r.1 values in

@@ -5,7 +5,7 @@ use Rattle.rg_gates.specs.declared.Lit.{Lit}
 use Rattle.rg_gates.specs.Circuit.{Circuit, lit_value}
 use Rattle.rg_gates.specs.Extends.{GatesHold}
 use Rattle.rg_words.specs.Layout.{Word}
-use Rattle.rg_tree.specs.Claims.{Claim, SecondState, same, free, after, before, reached, all_hold, goal_holds, condition_holds, ClaimTyped}
+use Rattle.rg_tree.specs.ConditionTrees.{ConditionTree, SecondState, same, free, after, before, reached, all_hold, goal_holds, condition_holds, ConditionTyped}
 use Rattle.rg_bits.specs.Rows.{row_value}
 use Rattle.rg_bits.specs.Inputs.{variables, first_rows, free_rows, total_width, before_rows, second_of, number_bits, state_bits, free_bits, second_bits, input_bits}
 use Rattle.rg_bits.specs.Conditions.{condition_of}
@@ -78,7 +78,7 @@ before_at free words values s t post one two agree e =
     (at, at)
 
 -- for every pair of states that agree on the fixed words: under their bits the literal says whether the condition holds
-pub pairs_law : (c : Claim) (g new : Circuit) (l : Lit) → ClaimTyped c → condition_of c g ≡ (l, new) → (s t : List ℕ) → IsState c.words s → IsState c.words t → AgreeOnFixed c.words s t → (values post : List Bool) → GatesHold new values → values ≡ input_bits c s t ++ post → lit_value values l ≡ condition_holds c s t
+pub pairs_law : (c : ConditionTree) (g new : Circuit) (l : Lit) → ConditionTyped c → condition_of c g ≡ (l, new) → (s t : List ℕ) → IsState c.words s → IsState c.words t → AgreeOnFixed c.words s t → (values post : List Bool) → GatesHold new values → values ≡ input_bits c s t ++ post → lit_value values l ≡ condition_holds c s t
 pairs_law c g new l typed e s t one two agree values post hold bits =
     let second = second_bits c.second c.words t in
     let first = (first_at values 0 c.words s (second ++ post) one (bits ∙ append_assoc (state_bits c.words s) second post)).0 in

@@ -13,9 +13,9 @@ use Rattle.rg_gates.specs.declared.Lit.TheVariants.{True}
 use Rattle.rg_gates.specs.Circuit.{lit_value}
 use Rattle.rg_words.specs.Layout.{Word, widths_of, IsWidth, IsLayout}
 use Rattle.rg_words.specs.States.{AreValues, IsState, SameIf, AgreeOnFixed, IsPair}
-use Rattle.rg_tree.specs.Claims.{Claim, SecondState, same, free, after}
+use Rattle.rg_tree.specs.ConditionTrees.{ConditionTree, SecondState, same, free, after}
 use Rattle.rg_bits.specs.Rows.{row_value}
-use Rattle.rg_bits.specs.WordRows.{rows_of}
+use Rattle.rg_bits.specs.Inner.Within.{rows_of}
 use Rattle.rg_bits.specs.Inputs.{variables, first_rows, free_rows, total_width, free_width, before_rows, second_width, inputs_of, first_of, second_of, number_bits, state_bits, free_bits, second_bits, input_bits}
 use Rattle.rg_bits.proofs.RowsMean.{number_of}
 use Rattle.rg_bits.proofs.Numbers.{row_value-lt}
@@ -112,7 +112,7 @@ agree_before (after as_) v words = agree_self words (map (row_value v) (first_ro
 agree_before free v words = agree v (total_width words) words (first_rows 0 words)
 
 -- the states that values stand for are states, and agree on the fixed words
-pub pair_law : (c : Claim) (v : List Bool) → IsPair c.words (first_of c v) (second_of c v)
+pub pair_law : (c : ConditionTree) (v : List Bool) → IsPair c.words (first_of c v) (second_of c v)
 pair_law c v = record {
   first = rows_are_state v c.words (first_rows 0 c.words) (first_lengths 0 c.words);
   second = rows_are_state v c.words (before_rows c.second c.words) (before_lengths c.second c.words);
@@ -170,7 +170,7 @@ second_bits_are (after as_) v words h = refl
 second_bits_are free v words h = free_bits_are v (total_width words) words (first_rows 0 words) (length-first_rows 0 words) h
 
 -- values are the bits of the states that they stand for
-pub bits_law : (c : Claim) (v : List Bool) → inputs_of c ≤ length v → input_bits c (first_of c v) (second_of c v) ≡ take (inputs_of c) v
+pub bits_law : (c : ConditionTree) (v : List Bool) → inputs_of c ≤ length v → input_bits c (first_of c v) (second_of c v) ≡ take (inputs_of c) v
 bits_law c v h =
     let a = total_width c.words in
     let b = second_width c.second c.words in
@@ -203,5 +203,5 @@ length-second_bits same words t is = refl
 length-second_bits (after as_) words t is = refl
 length-second_bits free words t is = length-free_bits words t is
 
-pub length-input_bits : (c : Claim) (s t : List ℕ) → IsState c.words s → IsState c.words t → length (input_bits c s t) ≡ inputs_of c
+pub length-input_bits : (c : ConditionTree) (s t : List ℕ) → IsState c.words s → IsState c.words t → length (input_bits c s t) ≡ inputs_of c
 length-input_bits c s t one two = omega (arith, length-append (state_bits c.words s) (second_bits c.second c.words t), length-state_bits c.words s one, length-second_bits c.second c.words t two)

@@ -3,13 +3,12 @@ use Rattle.std.specs.Prelude.{Bool, true, false, cond, List, slice_set}
 use Rattle.std.specs.List.{zip}
 use Rattle.rg_gates.specs.declared.Lit.{Lit}
 use Rattle.rg_gates.specs.declared.Lit.TheVariants.{True}
-use Rattle.rg_gates.specs.Circuit.{negation}
 use Rattle.rg_gates.specs.And.{and_of}
 use Rattle.rg_words.specs.declared.operators.Comparison.TheVariants.{Equal}
 use Rattle.rg_tree.specs.Trees.{Proposition, Assignment}
-use Rattle.rg_tree.specs.Claims.{Claim, SecondState, same, free, after}
+use Rattle.rg_tree.specs.ConditionTrees.{ConditionTree, SecondState, same, free, after}
 use Rattle.rg_bits.specs.Build.{Build, ◌>>=◌, give, fold_of}
-use Rattle.rg_bits.specs.Literals.{or_of}
+use Rattle.rg_bits.specs.Literals.{or_of, implies_of}
 use Rattle.rg_bits.specs.Formulas.{row_of, literal_of, compared_of}
 use Rattle.rg_bits.specs.Inputs.{first_rows, before_rows}
 
@@ -42,16 +41,20 @@ goal_of true g u s = do
   unchanged ← fold_of same_word_of (zip u s) True
   or_of g unchanged
 
+-- the goal wherever a literal holds, over rows before and after
+unfoldable pub conclusion_of : ConditionTree → List (List Lit) → List (List Lit) → Lit → Build Lit
+conclusion_of c s u h = do
+  g ← literal_of c.goal (cond c.alone u s) u
+  q ← goal_of c.or_no_change g u s
+  implies_of h q
+
 -- the goal wherever the hypotheses hold, over rows for the two states
-unfoldable pub implication_of : Claim → List (List Lit) → List (List Lit) → Build Lit
+unfoldable pub implication_of : ConditionTree → List (List Lit) → List (List Lit) → Build Lit
 implication_of c s t = do
   h ← fold_of (hypothesis_of s t) c.hypotheses True
   u ← reached_rows c.second t
-  g ← literal_of c.goal (cond c.alone u s) u
-  q ← goal_of c.or_no_change g u s
-  a ← and_of h (negation q)
-  give (negation a)
+  conclusion_of c s u h
 
 -- over the input bits
-abbrev pub condition_of : Claim → Build Lit
+abbrev pub condition_of : ConditionTree → Build Lit
 condition_of c = implication_of c (first_rows 0 c.words) (before_rows c.second c.words)

@@ -4,7 +4,7 @@ use Rattle.rg_gates.specs.declared.Lit.{Lit}
 use Rattle.rg_gates.specs.declared.Lit.TheVariants.{Variable}
 use Rattle.rg_words.specs.Layout.{Word, widths_of}
 use Rattle.rg_words.specs.States.{Valuation}
-use Rattle.rg_tree.specs.Claims.{Claim, SecondState, free}
+use Rattle.rg_tree.specs.ConditionTrees.{ConditionTree, SecondState, free}
 use Rattle.rg_bits.specs.Rows.{row_value}
 
 -- the variables after the n-th, so many
@@ -33,7 +33,7 @@ second_width free words = free_width words
 second_width _ words = 0
 
 -- the count of input bits
-abbrev pub inputs_of : Claim → ℕ
+abbrev pub inputs_of : ConditionTree → ℕ
 inputs_of c = total_width c.words + second_width c.second c.words
 
 abbrev pub before_rows : SecondState → List Word → List (List Lit)
@@ -41,10 +41,10 @@ before_rows free words = free_rows (total_width words) words (first_rows 0 words
 before_rows _ words = first_rows 0 words
 
 -- the states that have these input bits
-abbrev pub first_of : Claim → List Bool → List ℕ
+abbrev pub first_of : ConditionTree → List Bool → List ℕ
 first_of c values = map (row_value values) (first_rows 0 c.words)
 
-abbrev pub second_of : Claim → List Bool → List ℕ
+abbrev pub second_of : ConditionTree → List Bool → List ℕ
 second_of c values = map (row_value values) (before_rows c.second c.words)
 
 -- values of the words as a state, and the second state of a condition that has one of its own
@@ -73,5 +73,5 @@ abbrev pub second_bits : SecondState → List Word → List ℕ → List Bool
 second_bits free words t = free_bits words t
 second_bits _ words t = []
 
-abbrev pub input_bits : Claim → List ℕ → List ℕ → List Bool
+abbrev pub input_bits : ConditionTree → List ℕ → List ℕ → List Bool
 input_bits c s t = state_bits c.words s ++ second_bits c.second c.words t

@@ -1,28 +1,27 @@
 //! Gates for conditions.
 
-ghost use Rattle.std.specs.Prelude.{◌≡◌, ◌<◌, ◌≤◌, ◌+◌, IfOk, OnOk, length, map, cond, List, Bool, ℕ, ◌++◌};
-ghost use Rattle.rg_gates.specs.declared.GateError.TheVariants.{TooManyVariables};
+ghost use Rattle.std.specs.Prelude.{◌≡◌, ◌<◌, IfOk, length, map, cond, List, Bool, ℕ, ◌++◌};
 ghost use Rattle.rg_gates.specs.declared.Lit.TheVariants.{True};
-ghost use Rattle.rg_words.specs.declared.limits.TheConstants.{MOST_VARIABLES};
-ghost use Rattle.rg_gates.specs.Circuit.{variable_count, lit_value};
-ghost use Rattle.rg_gates.specs.Extends.{Extends, IsIn, IsRowIn, GatesHold};
+ghost use Rattle.rg_gates.specs.Circuit.{lit_value};
+ghost use Rattle.rg_gates.specs.Extends.{IsIn, IsRowIn, GatesHold};
 ghost use Rattle.std.specs.List.{zip};
 ghost use Rattle.rg_tree.specs.Fits.{FormulaFits, ExpressionFits};
 ghost use Rattle.rg_tree.specs.View.{expression, formula};
-ghost use Rattle.rg_tree.specs.Conditions.{assignment, second_state, claim, AllFit, AssignmentsFit, SecondFits, ClaimFits, ClaimTyped, condition_holds};
-ghost use Rattle.rg_bits.specs.WordRows.{AreRowsIn, rows_of};
-ghost use Rattle.rg_bits.specs.Build.{fold_of};
+ghost use Rattle.rg_tree.specs.Conditions.{assignment, second_state, condition_tree, AllFit, AssignmentsFit, SecondFits, ConditionFits, ConditionTyped, condition_holds};
+ghost use Rattle.rg_bits.specs.Inner.Within.{AreRowsIn, rows_of};
+ghost use Rattle.rg_bits.specs.Build.{Builds, fold_of};
+ghost use Rattle.rg_bits.specs.Formulas.{row_of};
 ghost use Rattle.rg_bits.specs.Inputs.{first_rows, before_rows, inputs_of, first_of, second_of, input_bits};
-ghost use Rattle.rg_bits.specs.Conditions.{hypothesis_of, assign_of, same_word_of, reached_rows, goal_of, implication_of, condition_of};
+ghost use Rattle.rg_bits.specs.Conditions.{hypothesis_of, assign_of, same_word_of, reached_rows, goal_of, conclusion_of, implication_of, condition_of};
 ghost use Rattle.rg_words.specs.States.{IsState, AgreeOnFixed};
 
 use crate::expression::{build_literal, build_row};
 use crate::input_rows::{first_state, free_state};
-use crate::literals::or;
+use crate::literals::{and, implies, or};
 use crate::operations::compare;
 use rg_gates::{GateError, Gates, Lit, Table};
 use rg_tree::condition::{Assign, Condition, Second};
-use rg_tree::tree::Formula;
+use rg_tree::tree::{Expr, Formula};
 use rg_words::Layout;
 use rg_words::operators::Comparison;
 use std::alloc::{AllocError, Global};
@@ -42,13 +41,10 @@ fn add_hypothesis<T: Table>(
     requires first { AreRowsIn gates.old (rows_of first.now) }
     requires second { AreRowsIn gates.old (rows_of second.now) }
     requires held { IsIn gates.old held }
-    ensures built { IfOk result (λ l. hypothesis_of (rows_of first.now) (rows_of second.now) (formula f.now) held gates.old ≡ (l, gates.new)) }
-    ensures literal { IfOk result (λ l. IsIn gates.new l) }
-    ensures extends { Extends gates.old gates.new }
-    ensures full { result ≡ Err TooManyVariables → MOST_VARIABLES < variable_count (hypothesis_of (rows_of first.now) (rows_of second.now) (formula f.now) held gates.old).1 }
+    ensures { Builds (hypothesis_of (rows_of first.now) (rows_of second.now) (formula f.now) held) (λ l. l) IsIn gates.old gates.new result }
 {
     let literal = build_literal(alloc, gates, f, first, second)?;
-    gates.and(held, literal)
+    and(gates, held, literal)
 }
 
 /// Whether all hypotheses hold.
@@ -64,10 +60,7 @@ fn hypotheses<T: Table>(
     requires same { length second.now ≡ length first.now }
     requires first { AreRowsIn gates.old (rows_of first.now) }
     requires second { AreRowsIn gates.old (rows_of second.now) }
-    ensures built { IfOk result (λ l. fold_of (hypothesis_of (rows_of first.now) (rows_of second.now)) (map formula fs.now) True gates.old ≡ (l, gates.new)) }
-    ensures literal { IfOk result (λ l. IsIn gates.new l) }
-    ensures extends { Extends gates.old gates.new }
-    ensures full { result ≡ Err TooManyVariables → MOST_VARIABLES < variable_count (fold_of (hypothesis_of (rows_of first.now) (rows_of second.now)) (map formula fs.now) True gates.old).1 }
+    ensures { Builds (fold_of (hypothesis_of (rows_of first.now) (rows_of second.now)) (map formula fs.now) True) (λ l. l) IsIn gates.old gates.new result }
 {
     let mut held = Lit::True;
     for f in fs {
@@ -87,13 +80,10 @@ fn add_same_word<T: Table>(
     requires first { IsRowIn gates.old after.now }
     requires second { IsRowIn gates.old before.now }
     requires so_far { IsIn gates.old so_far }
-    ensures built { IfOk result (λ l. same_word_of (after.now, before.now) so_far gates.old ≡ (l, gates.new)) }
-    ensures literal { IfOk result (λ l. IsIn gates.new l) }
-    ensures extends { Extends gates.old gates.new }
-    ensures full { result ≡ Err TooManyVariables → MOST_VARIABLES < variable_count (same_word_of (after.now, before.now) so_far gates.old).1 }
+    ensures { Builds (same_word_of (after.now, before.now) so_far) (λ l. l) IsIn gates.old gates.new result }
 {
     let equal = compare(gates, Comparison::Equal, after, before)?;
-    gates.and(so_far, equal)
+    and(gates, so_far, equal)
 }
 
 /// Whether each word is after as before.
@@ -105,10 +95,7 @@ fn unchanged<T: Table>(
 ) -> Result<Lit, GateError>
     requires first { AreRowsIn gates.old (rows_of after.now) }
     requires second { AreRowsIn gates.old (rows_of before.now) }
-    ensures built { IfOk result (λ l. fold_of same_word_of (zip (rows_of after.now) (rows_of before.now)) True gates.old ≡ (l, gates.new)) }
-    ensures literal { IfOk result (λ l. IsIn gates.new l) }
-    ensures extends { Extends gates.old gates.new }
-    ensures full { result ≡ Err TooManyVariables → MOST_VARIABLES < variable_count (fold_of same_word_of (zip (rows_of after.now) (rows_of before.now)) True gates.old).1 }
+    ensures { Builds (fold_of same_word_of (zip (rows_of after.now) (rows_of before.now)) True) (λ l. l) IsIn gates.old gates.new result }
 {
     let size = after.len().min(before.len());
     let mut same = Lit::True;
@@ -116,6 +103,22 @@ fn unchanged<T: Table>(
         same = add_same_word(gates, &after[i], &before[i], same)?;
     }
     Ok(same)
+}
+
+/// The row that an assignment gives its word.
+#[tactic(auto, using(crate::proofs::ConditionSteps::condition_steps))]
+fn assigned_row<T: Table>(
+    alloc: Global,
+    gates: &mut Gates<T>,
+    value: &Expr,
+    rows: &[Vec<Lit>],
+) -> Result<Vec<Lit>, GateError>
+    requires words { ExpressionFits (expression value.now) (length rows.now) }
+    requires rows { AreRowsIn gates.old (rows_of rows.now) }
+    ensures { Builds (row_of (expression value.now) (rows_of rows.now) (rows_of rows.now)) (λ r. r.items) IsRowIn gates.old gates.new result }
+{
+    let row = build_row(alloc, gates, value, rows, rows)?;
+    Ok(row.into_owned(alloc)?)
 }
 
 /// The rows after an assignment.
@@ -129,13 +132,10 @@ fn add_assignment<T: Table>(
     requires target { assign.now.word < length rows.items }
     requires words { ExpressionFits (expression assign.now.value) (length rows.items) }
     requires rows { AreRowsIn gates.old (rows_of rows.items) }
-    ensures built { IfOk result (λ out. assign_of (assignment assign.now) (rows_of rows.items) gates.old ≡ (rows_of out.items, gates.new)) }
+    ensures builds { Builds (assign_of (assignment assign.now) (rows_of rows.items)) (λ out. rows_of out.items) AreRowsIn gates.old gates.new result }
     ensures size { IfOk result (λ out. length out.items ≡ length rows.items) }
-    ensures rows { IfOk result (λ out. AreRowsIn gates.new (rows_of out.items)) }
-    ensures extends { Extends gates.old gates.new }
-    ensures full { result ≡ Err TooManyVariables → MOST_VARIABLES < variable_count (assign_of (assignment assign.now) (rows_of rows.items) gates.old).1 }
 {
-    let row = build_row(alloc, gates, &assign.value, &rows, &rows)?.into_owned(alloc)?;
+    let row = assigned_row(alloc, gates, &assign.value, &rows)?;
     rows[assign.word] = row;
     Ok(rows)
 }
@@ -150,11 +150,8 @@ fn assigned<T: Table>(
 ) -> Result<Vec<Vec<Lit>>, GateError>
     requires words { AssignmentsFit (map assignment assigns.now) (length first.items) }
     requires rows { AreRowsIn gates.old (rows_of first.items) }
-    ensures built { IfOk result (λ out. fold_of assign_of (map assignment assigns.now) (rows_of first.items) gates.old ≡ (rows_of out.items, gates.new)) }
+    ensures builds { Builds (fold_of assign_of (map assignment assigns.now) (rows_of first.items)) (λ out. rows_of out.items) AreRowsIn gates.old gates.new result }
     ensures size { IfOk result (λ out. length out.items ≡ length first.items) }
-    ensures rows { IfOk result (λ out. AreRowsIn gates.new (rows_of out.items)) }
-    ensures extends { Extends gates.old gates.new }
-    ensures full { result ≡ Err TooManyVariables → MOST_VARIABLES < variable_count (fold_of assign_of (map assignment assigns.now) (rows_of first.items) gates.old).1 }
 {
     let mut rows = first;
     for assign in assigns {
@@ -173,11 +170,8 @@ fn reached<T: Table>(
 ) -> Result<Vec<Vec<Lit>>, GateError>
     requires words { SecondFits (second_state second.now) (length rows.items) }
     requires rows { AreRowsIn gates.old (rows_of rows.items) }
-    ensures built { IfOk result (λ out. reached_rows (second_state second.now) (rows_of rows.items) gates.old ≡ (rows_of out.items, gates.new)) }
+    ensures builds { Builds (reached_rows (second_state second.now) (rows_of rows.items)) (λ out. rows_of out.items) AreRowsIn gates.old gates.new result }
     ensures size { IfOk result (λ out. length out.items ≡ length rows.items) }
-    ensures rows { IfOk result (λ out. AreRowsIn gates.new (rows_of out.items)) }
-    ensures extends { Extends gates.old gates.new }
-    ensures full { result ≡ Err TooManyVariables → MOST_VARIABLES < variable_count (reached_rows (second_state second.now) (rows_of rows.items) gates.old).1 }
 {
     match second {
         Second::Same | Second::Free => Ok(rows),
@@ -197,10 +191,7 @@ fn goal_or_same<T: Table>(
     requires goal { IsIn gates.old goal }
     requires first { AreRowsIn gates.old (rows_of after.now) }
     requires second { AreRowsIn gates.old (rows_of before.now) }
-    ensures built { IfOk result (λ l. goal_of or_no_change goal (rows_of after.now) (rows_of before.now) gates.old ≡ (l, gates.new)) }
-    ensures literal { IfOk result (λ l. IsIn gates.new l) }
-    ensures extends { Extends gates.old gates.new }
-    ensures full { result ≡ Err TooManyVariables → MOST_VARIABLES < variable_count (goal_of or_no_change goal (rows_of after.now) (rows_of before.now) gates.old).1 }
+    ensures { Builds (goal_of or_no_change goal (rows_of after.now) (rows_of before.now)) (λ l. l) IsIn gates.old gates.new result }
 {
     if or_no_change {
         let same = unchanged(gates, after, before)?;
@@ -218,6 +209,30 @@ fn read_rows<'a>(alone: bool, after: &'a [Vec<Lit>], before: &'a [Vec<Lit>]) -> 
     if alone { after } else { before }
 }
 
+/// The goal wherever the hypotheses hold, over rows for the states before and after.
+#[tactic(auto, using(crate::proofs::ConditionSteps::condition_steps), unfolding(crate::specs::Conditions::conclusion_of))]
+fn build_conclusion<T: Table>(
+    alloc: Global,
+    gates: &mut Gates<T>,
+    c: &Condition,
+    held: Lit,
+    first: &[Vec<Lit>],
+    after: &[Vec<Lit>],
+) -> Result<Lit, GateError>
+    requires fits { ConditionFits (condition_tree c.now) }
+    requires size { length first.now ≡ length c.now.layout }
+    requires same { length after.now ≡ length c.now.layout }
+    requires held { IsIn gates.old held }
+    requires first { AreRowsIn gates.old (rows_of first.now) }
+    requires second { AreRowsIn gates.old (rows_of after.now) }
+    ensures { Builds (conclusion_of (condition_tree c.now) (rows_of first.now) (rows_of after.now) held) (λ l. l) IsIn gates.old gates.new result }
+{
+    let read = read_rows(c.alone, after, first);
+    let goal = build_literal(alloc, gates, &c.goal, read, after)?;
+    let goal = goal_or_same(gates, c.or_no_change, goal, after, first)?;
+    implies(gates, held, goal)
+}
+
 /// The literal of a condition over rows for its two states.
 #[tactic(auto, using(crate::proofs::ConditionSteps::condition_steps), unfolding(crate::specs::Conditions::implication_of))]
 fn build_implication<T: Table>(
@@ -227,22 +242,16 @@ fn build_implication<T: Table>(
     first: &[Vec<Lit>],
     second: Vec<Vec<Lit>>,
 ) -> Result<Lit, GateError>
-    requires fits { ClaimFits (claim c.now) }
+    requires fits { ConditionFits (condition_tree c.now) }
     requires size { length first.now ≡ length c.now.layout }
     requires same { length second.items ≡ length c.now.layout }
     requires first { AreRowsIn gates.old (rows_of first.now) }
     requires second { AreRowsIn gates.old (rows_of second.items) }
-    ensures built { IfOk result (λ l. implication_of (claim c.now) (rows_of first.now) (rows_of second.items) gates.old ≡ (l, gates.new)) }
-    ensures literal { IfOk result (λ l. IsIn gates.new l) }
-    ensures extends { Extends gates.old gates.new }
-    ensures full { result ≡ Err TooManyVariables → MOST_VARIABLES < variable_count (implication_of (claim c.now) (rows_of first.now) (rows_of second.items) gates.old).1 }
+    ensures { Builds (implication_of (condition_tree c.now) (rows_of first.now) (rows_of second.items)) (λ l. l) IsIn gates.old gates.new result }
 {
     let held = hypotheses(alloc, gates, &c.hypotheses, first, &second)?;
     let after = reached(alloc, gates, &c.second, second)?;
-    let read = read_rows(c.alone, &after, first);
-    let goal = build_literal(alloc, gates, &c.goal, read, &after)?;
-    let goal = goal_or_same(gates, c.or_no_change, goal, &after, first)?;
-    Ok(gates.and(held, goal.negated())?.negated())
+    build_conclusion(alloc, gates, c, held, first, &after)
 }
 
 /// Rows for the second state that hypotheses read.
@@ -275,22 +284,19 @@ pub fn formula<T: Table>(
     gates: &mut Gates<T>,
     condition: &Condition,
 ) -> Result<Lit, GateError>
-    requires inputs { gates.old.inputs ≡ inputs_of (claim condition.now) }
+    requires inputs { gates.old.inputs ≡ inputs_of (condition_tree condition.now) }
 
     // The circuit is the one that the numbering fixes.
-    ensures built { IfOk result (λ l. condition_of (claim condition.now) gates.old ≡ (l, gates.new)) }
+    ensures builds { Builds (condition_of (condition_tree condition.now)) (λ l. l) IsIn gates.old gates.new result }
 
     // Under all values of the circuit the literal says whether the condition holds of the states with these bits.
     ensures meaning { IfOk result (λ l. (values : List Bool) → GatesHold gates.new values
-        → lit_value values l ≡ condition_holds (claim condition.now) (first_of (claim condition.now) values) (second_of (claim condition.now) values)) }
+        → lit_value values l ≡ condition_holds (condition_tree condition.now) (first_of (condition_tree condition.now) values) (second_of (condition_tree condition.now) values)) }
 
     // For every pair of states that agree on the fixed words: under their bits it is true exactly where the condition holds.
     ensures pairs { IfOk result (λ l. (s t : List ℕ) → IsState condition.now.layout s → IsState condition.now.layout t
         → AgreeOnFixed condition.now.layout s t → (values rest : List Bool) → GatesHold gates.new values
-        → values ≡ input_bits (claim condition.now) s t ++ rest → lit_value values l ≡ condition_holds (claim condition.now) s t) }
-    ensures literal { IfOk result (λ l. IsIn gates.new l) }
-    ensures extends { Extends gates.old gates.new }
-    ensures full { result ≡ Err TooManyVariables → MOST_VARIABLES < variable_count (condition_of (claim condition.now) gates.old).1 }
+        → values ≡ input_bits (condition_tree condition.now) s t ++ rest → lit_value values l ≡ condition_holds (condition_tree condition.now) s t) }
 {
     let first = first_state(alloc, &condition.layout)?;
     let second = second_rows(alloc, condition, &first)?;

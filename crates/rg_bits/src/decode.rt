@@ -5,9 +5,9 @@ ghost use Rattle.rg_words.specs.declared.limits.TheConstants.{MOST_WIDTH};
 ghost use Rattle.rg_gates.specs.Circuit.{lit_value};
 ghost use Rattle.rg_words.specs.Layout.{widths_of};
 ghost use Rattle.rg_words.specs.States.{IsPair};
-ghost use Rattle.rg_tree.specs.Conditions.{claim, second_state};
+ghost use Rattle.rg_tree.specs.Conditions.{condition_tree, second_state};
 ghost use Rattle.rg_bits.specs.Rows.{row_value};
-ghost use Rattle.rg_bits.specs.WordRows.{rows_of};
+ghost use Rattle.rg_bits.specs.Inner.Within.{rows_of};
 ghost use Rattle.rg_bits.specs.Inputs.{inputs_of, first_rows, first_of, second_of, input_bits, state_of, own_second};
 
 use crate::input_rows::{first_state, free_state};
@@ -76,7 +76,7 @@ fn read_second(
     values: &[bool],
 ) -> Result<Option<State>, AllocError>
     requires { rows_of first.now ≡ first_rows 0 condition.now.layout }
-    ensures { IfOk result (λ r. r ≡ own_second (second_state condition.now.second) condition.now.layout (second_of (claim condition.now) values.now)) }
+    ensures { IfOk result (λ r. r ≡ own_second (second_state condition.now.second) condition.now.layout (second_of (condition_tree condition.now) values.now)) }
 {
     match condition.second {
         Second::Free => {
@@ -95,16 +95,16 @@ pub fn states(
     condition: &Condition,
     values: &[bool],
 ) -> Result<(State, Option<State>), AllocError>
-    requires { inputs_of (claim condition.now) ≤ length values.now }
+    requires { inputs_of (condition_tree condition.now) ≤ length values.now }
 
     // Each word's value is the number of its bits; a fixed word's bits are the first state's.
-    ensures first { IfOk result (λ r. r.0 ≡ state_of condition.now.layout (first_of (claim condition.now) values.now)) }
-    ensures second { IfOk result (λ r. r.1 ≡ own_second (second_state condition.now.second) condition.now.layout (second_of (claim condition.now) values.now)) }
+    ensures first { IfOk result (λ r. r.0 ≡ state_of condition.now.layout (first_of (condition_tree condition.now) values.now)) }
+    ensures second { IfOk result (λ r. r.1 ≡ own_second (second_state condition.now.second) condition.now.layout (second_of (condition_tree condition.now) values.now)) }
 
     // They are states of the words, with the same values for fixed words, and the values are their bits.
-    ensures pair { IfOk result (λ _. IsPair condition.now.layout (first_of (claim condition.now) values.now) (second_of (claim condition.now) values.now)) }
-    ensures bits { IfOk result (λ _. input_bits (claim condition.now) (first_of (claim condition.now) values.now) (second_of (claim condition.now) values.now)
-        ≡ take (inputs_of (claim condition.now)) values.now) }
+    ensures pair { IfOk result (λ _. IsPair condition.now.layout (first_of (condition_tree condition.now) values.now) (second_of (condition_tree condition.now) values.now)) }
+    ensures bits { IfOk result (λ _. input_bits (condition_tree condition.now) (first_of (condition_tree condition.now) values.now) (second_of (condition_tree condition.now) values.now)
+        ≡ take (inputs_of (condition_tree condition.now)) values.now) }
 {
     let rows = first_state(alloc, &condition.layout)?;
     let first = read_state(alloc, &condition.layout, &rows, values)?;

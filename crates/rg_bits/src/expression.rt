@@ -1,22 +1,54 @@
 //! Gates for expressions and formulas.
 
-ghost use Rattle.std.specs.Prelude.{◌≡◌, ◌<◌, IfOk, length};
-ghost use Rattle.rg_gates.specs.declared.GateError.TheVariants.{TooManyVariables};
-ghost use Rattle.rg_words.specs.declared.limits.TheConstants.{MOST_VARIABLES};
-ghost use Rattle.rg_gates.specs.Circuit.{variable_count};
-ghost use Rattle.rg_gates.specs.Extends.{Extends, IsIn, IsRowIn};
+ghost use Rattle.std.specs.Prelude.{◌≡◌, length};
 ghost use Rattle.std.specs.Cow.{cow_slice_items};
+ghost use Rattle.rg_gates.specs.Extends.{IsIn, IsRowIn};
 ghost use Rattle.rg_tree.specs.Fits.{ExpressionFits, FormulaFits};
 ghost use Rattle.rg_tree.specs.View.{expression, formula};
-ghost use Rattle.rg_bits.specs.WordRows.{AreRowsIn, rows_of};
-ghost use Rattle.rg_bits.specs.Formulas.{row_of, literal_of};
+ghost use Rattle.rg_bits.specs.declared.rows.BitOperation.TheVariants.{Pick};
+ghost use Rattle.rg_bits.specs.Build.{Builds};
+ghost use Rattle.rg_bits.specs.Rows.{bits_of};
+ghost use Rattle.rg_bits.specs.Formulas.{operated_of, row_of, literal_of};
+ghost use Rattle.rg_bits.specs.Inner.Within.{AreRowsIn, rows_of};
 
 use crate::operations::{compare, connect, constant, invert, move_row, number, operate};
 use crate::rows::{BitOperation, bits};
 use rg_gates::{GateError, Gates, Lit, Table};
 use rg_tree::tree::{Expr, Formula};
+use rg_words::operators::Operator;
 use std::alloc::Global;
 use std::borrow::CowSlice;
+
+/// An operation on two rows.
+fn operated<'a, T: Table>(
+    alloc: Global,
+    gates: &mut Gates<T>,
+    operator: Operator,
+    a: &[Lit],
+    b: &[Lit],
+) -> Result<CowSlice<'a, Lit>, GateError>
+    requires first { IsRowIn gates.old a.now }
+    requires second { IsRowIn gates.old b.now }
+    ensures { Builds (operated_of operator a.now b.now) cow_slice_items IsRowIn gates.old gates.new result }
+{
+    Ok(CowSlice::Owned(operate(alloc, gates, operator, a, b)?))
+}
+
+/// The first row where a literal is true, else the second.
+fn picked<'a, T: Table>(
+    alloc: Global,
+    gates: &mut Gates<T>,
+    condition: Lit,
+    a: &[Lit],
+    b: &[Lit],
+) -> Result<CowSlice<'a, Lit>, GateError>
+    requires condition { IsIn gates.old condition }
+    requires first { IsRowIn gates.old a.now }
+    requires second { IsRowIn gates.old b.now }
+    ensures { Builds (bits_of (Pick condition) a.now b.now) cow_slice_items IsRowIn gates.old gates.new result }
+{
+    Ok(CowSlice::Owned(bits(alloc, gates, BitOperation::Pick(condition), a, b)?))
+}
 
 /// The row of an expression, over a row for each word of the two states.
 #[cycle(build)]
@@ -32,10 +64,7 @@ pub fn build_row<'a, T: Table>(
     requires same { length second.now ≡ length first.now }
     requires first { AreRowsIn gates.old (rows_of first.now) }
     requires second { AreRowsIn gates.old (rows_of second.now) }
-    ensures built { IfOk result (λ r. row_of (expression e.now) (rows_of first.now) (rows_of second.now) gates.old ≡ (cow_slice_items r, gates.new)) }
-    ensures row { IfOk result (λ r. IsRowIn gates.new (cow_slice_items r)) }
-    ensures extends { Extends gates.old gates.new }
-    ensures full { result ≡ Err TooManyVariables → MOST_VARIABLES < variable_count (row_of (expression e.now) (rows_of first.now) (rows_of second.now) gates.old).1 }
+    ensures { Builds (row_of (expression e.now) (rows_of first.now) (rows_of second.now)) cow_slice_items IsRowIn gates.old gates.new result }
 {
     match e {
         Expr::Number(width, n) => Ok(CowSlice::Owned(number(alloc, *width, *n)?)),
@@ -48,8 +77,7 @@ pub fn build_row<'a, T: Table>(
         Expr::Binary(operator, _, a, b) => {
             let left = build_row(alloc, gates, a, first, second)?;
             let right = build_row(alloc, gates, b, first, second)?;
-            let made = operate(alloc, gates, *operator, &left, &right)?;
-            Ok(CowSlice::Owned(made))
+            operated(alloc, gates, *operator, &left, &right)
         }
         Expr::Shifted(shift, _, a, count) => {
             let row = build_row(alloc, gates, a, first, second)?;
@@ -59,8 +87,7 @@ pub fn build_row<'a, T: Table>(
             let condition = build_literal(alloc, gates, f, first, second)?;
             let left = build_row(alloc, gates, a, first, second)?;
             let right = build_row(alloc, gates, b, first, second)?;
-            let made = bits(alloc, gates, BitOperation::Pick(condition), &left, &right)?;
-            Ok(CowSlice::Owned(made))
+            picked(alloc, gates, condition, &left, &right)
         }
     }
 }
@@ -79,10 +106,7 @@ pub fn build_literal<T: Table>(
     requires same { length second.now ≡ length first.now }
     requires first { AreRowsIn gates.old (rows_of first.now) }
     requires second { AreRowsIn gates.old (rows_of second.now) }
-    ensures built { IfOk result (λ l. literal_of (formula f.now) (rows_of first.now) (rows_of second.now) gates.old ≡ (l, gates.new)) }
-    ensures literal { IfOk result (λ l. IsIn gates.new l) }
-    ensures extends { Extends gates.old gates.new }
-    ensures full { result ≡ Err TooManyVariables → MOST_VARIABLES < variable_count (literal_of (formula f.now) (rows_of first.now) (rows_of second.now) gates.old).1 }
+    ensures { Builds (literal_of (formula f.now) (rows_of first.now) (rows_of second.now)) (λ l. l) IsIn gates.old gates.new result }
 {
     match f {
         Formula::Truth(b) => Ok(constant(*b)),

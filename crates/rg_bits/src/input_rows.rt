@@ -1,11 +1,11 @@
 //! The input bits of a condition.
 
 ghost use Rattle.std.specs.Prelude.{◌≡◌, ◌<◌, ◌≤◌, ◌+◌, ◌*◌, ℕ, IfOk, cond, length, slice_index, slice_index_or, false};
-ghost use Rattle.rg_bits.specs.WordRows.{rows_of};
+ghost use Rattle.rg_bits.specs.Inner.Within.{rows_of};
 ghost use Rattle.rg_bits.specs.Inputs.{variables, first_rows, free_rows, total_width, free_width, inputs_of};
 ghost use Rattle.rg_words.specs.declared.limits.TheConstants.{MOST_WORDS, MOST_WIDTH, MOST_VARIABLES};
 ghost use Rattle.rg_words.specs.Layout.{widths_of, fixed_of};
-ghost use Rattle.rg_tree.specs.Conditions.{claim};
+ghost use Rattle.rg_tree.specs.Conditions.{condition_tree};
 
 use rg_gates::Lit;
 use rg_tree::condition::{Condition, Second};
@@ -117,7 +117,7 @@ fn all_free_bits(words: &Layout) -> u32
 /// The count of input bits: the bits of the first state's words in declaration order, each from its
 /// low bit on, and then, where the second state is any state, those of its words that aren't fixed.
 pub fn inputs(condition: &Condition) -> u32
-    ensures count { result ≡ inputs_of (claim condition.now) }
+    ensures count { result ≡ inputs_of (condition_tree condition.now) }
     ensures limit { result ≤ MOST_VARIABLES }
 {
     let first = all_bits(&condition.layout);

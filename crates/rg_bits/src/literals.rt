@@ -1,25 +1,29 @@
 //! The connectives on literals.
 
-ghost use Rattle.std.specs.Prelude.{◌≡◌, ◌<◌, IfOk};
-ghost use Rattle.rg_gates.specs.declared.GateError.TheVariants.{TooManyVariables};
-ghost use Rattle.rg_words.specs.declared.limits.TheConstants.{MOST_VARIABLES};
-ghost use Rattle.rg_gates.specs.Circuit.{variable_count};
-ghost use Rattle.rg_gates.specs.Extends.{Extends, IsIn};
+ghost use Rattle.rg_gates.specs.And.{and_of};
+ghost use Rattle.rg_gates.specs.Extends.{IsIn};
+ghost use Rattle.rg_bits.specs.Build.{Builds};
 ghost use Rattle.rg_bits.specs.Literals.{or_of, xor_of, pick_of, implies_of, iff_of};
 
 use rg_gates::{GateError, Gates, Lit, Table};
+
+/// Both of two literals.
+pub fn and<T: Table>(gates: &mut Gates<T>, a: Lit, b: Lit) -> Result<Lit, GateError>
+    requires first { IsIn gates.old a }
+    requires second { IsIn gates.old b }
+    ensures { Builds (and_of a b) (λ l. l) IsIn gates.old gates.new result }
+{
+    gates.and(a, b)
+}
 
 /// At least one of two literals.
 #[tactic(auto, using(crate::proofs::Steps::steps), unfolding(crate::specs::Literals::or_of))]
 pub fn or<T: Table>(gates: &mut Gates<T>, a: Lit, b: Lit) -> Result<Lit, GateError>
     requires first { IsIn gates.old a }
     requires second { IsIn gates.old b }
-    ensures built { IfOk result (λ l. or_of a b gates.old ≡ (l, gates.new)) }
-    ensures literal { IfOk result (λ l. IsIn gates.new l) }
-    ensures extends { Extends gates.old gates.new }
-    ensures full { result ≡ Err TooManyVariables → MOST_VARIABLES < variable_count (or_of a b gates.old).1 }
+    ensures { Builds (or_of a b) (λ l. l) IsIn gates.old gates.new result }
 {
-    Ok(gates.and(a.negated(), b.negated())?.negated())
+    Ok(and(gates, a.negated(), b.negated())?.negated())
 }
 
 /// Exactly one of two literals.
@@ -27,13 +31,10 @@ pub fn or<T: Table>(gates: &mut Gates<T>, a: Lit, b: Lit) -> Result<Lit, GateErr
 pub fn xor<T: Table>(gates: &mut Gates<T>, a: Lit, b: Lit) -> Result<Lit, GateError>
     requires first { IsIn gates.old a }
     requires second { IsIn gates.old b }
-    ensures built { IfOk result (λ l. xor_of a b gates.old ≡ (l, gates.new)) }
-    ensures literal { IfOk result (λ l. IsIn gates.new l) }
-    ensures extends { Extends gates.old gates.new }
-    ensures full { result ≡ Err TooManyVariables → MOST_VARIABLES < variable_count (xor_of a b gates.old).1 }
+    ensures { Builds (xor_of a b) (λ l. l) IsIn gates.old gates.new result }
 {
-    let left = gates.and(a, b.negated())?;
-    let right = gates.and(a.negated(), b)?;
+    let left = and(gates, a, b.negated())?;
+    let right = and(gates, a.negated(), b)?;
     or(gates, left, right)
 }
 
@@ -43,13 +44,10 @@ pub fn pick<T: Table>(gates: &mut Gates<T>, c: Lit, a: Lit, b: Lit) -> Result<Li
     requires condition { IsIn gates.old c }
     requires first { IsIn gates.old a }
     requires second { IsIn gates.old b }
-    ensures built { IfOk result (λ l. pick_of c a b gates.old ≡ (l, gates.new)) }
-    ensures literal { IfOk result (λ l. IsIn gates.new l) }
-    ensures extends { Extends gates.old gates.new }
-    ensures full { result ≡ Err TooManyVariables → MOST_VARIABLES < variable_count (pick_of c a b gates.old).1 }
+    ensures { Builds (pick_of c a b) (λ l. l) IsIn gates.old gates.new result }
 {
-    let left = gates.and(c, a)?;
-    let right = gates.and(c.negated(), b)?;
+    let left = and(gates, c, a)?;
+    let right = and(gates, c.negated(), b)?;
     or(gates, left, right)
 }
 
@@ -58,12 +56,9 @@ pub fn pick<T: Table>(gates: &mut Gates<T>, c: Lit, a: Lit, b: Lit) -> Result<Li
 pub fn implies<T: Table>(gates: &mut Gates<T>, a: Lit, b: Lit) -> Result<Lit, GateError>
     requires first { IsIn gates.old a }
     requires second { IsIn gates.old b }
-    ensures built { IfOk result (λ l. implies_of a b gates.old ≡ (l, gates.new)) }
-    ensures literal { IfOk result (λ l. IsIn gates.new l) }
-    ensures extends { Extends gates.old gates.new }
-    ensures full { result ≡ Err TooManyVariables → MOST_VARIABLES < variable_count (implies_of a b gates.old).1 }
+    ensures { Builds (implies_of a b) (λ l. l) IsIn gates.old gates.new result }
 {
-    Ok(gates.and(a, b.negated())?.negated())
+    Ok(and(gates, a, b.negated())?.negated())
 }
 
 /// Both literals or neither.
@@ -71,10 +66,7 @@ pub fn implies<T: Table>(gates: &mut Gates<T>, a: Lit, b: Lit) -> Result<Lit, Ga
 pub fn iff<T: Table>(gates: &mut Gates<T>, a: Lit, b: Lit) -> Result<Lit, GateError>
     requires first { IsIn gates.old a }
     requires second { IsIn gates.old b }
-    ensures built { IfOk result (λ l. iff_of a b gates.old ≡ (l, gates.new)) }
-    ensures literal { IfOk result (λ l. IsIn gates.new l) }
-    ensures extends { Extends gates.old gates.new }
-    ensures full { result ≡ Err TooManyVariables → MOST_VARIABLES < variable_count (iff_of a b gates.old).1 }
+    ensures { Builds (iff_of a b) (λ l. l) IsIn gates.old gates.new result }
 {
     Ok(xor(gates, a, b)?.negated())
 }

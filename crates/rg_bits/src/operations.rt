@@ -1,15 +1,14 @@
 //! The operations, comparisons and connectives of formulas.
 
-ghost use Rattle.std.specs.Prelude.{◌≡◌, ◌<◌, ◌≤◌, IfOk, if◌then◌else◌};
-ghost use Rattle.rg_gates.specs.declared.GateError.TheVariants.{TooManyVariables};
+ghost use Rattle.std.specs.Prelude.{◌≡◌, IfOk, if◌then◌else◌};
 ghost use Rattle.rg_gates.specs.declared.Lit.TheVariants.{True, False};
-ghost use Rattle.rg_words.specs.declared.limits.TheConstants.{MOST_VARIABLES};
-ghost use Rattle.rg_gates.specs.Circuit.{Circuit, variable_count};
-ghost use Rattle.rg_gates.specs.Extends.{Extends, IsIn, IsRowIn};
-ghost use Rattle.rg_bits.specs.Rows.{inverted, number_row, shifted_left, shifted_right};
+ghost use Rattle.rg_words.specs.declared.operators.Comparison.TheVariants.{NotEqual, GreaterOrEqual};
+ghost use Rattle.rg_gates.specs.Extends.{IsIn, IsRowIn};
+ghost use Rattle.rg_bits.specs.Build.{Builds};
+ghost use Rattle.rg_bits.specs.Rows.{inverted, number_row, sum_of};
 ghost use Rattle.rg_bits.specs.Formulas.{operated_of, moved_row, less_of, compared_of, connected_of};
 
-use crate::literals::{iff, implies, or};
+use crate::literals::{and, iff, implies, or};
 use crate::rows::{BitOperation, Test, bits, sum, test_rows};
 use rg_gates::{GateError, Gates, Lit, Table};
 use rg_words::operators::{Comparison, Connective, Operator, Shift};
@@ -68,6 +67,22 @@ pub fn move_row(
     }
 }
 
+/// The difference of two rows.
+#[tactic(auto, using(crate::proofs::FormulaSteps::formula_steps))]
+fn difference<T: Table>(
+    alloc: Global,
+    gates: &mut Gates<T>,
+    a: &[Lit],
+    b: &[Lit],
+) -> Result<Vec<Lit>, GateError>
+    requires first { IsRowIn gates.old a.now }
+    requires second { IsRowIn gates.old b.now }
+    ensures { Builds (sum_of a.now (inverted b.now) True) (λ r. r.items) IsRowIn gates.old gates.new result }
+{
+    let inverse = invert(alloc, b)?;
+    sum(alloc, gates, a, &inverse, Lit::True)
+}
+
 /// An operation on two rows.
 #[tactic(auto, using(crate::proofs::FormulaSteps::formula_steps), unfolding(crate::specs::Formulas::operated_of))]
 pub fn operate<T: Table>(
@@ -79,17 +94,11 @@ pub fn operate<T: Table>(
 ) -> Result<Vec<Lit>, GateError>
     requires first { IsRowIn gates.old a.now }
     requires second { IsRowIn gates.old b.now }
-    ensures built { IfOk result (λ r. operated_of operator a.now b.now gates.old ≡ (r.items, gates.new)) }
-    ensures row { IfOk result (λ r. IsRowIn gates.new r.items) }
-    ensures extends { Extends gates.old gates.new }
-    ensures full { result ≡ Err TooManyVariables → MOST_VARIABLES < variable_count (operated_of operator a.now b.now gates.old).1 }
+    ensures { Builds (operated_of operator a.now b.now) (λ r. r.items) IsRowIn gates.old gates.new result }
 {
     match operator {
         Operator::Add => sum(alloc, gates, a, b, Lit::False),
-        Operator::Subtract => {
-            let inverse = invert(alloc, b)?;
-            sum(alloc, gates, a, &inverse, Lit::True)
-        }
+        Operator::Subtract => difference(alloc, gates, a, b),
         Operator::BitAnd => bits(alloc, gates, BitOperation::And, a, b),
         Operator::BitOr => bits(alloc, gates, BitOperation::Or, a, b),
         Operator::BitXor => bits(alloc, gates, BitOperation::Xor, a, b),
@@ -101,12 +110,29 @@ pub fn operate<T: Table>(
 fn less<T: Table>(gates: &mut Gates<T>, a: &[Lit], b: &[Lit]) -> Result<Lit, GateError>
     requires first { IsRowIn gates.old a.now }
     requires second { IsRowIn gates.old b.now }
-    ensures built { IfOk result (λ l. less_of a.now b.now gates.old ≡ (l, gates.new)) }
-    ensures literal { IfOk result (λ l. IsIn gates.new l) }
-    ensures extends { Extends gates.old gates.new }
-    ensures full { result ≡ Err TooManyVariables → MOST_VARIABLES < variable_count (less_of a.now b.now gates.old).1 }
+    ensures { Builds (less_of a.now b.now) (λ l. l) IsIn gates.old gates.new result }
 {
     Ok(test_rows(gates, Test::AtLeast, a, b, Lit::True)?.negated())
+}
+
+/// Whether the first row stands for as much or more.
+#[tactic(auto, using(crate::proofs::FormulaSteps::formula_steps), unfolding(crate::specs::Formulas::compared_of))]
+fn at_least<T: Table>(gates: &mut Gates<T>, a: &[Lit], b: &[Lit]) -> Result<Lit, GateError>
+    requires first { IsRowIn gates.old a.now }
+    requires second { IsRowIn gates.old b.now }
+    ensures { Builds (compared_of GreaterOrEqual a.now b.now) (λ l. l) IsIn gates.old gates.new result }
+{
+    Ok(less(gates, a, b)?.negated())
+}
+
+/// Whether two rows stand for different numbers.
+#[tactic(auto, using(crate::proofs::FormulaSteps::formula_steps), unfolding(crate::specs::Formulas::compared_of))]
+fn differ<T: Table>(gates: &mut Gates<T>, a: &[Lit], b: &[Lit]) -> Result<Lit, GateError>
+    requires first { IsRowIn gates.old a.now }
+    requires second { IsRowIn gates.old b.now }
+    ensures { Builds (compared_of NotEqual a.now b.now) (λ l. l) IsIn gates.old gates.new result }
+{
+    Ok(test_rows(gates, Test::Equal, a, b, Lit::True)?.negated())
 }
 
 /// A comparison of two rows.
@@ -119,18 +145,15 @@ pub fn compare<T: Table>(
 ) -> Result<Lit, GateError>
     requires first { IsRowIn gates.old a.now }
     requires second { IsRowIn gates.old b.now }
-    ensures built { IfOk result (λ l. compared_of comparison a.now b.now gates.old ≡ (l, gates.new)) }
-    ensures literal { IfOk result (λ l. IsIn gates.new l) }
-    ensures extends { Extends gates.old gates.new }
-    ensures full { result ≡ Err TooManyVariables → MOST_VARIABLES < variable_count (compared_of comparison a.now b.now gates.old).1 }
+    ensures { Builds (compared_of comparison a.now b.now) (λ l. l) IsIn gates.old gates.new result }
 {
     match comparison {
         Comparison::Equal => test_rows(gates, Test::Equal, a, b, Lit::True),
-        Comparison::NotEqual => Ok(test_rows(gates, Test::Equal, a, b, Lit::True)?.negated()),
+        Comparison::NotEqual => differ(gates, a, b),
         Comparison::Less => less(gates, a, b),
-        Comparison::LessOrEqual => Ok(less(gates, b, a)?.negated()),
+        Comparison::LessOrEqual => at_least(gates, b, a),
         Comparison::Greater => less(gates, b, a),
-        Comparison::GreaterOrEqual => Ok(less(gates, a, b)?.negated()),
+        Comparison::GreaterOrEqual => at_least(gates, a, b),
     }
 }
 
@@ -144,13 +167,10 @@ pub fn connect<T: Table>(
 ) -> Result<Lit, GateError>
     requires first { IsIn gates.old a }
     requires second { IsIn gates.old b }
-    ensures built { IfOk result (λ l. connected_of connective a b gates.old ≡ (l, gates.new)) }
-    ensures literal { IfOk result (λ l. IsIn gates.new l) }
-    ensures extends { Extends gates.old gates.new }
-    ensures full { result ≡ Err TooManyVariables → MOST_VARIABLES < variable_count (connected_of connective a b gates.old).1 }
+    ensures { Builds (connected_of connective a b) (λ l. l) IsIn gates.old gates.new result }
 {
     match connective {
-        Connective::And => gates.and(a, b),
+        Connective::And => and(gates, a, b),
         Connective::Or => or(gates, a, b),
         Connective::Implies => implies(gates, a, b),
         Connective::Iff => iff(gates, a, b),

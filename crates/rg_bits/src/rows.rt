@@ -1,14 +1,11 @@
 //! Operations on rows of literals, the low bit first.
 
-ghost use Rattle.std.specs.Prelude.{◌≡◌, ◌<◌, ◌-◌, IfOk, length};
-ghost use Rattle.rg_gates.specs.declared.GateError.TheVariants.{TooManyVariables};
-ghost use Rattle.rg_words.specs.declared.limits.TheConstants.{MOST_VARIABLES};
-ghost use Rattle.rg_gates.specs.Circuit.{variable_count};
-ghost use Rattle.rg_gates.specs.Extends.{Extends, IsIn, IsRowIn};
-ghost use Rattle.rg_bits.specs.OperationIn.{IsOperationIn};
-ghost use Rattle.rg_bits.specs.Rows.{carry_of, next_of, sum_bit_of, sum_of, bit_of, bits_of, test_bit_of, test_of, inverted, number_row, shifted_left, shifted_right};
+ghost use Rattle.rg_gates.specs.Extends.{IsIn, IsRowIn};
+ghost use Rattle.rg_bits.specs.Build.{Builds};
+ghost use Rattle.rg_bits.specs.Inner.Within.{AreIn, IsOperationIn};
+ghost use Rattle.rg_bits.specs.Rows.{carry_of, next_of, sum_bit_of, sum_of, bit_of, bits_of, test_bit_of, test_of};
 
-use crate::literals::{or, pick, xor};
+use crate::literals::{and, or, pick, xor};
 use rg_gates::{GateError, Gates, Lit, Table};
 use std::alloc::Global;
 
@@ -41,13 +38,10 @@ fn carry_out<T: Table>(
     requires second { IsIn gates.old b }
     requires either { IsIn gates.old x }
     requires carry { IsIn gates.old carry }
-    ensures built { IfOk result (λ l. carry_of a b x carry gates.old ≡ (l, gates.new)) }
-    ensures literal { IfOk result (λ l. IsIn gates.new l) }
-    ensures extends { Extends gates.old gates.new }
-    ensures full { result ≡ Err TooManyVariables → MOST_VARIABLES < variable_count (carry_of a b x carry gates.old).1 }
+    ensures { Builds (carry_of a b x carry) (λ l. l) IsIn gates.old gates.new result }
 {
-    let both = gates.and(a, b)?;
-    let carried = gates.and(carry, x)?;
+    let both = and(gates, a, b)?;
+    let carried = and(gates, carry, x)?;
     or(gates, both, carried)
 }
 
@@ -65,10 +59,7 @@ fn next_carry<T: Table>(
     requires second { IsIn gates.old b }
     requires either { IsIn gates.old x }
     requires carry { IsIn gates.old carry }
-    ensures built { IfOk result (λ l. next_of more a b x carry gates.old ≡ (l, gates.new)) }
-    ensures literal { IfOk result (λ l. IsIn gates.new l) }
-    ensures extends { Extends gates.old gates.new }
-    ensures full { result ≡ Err TooManyVariables → MOST_VARIABLES < variable_count (next_of more a b x carry gates.old).1 }
+    ensures { Builds (next_of more a b x carry) (λ l. l) IsIn gates.old gates.new result }
 {
     if more {
         carry_out(gates, a, b, x, carry)
@@ -89,11 +80,7 @@ fn sum_bit<T: Table>(
     requires first { IsIn gates.old a }
     requires second { IsIn gates.old b }
     requires carry { IsIn gates.old carry }
-    ensures built { IfOk result (λ r. sum_bit_of a b carry more gates.old ≡ ((r.0, r.1), gates.new)) }
-    ensures sum { IfOk result (λ r. IsIn gates.new r.0) }
-    ensures next { IfOk result (λ r. IsIn gates.new r.1) }
-    ensures extends { Extends gates.old gates.new }
-    ensures full { result ≡ Err TooManyVariables → MOST_VARIABLES < variable_count (sum_bit_of a b carry more gates.old).1 }
+    ensures { Builds (sum_bit_of a b carry more) (λ r. (r.0, r.1)) AreIn gates.old gates.new result }
 {
     let x = xor(gates, a, b)?;
     let sum = xor(gates, x, carry)?;
@@ -112,13 +99,10 @@ fn operate_bit<T: Table>(
     requires first { IsIn gates.old a }
     requires second { IsIn gates.old b }
     requires operation { IsOperationIn gates.old operation }
-    ensures built { IfOk result (λ l. bit_of operation a b gates.old ≡ (l, gates.new)) }
-    ensures literal { IfOk result (λ l. IsIn gates.new l) }
-    ensures extends { Extends gates.old gates.new }
-    ensures full { result ≡ Err TooManyVariables → MOST_VARIABLES < variable_count (bit_of operation a b gates.old).1 }
+    ensures { Builds (bit_of operation a b) (λ l. l) IsIn gates.old gates.new result }
 {
     match operation {
-        BitOperation::And => gates.and(a, b),
+        BitOperation::And => and(gates, a, b),
         BitOperation::Or => or(gates, a, b),
         BitOperation::Xor => xor(gates, a, b),
         BitOperation::Pick(condition) => pick(gates, condition, a, b),
@@ -137,15 +121,12 @@ fn test_bit<T: Table>(
     requires first { IsIn gates.old a }
     requires second { IsIn gates.old b }
     requires so_far { IsIn gates.old so_far }
-    ensures built { IfOk result (λ l. test_bit_of test a b so_far gates.old ≡ (l, gates.new)) }
-    ensures literal { IfOk result (λ l. IsIn gates.new l) }
-    ensures extends { Extends gates.old gates.new }
-    ensures full { result ≡ Err TooManyVariables → MOST_VARIABLES < variable_count (test_bit_of test a b so_far gates.old).1 }
+    ensures { Builds (test_bit_of test a b so_far) (λ l. l) IsIn gates.old gates.new result }
 {
     match test {
         Test::Equal => {
             let x = xor(gates, a, b)?;
-            gates.and(so_far, x.negated())
+            and(gates, so_far, x.negated())
         }
         Test::AtLeast => {
             let x = xor(gates, a, b.negated())?;
@@ -166,10 +147,7 @@ pub fn sum<T: Table>(
     requires first { IsRowIn gates.old a.now }
     requires second { IsRowIn gates.old b.now }
     requires carry { IsIn gates.old carry }
-    ensures built { IfOk result (λ r. sum_of a.now b.now carry gates.old ≡ (r.items, gates.new)) }
-    ensures row { IfOk result (λ r. IsRowIn gates.new r.items) }
-    ensures extends { Extends gates.old gates.new }
-    ensures full { result ≡ Err TooManyVariables → MOST_VARIABLES < variable_count (sum_of a.now b.now carry gates.old).1 }
+    ensures { Builds (sum_of a.now b.now carry) (λ r. r.items) IsRowIn gates.old gates.new result }
 {
     let size = a.len().min(b.len());
     let mut row = Vec::new(alloc);
@@ -194,10 +172,7 @@ pub fn bits<T: Table>(
     requires first { IsRowIn gates.old a.now }
     requires second { IsRowIn gates.old b.now }
     requires operation { IsOperationIn gates.old operation }
-    ensures built { IfOk result (λ r. bits_of operation a.now b.now gates.old ≡ (r.items, gates.new)) }
-    ensures row { IfOk result (λ r. IsRowIn gates.new r.items) }
-    ensures extends { Extends gates.old gates.new }
-    ensures full { result ≡ Err TooManyVariables → MOST_VARIABLES < variable_count (bits_of operation a.now b.now gates.old).1 }
+    ensures { Builds (bits_of operation a.now b.now) (λ r. r.items) IsRowIn gates.old gates.new result }
 {
     let size = a.len().min(b.len());
     let mut row = Vec::new(alloc);
@@ -220,10 +195,7 @@ pub fn test_rows<T: Table>(
     requires first { IsRowIn gates.old a.now }
     requires second { IsRowIn gates.old b.now }
     requires start { IsIn gates.old start }
-    ensures built { IfOk result (λ l. test_of test a.now b.now start gates.old ≡ (l, gates.new)) }
-    ensures literal { IfOk result (λ l. IsIn gates.new l) }
-    ensures extends { Extends gates.old gates.new }
-    ensures full { result ≡ Err TooManyVariables → MOST_VARIABLES < variable_count (test_of test a.now b.now start gates.old).1 }
+    ensures { Builds (test_of test a.now b.now start) (λ l. l) IsIn gates.old gates.new result }
 {
     let size = a.len().min(b.len());
     let mut so_far = start;

@@ -6,11 +6,11 @@ use Rattle.rg_gates.specs.Circuit.{Circuit, IsCircuit, AreValues, lit_value, neg
 use Rattle.rg_gates.specs.Extends.{GatesHold}
 use Rattle.rg_gates.proofs.Evaluated.{values_exist}
 use Rattle.rg_words.specs.States.{IsState, AgreeOnFixed}
-use Rattle.rg_tree.specs.Claims.{Claim, condition_holds, ConditionHolds}
+use Rattle.rg_tree.specs.ConditionTrees.{ConditionTree, condition_holds, ConditionHolds}
 use Rattle.rg_bits.specs.Inputs.{inputs_of, first_of, second_of, input_bits}
 use Rattle.rg_bits.proofs.LiteralsMean.{negation_value}
 use Rattle.rg_bits.proofs.Values.{pair_law, length-input_bits}
-use Rattle.rg_clauses.specs.Formula.{Formula, IsUnsatisfiable}
+use Rattle.rg_clauses.specs.ClauseLists.{Cnf, IsUnsatisfiable}
 use Rattle.rg_clauses.specs.Encoding.{IsSatisfiable, CanHold}
 use Rattle.rg_clauses.specs.Conditions.{CanFail}
 
@@ -19,7 +19,7 @@ not_true true e = absurd (false≢true e)
 not_true false e = refl
 
 -- a literal that says over the input bits whether a condition holds
-module _ (c : Claim) (g : Circuit) (l : Lit)
+module _ (c : ConditionTree) (g : Circuit) (l : Lit)
     (meaning : (values : List Bool) → GatesHold g values → lit_value values l ≡ condition_holds c (first_of c values) (second_of c values))
   where
     pub fails_at : (values : List Bool) → AreValues g values → lit_value values (negation l) ≡ true → condition_holds c (first_of c values) (second_of c values) ≡ false
@@ -39,7 +39,7 @@ module _ (c : Claim) (g : Circuit) (l : Lit)
               (values, exist.1, negation_value values l ∙ ap not (same ∙ w.3)),
         )
 
-        pub can_be_satisfied : (assertion : Lit) (f : Formula) → assertion ≡ negation l → IsSatisfiable f.clauses ↔ CanHold g assertion → IsSatisfiable f.clauses ↔ CanFail c
+        pub can_be_satisfied : (assertion : Lit) (f : Cnf) → assertion ≡ negation l → IsSatisfiable f.clauses ↔ CanHold g assertion → IsSatisfiable f.clauses ↔ CanFail c
         can_be_satisfied assertion f e iff =
             let P : Lit → Type 0 = λ x. IsSatisfiable f.clauses ↔ CanHold g x in
             let held = subst P e iff in
@@ -50,7 +50,7 @@ holds_or : (b : Bool) → (b ≡ false → ⊥) → b ≡ true
 holds_or true h = refl
 holds_or false h = absurd (h refl)
 
-pub unsatisfiable_holds : (c : Claim) (f : Formula) → IsSatisfiable f.clauses ↔ CanFail c → IsUnsatisfiable f.clauses ↔ ConditionHolds c
+pub unsatisfiable_holds : (c : ConditionTree) (f : Cnf) → IsSatisfiable f.clauses ↔ CanFail c → IsUnsatisfiable f.clauses ↔ ConditionHolds c
 unsatisfiable_holds c f iff = (
   λ none s t pair. holds_or (condition_holds c s t) (λ e. let found = iff.1 (s, t, pair, e) in none found.0 found.1),
   λ holds values sat. let w = iff.0 (values, sat) in false≢true (sym w.3 ∙ holds w.0 w.1 w.2),

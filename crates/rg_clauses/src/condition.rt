@@ -6,11 +6,11 @@ ghost use Rattle.rg_words.specs.declared.limits.TheConstants.{MOST_VARIABLES};
 ghost use Rattle.rg_words.specs.declared.refusal.Place.TheVariants.{Condition as the_condition};
 ghost use Rattle.rg_words.specs.declared.refusal.RefusalNumber.TheVariants.{Limit};
 ghost use Rattle.rg_words.specs.Refusals.{no_memory, refused_in};
-ghost use Rattle.rg_tree.specs.Conditions.{claim, condition_holds, ConditionHolds};
+ghost use Rattle.rg_tree.specs.Conditions.{condition_tree, condition_holds, ConditionHolds};
 ghost use Rattle.rg_bits.specs.Inputs.{inputs_of, first_of, second_of};
-ghost use Rattle.rg_clauses.specs.Formula.{Satisfies, IsUnsatisfiable, value_at};
+ghost use Rattle.rg_clauses.specs.ClauseLists.{Satisfies, IsUnsatisfiable, value_at};
 ghost use Rattle.rg_clauses.specs.Encoding.{IsSatisfiable};
-ghost use Rattle.rg_clauses.specs.Conditions.{clauses_of_claim, CanFail};
+ghost use Rattle.rg_clauses.specs.Conditions.{clauses_of_condition, CanFail};
 
 use crate::Clauses;
 use rg_bits::{formula, inputs};
@@ -38,15 +38,15 @@ pub(crate) fn clauses_over<T: Table>(
     gates: &mut Gates<T>,
     condition: &Condition,
 ) -> Result<Clauses, GateError>
-    requires { gates.old ≡ record { inputs = inputs_of (claim condition.now); gates = [] } }
-    ensures exact { IfOk result (λ clauses. clauses ≡ clauses_of_claim (claim condition.now)) }
-    ensures satisfiable { IfOk result (λ clauses. IsSatisfiable clauses.clauses ↔ CanFail (claim condition.now)) }
-    ensures unsatisfiable { IfOk result (λ clauses. IsUnsatisfiable clauses.clauses ↔ ConditionHolds (claim condition.now)) }
+    requires { gates.old ≡ record { inputs = inputs_of (condition_tree condition.now); gates = [] } }
+    ensures exact { IfOk result (λ clauses. clauses ≡ clauses_of_condition (condition_tree condition.now)) }
+    ensures satisfiable { IfOk result (λ clauses. IsSatisfiable clauses.clauses ↔ CanFail (condition_tree condition.now)) }
+    ensures unsatisfiable { IfOk result (λ clauses. IsUnsatisfiable clauses.clauses ↔ ConditionHolds (condition_tree condition.now)) }
     ensures fails { IfOk result (λ clauses. (values : List Bool) → length values ≡ clauses.variables → Satisfies (value_at values) clauses.clauses
-        → condition_holds (claim condition.now) (first_of (claim condition.now) values) (second_of (claim condition.now) values) ≡ false) }
-    ensures inputs { IfOk result (λ clauses. clauses.inputs ≡ inputs_of (claim condition.now)) }
+        → condition_holds (condition_tree condition.now) (first_of (condition_tree condition.now) values) (second_of (condition_tree condition.now) values) ≡ false) }
+    ensures inputs { IfOk result (λ clauses. clauses.inputs ≡ inputs_of (condition_tree condition.now)) }
     ensures within { IfOk result (λ clauses. clauses.variables ≤ MOST_VARIABLES) }
-    ensures full { result ≡ Err TooManyVariables → MOST_VARIABLES < (clauses_of_claim (claim condition.now)).variables }
+    ensures full { result ≡ Err TooManyVariables → MOST_VARIABLES < (clauses_of_condition (condition_tree condition.now)).variables }
 {
     let literal = formula(alloc, gates, condition)?;
     Ok(Clauses::of_gates(alloc, gates, literal.negated())?)
@@ -65,21 +65,21 @@ impl Clauses {
         file: SourceFile,
         number: u64,
     ) -> Result<Clauses, Refusal>
-        ensures exact { IfOk result (λ clauses. clauses ≡ clauses_of_claim (claim condition.now)) }
+        ensures exact { IfOk result (λ clauses. clauses ≡ clauses_of_condition (condition_tree condition.now)) }
 
         // They can be satisfied exactly where the condition fails for some two states that agree on the fixed words.
-        ensures satisfiable { IfOk result (λ clauses. IsSatisfiable clauses.clauses ↔ CanFail (claim condition.now)) }
-        ensures unsatisfiable { IfOk result (λ clauses. IsUnsatisfiable clauses.clauses ↔ ConditionHolds (claim condition.now)) }
+        ensures satisfiable { IfOk result (λ clauses. IsSatisfiable clauses.clauses ↔ CanFail (condition_tree condition.now)) }
+        ensures unsatisfiable { IfOk result (λ clauses. IsUnsatisfiable clauses.clauses ↔ ConditionHolds (condition_tree condition.now)) }
 
         // Values that satisfy them begin with the bits of two states at which it fails.
         ensures fails { IfOk result (λ clauses. (values : List Bool) → length values ≡ clauses.variables → Satisfies (value_at values) clauses.clauses
-            → condition_holds (claim condition.now) (first_of (claim condition.now) values) (second_of (claim condition.now) values) ≡ false) }
-        ensures inputs { IfOk result (λ clauses. clauses.inputs ≡ inputs_of (claim condition.now)) }
+            → condition_holds (condition_tree condition.now) (first_of (condition_tree condition.now) values) (second_of (condition_tree condition.now) values) ≡ false) }
+        ensures inputs { IfOk result (λ clauses. clauses.inputs ≡ inputs_of (condition_tree condition.now)) }
 
         // Too many variables are refused as such, and nothing else is.
         ensures within { IfOk result (λ clauses. clauses.variables ≤ MOST_VARIABLES) }
         ensures refusal { IfErr result (λ e. (e ≡ no_memory) ⊎ (e ≡ refused_in Limit file (the_condition number))) }
-        ensures limit { result ≡ Err (refused_in Limit file (the_condition number)) → MOST_VARIABLES < (clauses_of_claim (claim condition.now)).variables }
+        ensures limit { result ≡ Err (refused_in Limit file (the_condition number)) → MOST_VARIABLES < (clauses_of_condition (condition_tree condition.now)).variables }
     {
         let mut gates = Gates::input(alloc, inputs(condition));
         match clauses_over(alloc, &mut gates, condition) {

@@ -11,7 +11,7 @@ const IMPLICATION: &[u8] =
     b"p cnf 4 7\n-3 1 0\n-3 2 0\n3 -1 -2 0\n-4 -1 0\n-4 3 0\n4 1 -3 0\n4 0\n";
 
 /// The clauses that are satisfied where `((x = 1) and (y = 1)) implies (x = 1)` fails, x the variable 1 and y the variable 2.
-pub(crate) fn implication(alloc: Global) -> Result<Clauses, Refusal> {
+fn implication(alloc: Global) -> Result<Clauses, Refusal> {
     let condition = shown(
         alloc,
         "words x:1 y:1 show (((x = 1) and (y = 1)) implies (x = 1))",

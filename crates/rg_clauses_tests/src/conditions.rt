@@ -3,8 +3,7 @@
 use rg_bits::{formula as gates_of, inputs};
 use rg_clauses::Clauses;
 use rg_gates::Gates;
-use rg_parse::show::show;
-use rg_program::program::program;
+use rg_parse::{program, show};
 use rg_rules::Derivation;
 use rg_tree::condition::Condition;
 use rg_tree::program::Program;

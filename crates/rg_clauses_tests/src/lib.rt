@@ -1,4 +1,4 @@
-//! Rows of gates, clauses, clause proofs and the finder that no command reaches, over public calls alone.
+//! Rows of gates and clauses that no command reaches, over public calls alone.
 #![tactic(auto)]
 
 #[cfg(test)]
@@ -6,8 +6,4 @@ mod clauses;
 #[cfg(test)]
 mod conditions;
 #[cfg(test)]
-mod finder;
-#[cfg(test)]
 mod gates;
-#[cfg(test)]
-mod lines;

@@ -4,7 +4,7 @@ use Rattle.std.specs.Prelude.{slice_get, if◌then◌else◌, map, option_map}
 use Rattle.std.proofs.lemmas.List.{append-nil}
 use Rattle.rg_tree.specs.Trees.{Proposition, Assignment}
 use Rattle.rg_tree.specs.Statements.{Statement, skip, assign, await, sequence, branch, loop, Items, one, more}
-use Rattle.rg_tree.specs.Claims.{assigned}
+use Rattle.rg_tree.specs.ConditionTrees.{assigned}
 use Rattle.rg_tree.specs.Traces.{State, holds_at, Move, Own, Env, last}
 use Rattle.rg_tree.specs.Runs.{Behavior, AllEnv, Atomic, Then, Within, Past, Yes, No, Choice, Loop, Idle, Wait, Leave, Inner, Again, runs, runs_of_items, always}
 use Rattle.rg_tree.proofs.Guards.{last-append}

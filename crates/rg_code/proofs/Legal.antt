@@ -8,7 +8,7 @@ use Rattle.rg_tree.specs.Fits.{ExpressionFits, FormulaFits}
 use Rattle.rg_tree.specs.Typing.{HasWidth}
 use Rattle.rg_tree.specs.Meaning.{value_of}
 use Rattle.rg_tree.specs.Traces.{holds_at}
-use Rattle.rg_tree.specs.Claims.{AssignmentsTyped}
+use Rattle.rg_tree.specs.ConditionTrees.{AssignmentsTyped}
 use Rattle.rg_tree.specs.Statements.{Statement, skip, assign, await, sequence, branch, loop, Items, one, more, PartTree, ProgramTree}
 use Rattle.rg_tree.specs.TypedPrograms.{IsTypedPredicate, TargetsFree, IsTypedStatement, AreTypedItems, AreTypedParts, IsTypedProgram}
 use Rattle.rg_tree.proofs.Widths.{values_within, typed_expressions_fit, typed_formulas_fit}

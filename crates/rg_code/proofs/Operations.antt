@@ -5,7 +5,7 @@ use Rattle.rg_tree.specs.Trees.{Expression, Proposition, number, word, next_word
 use Rattle.rg_tree.specs.Meaning.{joined, value_of}
 use Rattle.rg_tree.specs.Traces.{State, holds_at}
 use Rattle.rg_tree.specs.Trees.{Assignment}
-use Rattle.rg_tree.specs.Claims.{assigned}
+use Rattle.rg_tree.specs.ConditionTrees.{assigned}
 use Rattle.rg_code.specs.declared.operation.Operation.{Operation}
 use Rattle.rg_code.specs.declared.operation.Operation.TheVariants.{Inverse, Binary, Shifted, Pick, Compare, Not, Connect}
 use Rattle.rg_code.specs.Operations.{number_of, truth_of, after_operation, after_operations, alone, left_by, told_by, expression_operations, formula_operations, OperationsLeaveValues}

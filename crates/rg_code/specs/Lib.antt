@@ -2,8 +2,8 @@ pub mod Operations
 pub mod Code
 pub mod BlockView
 pub mod Legal
-pub mod LegalProof
 pub mod CodeTrees
 pub mod Listing
 pub mod Laws
 pub mod Lawful
+pub mod Inner

@@ -3,7 +3,7 @@
 ghost use Rattle.std.specs.Prelude.{map};
 ghost use Rattle.rg_code.specs.BlockView.{blocks};
 ghost use Rattle.rg_code.specs.Legal.{AreLegalParts};
-ghost use Rattle.rg_code.specs.LegalProof.{AreLegalParts-prop};
+ghost use Rattle.rg_code.specs.Inner.LegalProof.{AreLegalParts-prop};
 
 use crate::block::Block;
 use rg_words::Layout;

@@ -52,7 +52,7 @@ pub fn compile(alloc: Global, program: &Program) -> Result<Code, AllocError>
     ensures runs { IfOk result (λ code. HasRunsOf (program_tree program.now) (code_blocks code)) }
 {
     let parts = part_codes(alloc, &program.parts)?;
-    let _ = program.layout.len();
+    program.layout.facts();
     let layout = program.layout.copy()?;
     Ok(Code { layout, parts })
 }

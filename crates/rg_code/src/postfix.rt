@@ -2,7 +2,7 @@
 
 ghost use Rattle.std.specs.Prelude.{◌≡◌, ◌++◌, [], ◌∷◌, map, OnOk, IfOk};
 ghost use Rattle.rg_tree.specs.View.{expression, formula};
-ghost use Rattle.rg_tree.specs.Claims.{assignment};
+ghost use Rattle.rg_tree.specs.ConditionTrees.{assignment};
 ghost use Rattle.rg_code.specs.Operations.{expression_operations, formula_operations};
 ghost use Rattle.rg_code.specs.Code.{store_of};
 ghost use Rattle.rg_code.specs.BlockView.{store as store_tree};

@@ -6,7 +6,7 @@ use Rattle.std.specs.Prelude.{All, ◌++◌, ◌∷◌, []}
 use Rattle.rg_hints.specs.Lines.{Line}
 use lib.Signed.{lt_z}
 use Rattle.std.specs.Int.RustNames.{unsigned_abs}
-use Rattle.rg_clauses.specs.Formula.{literal_value, value_at, Satisfies}
+use Rattle.rg_clauses.specs.ClauseLists.{literal_value, value_at, Satisfies}
 
 no_test : (n : ℕ) → lt_z (pos n) (pos 0) ≡ true → ⊥
 no_test n h = grind (arith, nat_tests)

@@ -3,19 +3,19 @@ use Rattle.std.specs.Prelude.{◌≡◌, ℕ, nat_lt, length, Option, Some, None
 use Rattle.rg_words.specs.declared.limits.TheConstants.{MOST_DECISIONS}
 use Rattle.rg_words.specs.declared.refusal.RefusalNumber.{RefusalNumber}
 use Rattle.rg_words.specs.declared.refusal.RefusalNumber.TheVariants.{Limit}
-use Rattle.rg_clauses.specs.Formula.{Formula, Satisfies, IsUnsatisfiable, value_at}
+use Rattle.rg_clauses.specs.ClauseLists.{Cnf, Satisfies, IsUnsatisfiable, value_at}
 use Rattle.rg_hints.specs.Verdict.{IsClosed}
 use Rattle.rg_find.specs.declared.answer.Found.{Found}
 use Rattle.rg_find.specs.declared.answer.Found.TheVariants.{Lines, Values, GaveUp}
 
 -- lines are over as many given clauses as the formula has
-abbrev pub IsOver : Formula → Found → Type 0
+abbrev pub IsOver : Cnf → Found → Type 0
 IsOver f (Lines lines) = lines.given ≡ length f.clauses
 IsOver f (Values values) = Unit {0}
 IsOver f GaveUp = Unit {0}
 
 -- lines are over the clauses, are closed for them, and no values satisfy the clauses; values are those of all variables, and satisfy the clauses
-abbrev pub IsFound : Formula → Found → Type 0
+abbrev pub IsFound : Cnf → Found → Type 0
 IsFound f (Lines lines) = (lines.given ≡ length f.clauses) × IsClosed f.clauses lines × IsUnsatisfiable f.clauses
 IsFound f (Values values) = (length values.items ≡ f.variables) × Satisfies (value_at values.items) f.clauses
 IsFound f GaveUp = Unit {0}

@@ -7,15 +7,15 @@ use Rattle.rg_words.specs.declared.refusal.SourceFile.{SourceFile}
 use Rattle.rg_words.specs.declared.refusal.Place.TheVariants.{Condition}
 use Rattle.rg_words.specs.Refusals.{no_memory, refused, refused_in}
 use Rattle.rg_words.specs.States.{Valuation, IsPair}
-use Rattle.rg_tree.specs.Claims.{Claim, condition_holds, ConditionHolds}
+use Rattle.rg_tree.specs.ConditionTrees.{ConditionTree, condition_holds, ConditionHolds}
 use Rattle.rg_bits.specs.Inputs.{state_of, own_second}
-use Rattle.rg_clauses.specs.Conditions.{clauses_of_claim}
+use Rattle.rg_clauses.specs.Conditions.{clauses_of_condition}
 use Rattle.rg_hints.specs.Verdict.{IsClosed}
 use Rattle.rg_find.specs.declared.judgement.Judged.{Judged}
 use Rattle.rg_find.specs.declared.judgement.Judged.TheVariants.{Holds, Fails, GaveUp}
 
 -- the condition fails at two states that agree on the fixed words: this one, and a second one that is this where the condition speaks of any two
-pub record FailsAt (c : Claim) (first : Valuation) (second : Option Valuation) : Type 0 where
+pub record FailsAt (c : ConditionTree) (first : Valuation) (second : Option Valuation) : Type 0 where
   pub before : List ℕ
   pub after : List ℕ
   pub pair : IsPair c.words before after
@@ -24,14 +24,14 @@ pub record FailsAt (c : Claim) (first : Valuation) (second : Option Valuation) :
   pub second_is : second ≡ own_second c.second c.words after
 
 -- lines are closed for the clauses of the condition, which is true; or it fails at the states
-abbrev pub IsJudged : Claim → Judged → Type 0
-IsJudged c (Holds lines) = (lines.given ≡ length (clauses_of_claim c).clauses) × IsClosed (clauses_of_claim c).clauses lines × ConditionHolds c
+abbrev pub IsJudged : ConditionTree → Judged → Type 0
+IsJudged c (Holds lines) = (lines.given ≡ length (clauses_of_condition c).clauses) × IsClosed (clauses_of_condition c).clauses lines × ConditionHolds c
 IsJudged c (Fails first second) = FailsAt c first second
 IsJudged c GaveUp = Unit {0}
 
 -- why nothing is said of it: for want of memory, for its variables, and for the decisions
-abbrev pub IsJudgeRefusal : Claim → SourceFile → ℕ → ℕ → Refusal → Type 0
+abbrev pub IsJudgeRefusal : ConditionTree → SourceFile → ℕ → ℕ → Refusal → Type 0
 IsJudgeRefusal c file number steps r =
     (r ≡ no_memory)
-    ⊎ ((MOST_VARIABLES < (clauses_of_claim c).variables) × (r ≡ refused_in Limit file (Condition number)))
+    ⊎ ((MOST_VARIABLES < (clauses_of_condition c).variables) × (r ≡ refused_in Limit file (Condition number)))
     ⊎ ((MOST_DECISIONS < steps) × (r ≡ refused Limit))

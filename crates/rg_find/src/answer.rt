@@ -1,29 +1,18 @@
 //! The answer: lines that are checked, or values that are evaluated.
 
-ghost use Rattle.std.specs.Prelude.{◌≡◌, All, IfOk, IfErr, IsTrue};
+ghost use Rattle.std.specs.Prelude.{◌≡◌, All, IfOk, IfErr, IsTrue, false, slice_index_or};
 ghost use Rattle.rg_words.specs.Refusals.{no_memory, IsRefusedFor};
 ghost use Rattle.rg_words.specs.declared.limits.TheConstants.{MOST_VARIABLES};
-ghost use Rattle.rg_clauses.specs.Formula.{IsLiteral, Satisfies, SatisfiesClause, literal_value, value_at};
+ghost use Rattle.rg_clauses.specs.ClauseLists.{IsLiteral, Satisfies, SatisfiesClause, literal_value, value_at};
 ghost use Rattle.rg_find.specs.Found.{IsFound, IsOver, fault_of};
 
-use crate::circuit::Circuit;
 use crate::logged_lines::lines_of;
-use crate::search::Outcome;
-use crate::solver::{Solver, TRUE};
-use crate::sweep::Sweep;
-use crate::table::at;
-use crate::watcher::{Unwatched, Watcher};
 use rg_clauses::Clauses;
 use rg_hints::{Lines, check};
+use rg_search::{Answer, Given, Unwatched, Watcher, solve};
 use rg_words::limits::MOST_DECISIONS;
 use rg_words::{Refusal, RefusalNumber};
 use std::alloc::{AllocError, Global};
-
-/// The least conflicts at which the search before the first counted decision ends.
-const LEAST_CONFLICTS: u64 = 10_000;
-
-/// The most conflicts at which it ends.
-const MOST_CONFLICTS: u64 = 1_000_000;
 
 /// What a search found.
 #[derive(Drop)]
@@ -36,48 +25,7 @@ pub enum Found {
     GaveUp,
 }
 
-/// The values that the search gave the variables.
-fn values_of(alloc: Global, variables: u32, solver: &Solver) -> Result<Vec<bool>, AllocError> {
-    let mut values = Vec::new(alloc);
-    for variable in 0..variables {
-        let code = variable.wrapping_add(1).wrapping_mul(2);
-        values.push(solver.value(code) == TRUE)?;
-    }
-    Ok(values)
-}
-
-fn has_empty(clauses: &Clauses) -> bool {
-    for index in 0..clauses.len() {
-        if clauses.literals(index).is_empty() {
-            return true;
-        }
-    }
-    false
-}
-
-/// What comes before the first counted decision: units, the sweep, and a search over inputs and gates for as many
-/// conflicts as there may be decisions, at least some and not too many.
-fn prepare<W: Watcher>(
-    alloc: Global,
-    clauses: &Clauses,
-    steps: u64,
-    solver: &mut Solver,
-    watcher: &mut W,
-) -> Result<(), AllocError> {
-    solver.load(clauses)?;
-    let circuit = Circuit::read(alloc, clauses)?;
-    let mut sweep = Sweep::new(alloc, &circuit)?;
-    sweep.run(solver, &circuit, watcher)?;
-    if circuit.assertion >= 2 {
-        let assertion = circuit.assertion;
-        let conflicts = steps.max(LEAST_CONFLICTS).min(MOST_CONFLICTS);
-        let _verdict = solver.exclude(&circuit, assertion, assertion, conflicts, watcher)?;
-        solver.backtrack(0)?;
-    }
-    Ok(())
-}
-
-/// The search itself, of which nothing is promised.
+/// What the search finds, of which nothing is promised.
 fn searched<W: Watcher>(
     alloc: Global,
     clauses: &Clauses,
@@ -86,36 +34,28 @@ fn searched<W: Watcher>(
 ) -> Result<Found, AllocError>
     ensures { IfOk result (IsOver clauses.now) }
 {
-    let given = clauses.len();
-    if has_empty(clauses) {
-        return Ok(Found::Lines(Lines::new(alloc, given)));
-    }
-    let variables = clauses.variables();
-    let inputs = clauses.inputs() as usize;
-    let number = u32::try_from(given).unwrap_or(u32::MAX);
-    let mut solver = Solver::new(alloc, variables as usize, inputs, number)?;
-    searched_by(&mut solver, alloc, clauses, steps, watcher)
-}
-
-/// The search by a solver, which the caller lets go of in one place.
-fn searched_by<W: Watcher>(
-    solver: &mut Solver,
-    alloc: Global,
-    clauses: &Clauses,
-    steps: u64,
-    watcher: &mut W,
-) -> Result<Found, AllocError>
-    ensures { IfOk result (IsOver clauses.now) }
-{
-    prepare(alloc, clauses, steps, solver, watcher)?;
-    match solver.search(steps, watcher)? {
-        Outcome::Refuted => match lines_of(alloc, clauses.len(), &solver.log)? {
+    let (literals, starts) = clauses.flat();
+    let given = Given {
+        variables: clauses.variables(),
+        inputs: clauses.inputs(),
+        literals,
+        starts,
+    };
+    match solve(alloc, given, steps, watcher)? {
+        Answer::Refuted(refutation) => match lines_of(alloc, clauses.len(), &refutation)? {
             Some(lines) => Ok(Found::Lines(lines)),
             None => Ok(Found::GaveUp),
         },
-        Outcome::Assigned => Ok(Found::Values(values_of(alloc, clauses.variables(), solver)?)),
-        Outcome::GaveUp => Ok(Found::GaveUp),
+        Answer::Satisfied(values) => Ok(Found::Values(values)),
+        Answer::GaveUp => Ok(Found::GaveUp),
     }
+}
+
+/// The value at a place, and false past the end.
+fn at(values: &[bool], place: usize) -> bool
+    ensures { result ≡ slice_index_or values.now place false }
+{
+    values.get(place).copied().unwrap_or(false)
 }
 
 /// Whether the values make a literal true.
@@ -124,7 +64,7 @@ fn holds(values: &[bool], literal: i32) -> bool
     ensures { result ≡ literal_value (value_at values.now) literal }
 {
     let place = literal.unsigned_abs() as usize - 1;
-    let value = at(values, place, false);
+    let value = at(values, place);
     if literal < 0 { !value } else { value }
 }
 

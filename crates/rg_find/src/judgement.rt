@@ -3,15 +3,15 @@
 ghost use Rattle.std.specs.Prelude.{◌≡◌, ◌≤◌, IfOk, IfErr};
 ghost use Rattle.rg_words.specs.declared.limits.TheConstants.{MOST_VARIABLES};
 ghost use Rattle.rg_words.specs.declared.refusal.Place.TheVariants.{Condition as the_condition};
-ghost use Rattle.rg_tree.specs.Conditions.{claim};
-ghost use Rattle.rg_clauses.specs.Conditions.{clauses_of_claim};
+ghost use Rattle.rg_tree.specs.Conditions.{condition_tree};
+ghost use Rattle.rg_clauses.specs.Conditions.{clauses_of_condition};
 ghost use Rattle.rg_find.specs.Judged.{IsJudged, IsJudgeRefusal};
 
 use crate::answer::{Found, find_watched};
-use crate::watcher::Watcher;
 use rg_bits::states;
 use rg_clauses::Clauses;
 use rg_hints::Lines;
+use rg_search::Watcher;
 use rg_tree::condition::Condition;
 use rg_words::{Refusal, SourceFile, State};
 use std::alloc::Global;
@@ -43,9 +43,9 @@ pub fn judge<W: Watcher>(
     watcher: &mut W,
 ) -> Result<Judged, Refusal>
     // Lines are closed for its clauses, and it is true; or it fails at the states.
-    ensures judged { IfOk result (IsJudged (claim condition.now)) }
-    ensures within { IfOk result (λ _. (clauses_of_claim (claim condition.now)).variables ≤ MOST_VARIABLES) }
-    ensures refusal { IfErr result (IsJudgeRefusal (claim condition.now) file number steps) }
+    ensures judged { IfOk result (IsJudged (condition_tree condition.now)) }
+    ensures within { IfOk result (λ _. (clauses_of_condition (condition_tree condition.now)).variables ≤ MOST_VARIABLES) }
+    ensures refusal { IfErr result (IsJudgeRefusal (condition_tree condition.now) file number steps) }
 {
     let clauses = match Clauses::of(alloc, condition, file, number) {
         Ok(clauses) => clauses,

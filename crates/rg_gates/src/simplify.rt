@@ -2,7 +2,7 @@
 
 ghost use Rattle.std.specs.Prelude.{◌≡◌};
 ghost use Rattle.rg_gates.specs.And.{rank};
-ghost use Rattle.rg_gates.specs.Simplified.{IsSimplified};
+ghost use Rattle.rg_gates.specs.Inner.Simplified.{IsSimplified};
 
 use crate::{Gate, Lit};
 

@@ -7,7 +7,7 @@ use Rattle.std.proofs.lemmas.Bool.{cases_Bool, eqb-true}
 use Rattle.std.proofs.lemmas.List.{append_assoc, append-nil, append_cancel_right, length-append, take-append-drop}
 use Rattle.std.proofs.lemmas.List.Elements.{All-push}
 use Rattle.rg_hints.specs.LineEnds.{EndsLine, IsFrontLine}
-use Rattle.rg_hints.specs.SectionForms.{IsPlain, IsPlainLine, ArePlainLines}
+use Rattle.rg_hints.specs.Inner.SectionForms.{IsPlain, IsPlainLine, ArePlainLines}
 use Rattle.rg_hints.proofs.TextSteps.{split_front}
 
 abbrev is_line_feed : ℕ → Bool

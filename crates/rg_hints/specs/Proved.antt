@@ -7,8 +7,8 @@ use Rattle.rg_words.specs.declared.refusal.RefusalNumber.TheVariants.{Limit, NoS
 use Rattle.rg_words.specs.declared.refusal.SourceFile.TheVariants.{Derivation, Proofs}
 use Rattle.rg_words.specs.declared.refusal.Place.TheVariants.{Condition}
 use Rattle.rg_words.specs.Refusals.{no_memory, refused_in, refused_at}
-use Rattle.rg_tree.specs.Claims.{Claim}
-use Rattle.rg_clauses.specs.Conditions.{clauses_of_claim}
+use Rattle.rg_tree.specs.ConditionTrees.{ConditionTree}
+use Rattle.rg_clauses.specs.Conditions.{clauses_of_condition}
 use Rattle.rg_hints.specs.Lines.{Section}
 use Rattle.rg_hints.specs.Reading.{hint_lines_of, section_with}
 use Rattle.rg_hints.specs.Verdict.{IsClosed, IsSectionRefusal}
@@ -34,21 +34,21 @@ AreClosedBy clauses (Some text) = Closes clauses text
 AreClosedBy clauses None = Contains clauses []
 
 -- a condition is proved by its section, or without one: its clauses keep the limit of variables, and are closed
-pub record IsProvedBy (section : Option SectionText) (c : Claim) : Type 0 where
-  pub within : (clauses_of_claim c).variables ≤ MOST_VARIABLES
-  pub closed : AreClosedBy (clauses_of_claim c).clauses section
+pub record IsProvedBy (section : Option SectionText) (c : ConditionTree) : Type 0 where
+  pub within : (clauses_of_condition c).variables ≤ MOST_VARIABLES
+  pub closed : AreClosedBy (clauses_of_condition c).clauses section
 
 -- each of these conditions, which are numbered from this number on, is proved by its section or without one
-abbrev pub AllProvedFrom : List SectionText → ℕ → List Claim → Type 0
+abbrev pub AllProvedFrom : List SectionText → ℕ → List ConditionTree → Type 0
 AllProvedFrom sections k [] = Unit {0}
 AllProvedFrom sections k (c ∷ cs) = IsProvedBy (section_for sections k) c × AllProvedFrom sections (k + 1) cs
 
 -- a proofs file proves conditions: it keeps its size, its heads name conditions and rise, no hint line is before the first, and each condition is proved
-pub record AreProved (claims : List Claim) (proofs : List ℕ) : Type 0 where
+pub record AreProved (conditions : List ConditionTree) (proofs : List ℕ) : Type 0 where
   pub size : length proofs ≤ MOST_PROOF_BYTES
   pub sections : List SectionText
-  pub heads : sections_of (length claims) proofs ≡ Ok sections
-  pub each : AllProvedFrom sections 1 claims
+  pub heads : sections_of (length conditions) proofs ≡ Ok sections
+  pub each : AllProvedFrom sections 1 conditions
 
 -- why clauses, which are those of the condition with this number, are not closed by their section: its first faulty line, then its least line that does not follow, then that nothing is empty; where they have none, that none of them is empty
 abbrev pub IsUnclosed : List (List ℤ) → ℕ → Option SectionText → Refusal → Type 0
@@ -57,23 +57,23 @@ IsUnclosed clauses k (Some text) e =
 IsUnclosed clauses k None e = (Contains clauses [] → ⊥) × (e ≡ refused_in NoSection Proofs (Condition k))
 
 -- why the condition with this number is refused, by its section or without one: for want of memory, or since it has too many variables, or else since its clauses are not closed
-abbrev pub IsConditionRefusal : Option SectionText → ℕ → Claim → Refusal → Type 0
+abbrev pub IsConditionRefusal : Option SectionText → ℕ → ConditionTree → Refusal → Type 0
 IsConditionRefusal section k c e =
     (e ≡ no_memory)
-    ⊎ ((MOST_VARIABLES < (clauses_of_claim c).variables) × (e ≡ refused_in Limit Derivation (Condition k)))
-    ⊎ (((clauses_of_claim c).variables ≤ MOST_VARIABLES) × IsUnclosed (clauses_of_claim c).clauses k section e)
+    ⊎ ((MOST_VARIABLES < (clauses_of_condition c).variables) × (e ≡ refused_in Limit Derivation (Condition k)))
+    ⊎ (((clauses_of_condition c).variables ≤ MOST_VARIABLES) × IsUnclosed (clauses_of_condition c).clauses k section e)
 
 -- the refusal of the first condition that is not proved, of those that are numbered from this number on
-abbrev pub IsFirstRefusal : List SectionText → ℕ → List Claim → Refusal → Type 0
+abbrev pub IsFirstRefusal : List SectionText → ℕ → List ConditionTree → Refusal → Type 0
 IsFirstRefusal sections k [] e = ⊥
 IsFirstRefusal sections k (c ∷ cs) e =
     IsConditionRefusal (section_for sections k) k c e ⊎ (IsProvedBy (section_for sections k) c × IsFirstRefusal sections (k + 1) cs e)
 
 -- why a proofs file is refused: for want of memory, or for its size, then for its first line at fault before a head or in one, then for the first condition
-abbrev pub IsProofsRefusal : List Claim → List ℕ → Refusal → Type 0
-IsProofsRefusal claims proofs e =
+abbrev pub IsProofsRefusal : List ConditionTree → List ℕ → Refusal → Type 0
+IsProofsRefusal conditions proofs e =
     (e ≡ no_memory)
     ⊎ ((MOST_PROOF_BYTES < length proofs) × (e ≡ refused_at Limit Proofs 1))
     ⊎ ((length proofs ≤ MOST_PROOF_BYTES)
-    × ((sections_of (length claims) proofs ≡ Err e)
-    ⊎ ((sections : List SectionText) × (sections_of (length claims) proofs ≡ Ok sections) × IsFirstRefusal sections 1 claims e)))
+    × ((sections_of (length conditions) proofs ≡ Err e)
+    ⊎ ((sections : List SectionText) × (sections_of (length conditions) proofs ≡ Ok sections) × IsFirstRefusal sections 1 conditions e)))

@@ -2,11 +2,11 @@
 
 ghost use Rattle.std.specs.Prelude.{◌≡◌, ◌⊎◌, ℕ, ◌+◌, ◌^◌, ◌<◌, length, map, drop, option_map, IfOk, OnOk, IfErr, IfSome};
 ghost use Rattle.rg_words.specs.Refusals.{no_memory};
-ghost use Rattle.rg_tree.specs.Conditions.{claim, ConditionHolds};
-ghost use Rattle.rg_tree.specs.Obligations.{AllConditionsHold};
-ghost use Rattle.rg_clauses.specs.Formula.{IsUnsatisfiable};
+ghost use Rattle.rg_tree.specs.Conditions.{condition_tree, ConditionHolds};
+ghost use Rattle.rg_tree.specs.RuleConditions.{AllConditionsHold};
+ghost use Rattle.rg_clauses.specs.ClauseLists.{IsUnsatisfiable};
 ghost use Rattle.rg_hints.specs.Proved.{section_for, Closes, AreClosedBy, IsProvedBy, AllProvedFrom, AreProved, IsUnclosed, IsConditionRefusal, IsFirstRefusal, IsProofsRefusal};
-ghost use Rattle.rg_hints.specs.SectionForms.{text_of, HasRoom, AreFrom};
+ghost use Rattle.rg_hints.specs.Inner.SectionForms.{text_of, HasRoom, AreFrom};
 
 use crate::lines::Lines;
 use crate::section::{check, has_empty_clause};
@@ -72,10 +72,10 @@ fn prove_condition(
     section: Option<SectionBytes<'_>>,
 ) -> Result<(), Refusal>
     requires { IfSome section HasRoom }
-    ensures proved { OnOk result (IsProvedBy (option_map text_of section.entry) (claim condition.now)) }
-    ensures holds { OnOk result (ConditionHolds (claim condition.now)) }
-    ensures refused { IfErr result (IsConditionRefusal (option_map text_of section.entry) number (claim condition.now)) }
-    ensures only { IsProvedBy (option_map text_of section.entry) (claim condition.now) → IfErr result (λ e. e ≡ no_memory) }
+    ensures proved { OnOk result (IsProvedBy (option_map text_of section.entry) (condition_tree condition.now)) }
+    ensures holds { OnOk result (ConditionHolds (condition_tree condition.now)) }
+    ensures refused { IfErr result (IsConditionRefusal (option_map text_of section.entry) number (condition_tree condition.now)) }
+    ensures only { IsProvedBy (option_map text_of section.entry) (condition_tree condition.now) → IfErr result (λ e. e ≡ no_memory) }
 {
     let clauses = match Clauses::of(alloc, condition, SourceFile::Derivation, number) {
         Ok(clauses) => clauses,
@@ -115,10 +115,10 @@ fn prove_each(
     sections: &[SectionBytes<'_>],
 ) -> Result<(), Refusal>
     requires { AreFrom 1 sections.now }
-    ensures proved { OnOk result (AllProvedFrom (map text_of sections.now) 1 (map claim conditions.now)) }
-    ensures holds { OnOk result (AllConditionsHold (map claim conditions.now)) }
-    ensures refused { IfErr result (λ e. (e ≡ no_memory) ⊎ IsFirstRefusal (map text_of sections.now) 1 (map claim conditions.now) e) }
-    ensures accepts { AllProvedFrom (map text_of sections.now) 1 (map claim conditions.now) → IfErr result (λ e. e ≡ no_memory) }
+    ensures proved { OnOk result (AllProvedFrom (map text_of sections.now) 1 (map condition_tree conditions.now)) }
+    ensures holds { OnOk result (AllConditionsHold (map condition_tree conditions.now)) }
+    ensures refused { IfErr result (λ e. (e ≡ no_memory) ⊎ IsFirstRefusal (map text_of sections.now) 1 (map condition_tree conditions.now) e) }
+    ensures accepts { AllProvedFrom (map text_of sections.now) 1 (map condition_tree conditions.now) → IfErr result (λ e. e ≡ no_memory) }
 {
     let mut left = conditions;
     let mut place = 0;
@@ -150,10 +150,10 @@ fn prove_each(
 /// first faulty line of its section, `HintNotEarlier`, `HintNotUnit` or `NoConflict` at its least line that doesn't
 /// follow, `NoEmptyClause` at the condition. `Memory` where memory is refused.
 pub fn prove(alloc: Global, conditions: &[Condition], proofs: &[u8]) -> Result<(), Refusal>
-    ensures proved { OnOk result (AreProved (map claim conditions.now) proofs.now) }
-    ensures holds { OnOk result (AllConditionsHold (map claim conditions.now)) }
-    ensures refused { IfErr result (IsProofsRefusal (map claim conditions.now) proofs.now) }
-    ensures accepts { AreProved (map claim conditions.now) proofs.now → IfErr result (λ e. e ≡ no_memory) }
+    ensures proved { OnOk result (AreProved (map condition_tree conditions.now) proofs.now) }
+    ensures holds { OnOk result (AllConditionsHold (map condition_tree conditions.now)) }
+    ensures refused { IfErr result (IsProofsRefusal (map condition_tree conditions.now) proofs.now) }
+    ensures accepts { AreProved (map condition_tree conditions.now) proofs.now → IfErr result (λ e. e ≡ no_memory) }
 {
     if proofs.len() > MOST_PROOF_BYTES {
         return Err(Refusal::at(RefusalNumber::Limit, SourceFile::Proofs, Place::Line(1)));

@@ -4,7 +4,7 @@ ghost use Rattle.std.specs.Prelude.{◌≡◌, ℕ, ◌+◌, ◌^◌, ◌<◌, [
 ghost use Rattle.rg_hints.specs.Lines.{IsHintLiteral};
 ghost use Rattle.rg_hints.specs.Text.{fields_of};
 ghost use Rattle.rg_hints.specs.Reading.{literals_of, hints_of, hint_line, hint_line_of, reading_of};
-ghost use Rattle.rg_hints.specs.LineForms.{reading_as};
+ghost use Rattle.rg_hints.specs.Inner.LineForms.{reading_as};
 
 use crate::chain::refusal_at;
 use crate::lines::{Head, Lines};

@@ -140,7 +140,7 @@ impl<'e> Config<'e> {
         if matches!(block, Block::End) {
             return Stepped::Ended;
         }
-        let _ = self.state.len();
+        self.state.facts();
         match lead(&mut self.stack, block, &self.code.layout, &mut self.state) {
             Some(to) => {
                 self.places[part - 1] = to;
@@ -156,8 +156,8 @@ impl<'e> Config<'e> {
         ensures refused { IsFalse result → IsPair self.old.words self.old.state state.now.values → ⊥ }
         ensures same { IsFalse result → self.new ≡ self.old }
     {
-        let _ = state.len();
-        let _ = self.state.len();
+        state.facts();
+        self.state.facts();
         if !agree_on_fixed(&self.code.layout, &self.state, state) {
             return false;
         }

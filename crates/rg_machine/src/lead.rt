@@ -34,7 +34,7 @@ pub(crate) fn can_lead(stack: &mut Vec<u64>, block: &Block, layout: &Layout, sta
     ensures can { IsTrue result ↔ CanLead (Some (block_tree block.now)) state.now.values }
     ensures capacity { vec_capacity stack.old ≤ vec_capacity stack.new }
 {
-    let _ = state.len();
+    state.facts();
     match block {
         Block::Do(_, _, _) => true,
         Block::Test(_, _, _, _) => true,

@@ -19,8 +19,8 @@ pub(crate) fn agree_on_fixed(layout: &Layout, before: &State, after: &State) -> 
     requires after { after.now.widths ≡ widths_of layout.now }
     ensures { IsTrue result ↔ AgreeOnFixed layout.now before.now.values after.now.values }
 {
-    let _ = before.len();
-    let _ = after.len();
+    before.facts();
+    after.facts();
     for word in 0..layout.len() {
         if !same_if(layout.is_fixed(word), before.get(word), after.get(word)) {
             return false;
@@ -35,7 +35,7 @@ pub(crate) fn replace(state: &mut State, by: &State)
     ensures values { state.new.values ≡ by.now.values }
     ensures widths { state.new.widths ≡ state.old.widths }
 {
-    let _ = state.len();
+    state.facts();
     for word in 0..by.len() {
         state.set(word, by.get(word));
     }

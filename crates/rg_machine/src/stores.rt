@@ -26,7 +26,7 @@ pub(crate) fn is_told(
     ensures told { told_by guard.now state.now.values ≡ Some result }
     ensures capacity { vec_capacity stack.old ≤ vec_capacity stack.new }
 {
-    let _ = state.len();
+    state.facts();
     match work_out(stack, guard, state) {
         Some(x) => x != 0,
         None => false,
@@ -42,7 +42,7 @@ fn store_one(stack: &mut Vec<u64>, store: &Store, layout: &Layout, state: &mut S
     ensures widths { state.new.widths ≡ state.old.widths }
     ensures capacity { vec_capacity stack.old ≤ vec_capacity stack.new }
 {
-    let _ = state.len();
+    state.facts();
     if let Some(x) = work_out(stack, &store.value, state) {
         state.set(store.word, x);
     }

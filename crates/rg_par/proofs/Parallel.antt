@@ -11,11 +11,11 @@ use Rattle.rg_tree.specs.Statements.{Specification, PartTree, ProgramTree}
 use Rattle.rg_tree.specs.Traces.{State, holds_at, Move, Own, Env, Step, last, last_of, move_of, view, IsTrace, IsTraceOf, Inside, EnvInside}
 use Rattle.rg_tree.specs.Runs.{runs}
 use Rattle.rg_tree.specs.Programs.{nth, ViewsRun, all_true, OthersInside, PartsInside, IsSatisfied}
-use Rattle.rg_tree.specs.Obligations.{reaches, allows, IsMet, AllMet, AllHold, IsInside}
+use Rattle.rg_tree.specs.RuleConditions.{reaches, allows, IsMet, AllMet, AllHold, IsInside}
 use Rattle.rg_tree.proofs.Guards.{Guards, StatementSound}
 use Rattle.rg_tree.proofs.Asked.{inside_more, met_front, met_back}
 use Rattle.rg_tree.proofs.Beginnings.{Satisfies-Sound}
-use Rattle.rg_par.specs.Parallel.{pre_obligations, rely_obligations, guar_obligations, other_obligations, cross_obligations, parallel_obligations, ParallelRule}
+use Rattle.rg_par.specs.Parallel.{pre_conditions, rely_conditions, guar_conditions, other_conditions, cross_conditions, parallel_conditions, ParallelRule}
 
 -- from a fact about a view at its first step
 
@@ -59,39 +59,39 @@ nth_within (p ∷ ps) (suc n) h = nth_within ps n (omega arith)
 
 -- the conditions of the parallel list, one by one
 
-pre_at : (words : List Word) (pre : Proposition) (ps : List PartTree) (k : ℕ) (p : PartTree) → AllMet words (pre_obligations pre ps) → slice_get ps k ≡ Some p → IsMet words (reaches (pre ∷ []) [] p.spec.pre)
+pre_at : (words : List Word) (pre : Proposition) (ps : List PartTree) (k : ℕ) (p : PartTree) → AllMet words (pre_conditions pre ps) → slice_get ps k ≡ Some p → IsMet words (reaches (pre ∷ []) [] p.spec.pre)
 pre_at words pre [] k p h e = cc e
 pre_at words pre (q ∷ ps) zero p h e = let same : q ≡ p = cc e in subst (λ x. IsMet words (reaches (pre ∷ []) [] x.spec.pre)) same h.0
 pre_at words pre (q ∷ ps) (suc k) p h e = pre_at words pre ps k p h.1 e
 
-rely_at : (words : List Word) (rely : Proposition) (ps : List PartTree) (k : ℕ) (p : PartTree) → AllMet words (rely_obligations rely ps) → slice_get ps k ≡ Some p → IsInside words (holds rely) (holds p.spec.rely)
+rely_at : (words : List Word) (rely : Proposition) (ps : List PartTree) (k : ℕ) (p : PartTree) → AllMet words (rely_conditions rely ps) → slice_get ps k ≡ Some p → IsInside words (holds rely) (holds p.spec.rely)
 rely_at words rely [] k p h e = cc e
 rely_at words rely (q ∷ ps) zero p h e = let same : q ≡ p = cc e in subst (λ x. IsInside words (holds rely) (holds x.spec.rely)) same h.0
 rely_at words rely (q ∷ ps) (suc k) p h e = rely_at words rely ps k p h.1 e
 
-guar_at : (words : List Word) (guar : Proposition) (ps : List PartTree) (k : ℕ) (p : PartTree) → AllMet words (guar_obligations guar ps) → slice_get ps k ≡ Some p → IsInside words (holds p.spec.guar) (holds guar)
+guar_at : (words : List Word) (guar : Proposition) (ps : List PartTree) (k : ℕ) (p : PartTree) → AllMet words (guar_conditions guar ps) → slice_get ps k ≡ Some p → IsInside words (holds p.spec.guar) (holds guar)
 guar_at words guar [] k p h e = cc e
 guar_at words guar (q ∷ ps) zero p h e = let same : q ≡ p = cc e in subst (λ x. IsInside words (holds x.spec.guar) (holds guar)) same h.0
 guar_at words guar (q ∷ ps) (suc k) p h e = guar_at words guar ps k p h.1 e
 
-other_at : (words : List Word) (i : ℕ) (rely : Proposition) (j : ℕ) (ps : List PartTree) (k : ℕ) (p : PartTree) → AllMet words (other_obligations i rely j ps) → slice_get ps k ≡ Some p → i ≢ j + k → IsInside words (holds p.spec.guar) (holds rely)
+other_at : (words : List Word) (i : ℕ) (rely : Proposition) (j : ℕ) (ps : List PartTree) (k : ℕ) (p : PartTree) → AllMet words (other_conditions i rely j ps) → slice_get ps k ≡ Some p → i ≢ j + k → IsInside words (holds p.spec.guar) (holds rely)
 other_at words i rely j [] k p h e ne = cc e
 other_at words i rely j (q ∷ ps) zero p h e ne =
     let same : q ≡ p = cc e in
     let away : i ≢ j = λ x. ne (omega (arith, x)) in
-    let first = met_front words (if i == j then [] else allows q.spec.guar rely ∷ []) (other_obligations i rely (suc j) ps) h in
+    let first = met_front words (if i == j then [] else allows q.spec.guar rely ∷ []) (other_conditions i rely (suc j) ps) h in
     subst (λ x. IsInside words (holds x.spec.guar) (holds rely)) same (subst (λ b. AllMet words (if b then [] else allows q.spec.guar rely ∷ [])) (ne_eqb i j away) first).0
 other_at words i rely j (q ∷ ps) (suc k) p h e ne =
-    other_at words i rely (suc j) ps k p (met_back words (if i == j then [] else allows q.spec.guar rely ∷ []) (other_obligations i rely (suc j) ps) h) e (λ x. ne (omega (arith, x)))
+    other_at words i rely (suc j) ps k p (met_back words (if i == j then [] else allows q.spec.guar rely ∷ []) (other_conditions i rely (suc j) ps) h) e (λ x. ne (omega (arith, x)))
 
-cross_at : (words : List Word) (all : List PartTree) (i : ℕ) (ps : List PartTree) (k : ℕ) (p : PartTree) (n : ℕ) → AllMet words (cross_obligations all i ps) → slice_get ps k ≡ Some p → n ≡ i + k → AllMet words (other_obligations n p.spec.rely 1 all)
+cross_at : (words : List Word) (all : List PartTree) (i : ℕ) (ps : List PartTree) (k : ℕ) (p : PartTree) (n : ℕ) → AllMet words (cross_conditions all i ps) → slice_get ps k ≡ Some p → n ≡ i + k → AllMet words (other_conditions n p.spec.rely 1 all)
 cross_at words all i [] k p n h e j = cc e
 cross_at words all i (q ∷ ps) zero p n h e j =
     let same : q ≡ p = cc e in
     let num : i ≡ n = omega arith in
-    subst (λ x. AllMet words (other_obligations n x.spec.rely 1 all)) same (subst (λ m. AllMet words (other_obligations m q.spec.rely 1 all)) num (met_front words (other_obligations i q.spec.rely 1 all) (cross_obligations all (suc i) ps) h))
+    subst (λ x. AllMet words (other_conditions n x.spec.rely 1 all)) same (subst (λ m. AllMet words (other_conditions m q.spec.rely 1 all)) num (met_front words (other_conditions i q.spec.rely 1 all) (cross_conditions all (suc i) ps) h))
 cross_at words all i (q ∷ ps) (suc k) p n h e j =
-    cross_at words all (suc i) ps k p n (met_back words (other_obligations i q.spec.rely 1 all) (cross_obligations all (suc i) ps) h) e (omega arith)
+    cross_at words all (suc i) ps k p n (met_back words (other_conditions i q.spec.rely 1 all) (cross_conditions all (suc i) ps) h) e (omega arith)
 
 -- the view of the part at a place is a run of its body
 view_at : (i : ℕ) (ps : List PartTree) (es : List Bool) (s : State) (xs : List Step) (k : ℕ) (p : PartTree) (n : ℕ) → ViewsRun i ps es s xs → slice_get ps k ≡ Some p → n ≡ i + k → (e : Bool) × runs p.body s (view n xs) e × (all_true es ≡ true → e ≡ true)
@@ -122,12 +122,12 @@ record Fits (words : List Word) (spec : Specification) (parts : List PartTree) :
   guar : (i : ℕ) (p : PartTree) → nth parts i ≡ Some p → IsInside words (holds p.spec.guar) (holds spec.guar)
   post : IsMet words (reaches (map (λ p. p.spec.post) parts) [] spec.post)
 
-fits_of : (words : List Word) (spec : Specification) (parts : List PartTree) → AllMet words (parallel_obligations spec parts) → Fits words spec parts
+fits_of : (words : List Word) (spec : Specification) (parts : List PartTree) → AllMet words (parallel_conditions spec parts) → Fits words spec parts
 fits_of words spec parts h =
-    let a = pre_obligations spec.pre parts in
-    let b = rely_obligations spec.rely parts in
-    let c = cross_obligations parts 1 parts in
-    let d = guar_obligations spec.guar parts in
+    let a = pre_conditions spec.pre parts in
+    let b = rely_conditions spec.rely parts in
+    let c = cross_conditions parts 1 parts in
+    let d = guar_conditions spec.guar parts in
     let last_one = reaches (map (λ p. p.spec.post) parts) [] spec.post ∷ [] in
     let h_d = met_front words (((a ++ b) ++ c) ++ d) last_one h in
     let h_c = met_front words ((a ++ b) ++ c) d h_d in
@@ -144,19 +144,19 @@ fits_of words spec parts h =
       post = (met_back words (((a ++ b) ++ c) ++ d) last_one h).0;
     }
   where
-    pre_nth : AllMet words (pre_obligations spec.pre parts) → (i : ℕ) (p : PartTree) → nth parts i ≡ Some p → IsMet words (reaches (spec.pre ∷ []) [] p.spec.pre)
+    pre_nth : AllMet words (pre_conditions spec.pre parts) → (i : ℕ) (p : PartTree) → nth parts i ≡ Some p → IsMet words (reaches (spec.pre ∷ []) [] p.spec.pre)
     pre_nth h zero p e = cc e
     pre_nth h (suc i) p e = pre_at words spec.pre parts i p h e
 
-    rely_nth : AllMet words (rely_obligations spec.rely parts) → (i : ℕ) (p : PartTree) → nth parts i ≡ Some p → IsInside words (holds spec.rely) (holds p.spec.rely)
+    rely_nth : AllMet words (rely_conditions spec.rely parts) → (i : ℕ) (p : PartTree) → nth parts i ≡ Some p → IsInside words (holds spec.rely) (holds p.spec.rely)
     rely_nth h zero p e = cc e
     rely_nth h (suc i) p e = rely_at words spec.rely parts i p h e
 
-    guar_nth : AllMet words (guar_obligations spec.guar parts) → (i : ℕ) (p : PartTree) → nth parts i ≡ Some p → IsInside words (holds p.spec.guar) (holds spec.guar)
+    guar_nth : AllMet words (guar_conditions spec.guar parts) → (i : ℕ) (p : PartTree) → nth parts i ≡ Some p → IsInside words (holds p.spec.guar) (holds spec.guar)
     guar_nth h zero p e = cc e
     guar_nth h (suc i) p e = guar_at words spec.guar parts i p h e
 
-    cross_nth : AllMet words (cross_obligations parts 1 parts) → (i j : ℕ) (p q : PartTree) → nth parts i ≡ Some p → nth parts j ≡ Some q → j ≢ i → IsInside words (holds q.spec.guar) (holds p.spec.rely)
+    cross_nth : AllMet words (cross_conditions parts 1 parts) → (i j : ℕ) (p q : PartTree) → nth parts i ≡ Some p → nth parts j ≡ Some q → j ≢ i → IsInside words (holds q.spec.guar) (holds p.spec.rely)
     cross_nth h zero j p q e f ne = cc e
     cross_nth h (suc i) zero p q e f ne = cc f
     cross_nth h (suc i) (suc j) p q e f ne =
@@ -225,7 +225,7 @@ module _ (words : List Word) (spec : Specification) (parts : List PartTree) (fit
           let done = (sound (suc k) p e).ends s (view (suc k) xs) run (trace_view words (length parts) s (suc k) xs tr) (fits.pre (suc k) p e s (first_state s xs tr) (at, tt)) (inside (suc k) p e) in
           subst (λ t. holds_at p.spec.post t ≡ true) (last_view s (suc k) xs) done
 
-parallel_sound : (program : ProgramTree) → ((i : ℕ) (p : PartTree) → nth program.parts i ≡ Some p → StatementSound program.words p.spec p.body) → AllMet program.words (parallel_obligations program.spec program.parts) → IsSatisfied program
+parallel_sound : (program : ProgramTree) → ((i : ℕ) (p : PartTree) → nth program.parts i ≡ Some p → StatementSound program.words p.spec p.body) → AllMet program.words (parallel_conditions program.spec program.parts) → IsSatisfied program
 parallel_sound program sound conditions =
     let words = program.words in let spec = program.spec in let parts = program.parts in
     let fits = fits_of words spec parts conditions in

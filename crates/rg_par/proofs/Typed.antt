@@ -2,7 +2,7 @@
 use Rattle.std.proofs.Common.{◌≡◌, ℕ, zero, suc, ◌<◌, List, [], ◌∷◌, length, map, get_or, subst, sym, arith}
 use Rattle.rg_words.specs.Layout.{Word, widths_of}
 use Rattle.rg_tree.specs.Statements.{PartTree}
-use Rattle.rg_tree.specs.Claims.{AllTyped}
+use Rattle.rg_tree.specs.ConditionTrees.{AllTyped}
 use Rattle.rg_tree.specs.ProgramView.{specification, part}
 use Rattle.rg_tree.specs.TypedPrograms.{IsTypedSpecification, AreTypedParts}
 use Rattle.rg_tree.specs.declared.part.Part.{Part}

@@ -7,17 +7,17 @@ ghost use Rattle.rg_tree.specs.View.{formula};
 ghost use Rattle.rg_tree.specs.ProgramView.{specification, part};
 ghost use Rattle.rg_tree.specs.ProgramTrees.{program as program_tree};
 ghost use Rattle.rg_tree.specs.Programs.{IsSatisfied, PartsSatisfy};
-ghost use Rattle.rg_tree.specs.Conditions.{claim};
+ghost use Rattle.rg_tree.specs.Conditions.{condition_tree};
 ghost use Rattle.rg_tree.specs.Typing.{IsTyped};
 ghost use Rattle.rg_tree.specs.TypedPrograms.{IsTypedSpecification, AreTypedParts};
-ghost use Rattle.rg_tree.specs.Obligations.{obligation_claim, AllConditionsHold, allows as allows_of, reaches as reaches_of};
-ghost use Rattle.rg_par.specs.Parallel.{pre_obligations, rely_obligations, guar_obligations, other_obligations, cross_obligations, parallel_obligations};
+ghost use Rattle.rg_tree.specs.RuleConditions.{as_condition, AllConditionsHold, allows as allows_of, reaches as reaches_of};
+ghost use Rattle.rg_par.specs.Parallel.{pre_conditions, rely_conditions, guar_conditions, other_conditions, cross_conditions, parallel_conditions};
 
 use rg_tree::condition::Condition;
 use rg_tree::copy::copy_formula;
-use rg_tree::obligations::{allows, implies, reaches};
 use rg_tree::part::Part;
 use rg_tree::program::Program;
+use rg_tree::rule_conditions::{allows, implies, reaches};
 use rg_tree::tree::Formula;
 use rg_words::Layout;
 use std::alloc::{AllocError, Global};
@@ -33,7 +33,7 @@ fn add_pres(
 ) -> Result<(), AllocError>
     requires pre { IsTyped (widths_of layout.now) (formula pre.now) }
     requires parts { AreTypedParts layout.now (map part parts.now) }
-    ensures { OnOk result (map claim all.new.items ≡ map claim all.old.items ++ map (obligation_claim layout.now) (pre_obligations (formula pre.now) (map part parts.now))) }
+    ensures { OnOk result (map condition_tree all.new.items ≡ map condition_tree all.old.items ++ map (as_condition layout.now) (pre_conditions (formula pre.now) (map part parts.now))) }
 {
     for part in parts {
         all.push(implies(alloc, layout.copy()?, pre, &part.spec.pre)?)?;
@@ -51,7 +51,7 @@ fn add_relies(
 ) -> Result<(), AllocError>
     requires rely { IsTyped (widths_of layout.now) (formula rely.now) }
     requires parts { AreTypedParts layout.now (map part parts.now) }
-    ensures { OnOk result (map claim all.new.items ≡ map claim all.old.items ++ map (obligation_claim layout.now) (rely_obligations (formula rely.now) (map part parts.now))) }
+    ensures { OnOk result (map condition_tree all.new.items ≡ map condition_tree all.old.items ++ map (as_condition layout.now) (rely_conditions (formula rely.now) (map part parts.now))) }
 {
     for part in parts {
         all.push(allows(alloc, layout.copy()?, rely, &part.spec.rely)?)?;
@@ -69,7 +69,7 @@ fn add_guars(
 ) -> Result<(), AllocError>
     requires guar { IsTyped (widths_of layout.now) (formula guar.now) }
     requires parts { AreTypedParts layout.now (map part parts.now) }
-    ensures { OnOk result (map claim all.new.items ≡ map claim all.old.items ++ map (obligation_claim layout.now) (guar_obligations (formula guar.now) (map part parts.now))) }
+    ensures { OnOk result (map condition_tree all.new.items ≡ map condition_tree all.old.items ++ map (as_condition layout.now) (guar_conditions (formula guar.now) (map part parts.now))) }
 {
     for part in parts {
         all.push(allows(alloc, layout.copy()?, &part.spec.guar, guar)?)?;
@@ -89,7 +89,7 @@ fn add_other(
 ) -> Result<(), AllocError>
     requires rely { IsTyped (widths_of layout.now) (formula rely.now) }
     requires part { IsTypedSpecification layout.now (specification part.now.spec) }
-    ensures { OnOk result (map claim all.new.items ≡ map claim all.old.items ++ map (obligation_claim layout.now) (if i == j then [] else allows_of (formula part.now.spec.guar) (formula rely.now) ∷ [])) }
+    ensures { OnOk result (map condition_tree all.new.items ≡ map condition_tree all.old.items ++ map (as_condition layout.now) (if i == j then [] else allows_of (formula part.now.spec.guar) (formula rely.now) ∷ [])) }
 {
     if i != j {
         all.push(allows(alloc, layout.copy()?, &part.spec.guar, rely)?)?;
@@ -109,7 +109,7 @@ fn add_others(
     requires rely { IsTyped (widths_of layout.now) (formula rely.now) }
     requires parts { AreTypedParts layout.now (map part parts.now) }
     requires most { length parts.now ≤ MOST_PARTS }
-    ensures { OnOk result (map claim all.new.items ≡ map claim all.old.items ++ map (obligation_claim layout.now) (other_obligations i (formula rely.now) 1 (map part parts.now))) }
+    ensures { OnOk result (map condition_tree all.new.items ≡ map condition_tree all.old.items ++ map (as_condition layout.now) (other_conditions i (formula rely.now) 1 (map part parts.now))) }
 {
     for (j, part) in parts.iter().enumerate() {
         add_other(alloc, all, layout, i, rely, j + 1, part)?;
@@ -126,7 +126,7 @@ fn add_crosses(
 ) -> Result<(), AllocError>
     requires parts { AreTypedParts layout.now (map part parts.now) }
     requires most { length parts.now ≤ MOST_PARTS }
-    ensures { OnOk result (map claim all.new.items ≡ map claim all.old.items ++ map (obligation_claim layout.now) (cross_obligations (map part parts.now) 1 (map part parts.now))) }
+    ensures { OnOk result (map condition_tree all.new.items ≡ map condition_tree all.old.items ++ map (as_condition layout.now) (cross_conditions (map part parts.now) 1 (map part parts.now))) }
 {
     for (i, part) in parts.iter().enumerate() {
         add_others(alloc, all, layout, i + 1, &part.spec.rely, parts)?;
@@ -156,7 +156,7 @@ fn add_post(
 ) -> Result<(), AllocError>
     requires post { IsTyped (widths_of layout.now) (formula post.now) }
     requires parts { AreTypedParts layout.now (map part parts.now) }
-    ensures { OnOk result (map claim all.new.items ≡ map claim all.old.items ++ map (obligation_claim layout.now) (reaches_of (map (λ p. p.spec.post) (map part parts.now)) [] (formula post.now) ∷ [])) }
+    ensures { OnOk result (map condition_tree all.new.items ≡ map condition_tree all.old.items ++ map (as_condition layout.now) (reaches_of (map (λ p. p.spec.post) (map part parts.now)) [] (formula post.now) ∷ [])) }
 {
     let posts = posts(alloc, parts)?;
     let post = copy_formula(alloc, post)?;
@@ -175,7 +175,7 @@ pub fn add_conditions(
     program: &Program,
 ) -> Result<(), AllocError>
     // Exactly the rule's list, behind what was there.
-    ensures { OnOk result (map claim all.new.items ≡ map claim all.old.items ++ map (obligation_claim program.now.layout) (parallel_obligations (specification program.now.spec) (map part program.now.parts.items))) }
+    ensures { OnOk result (map condition_tree all.new.items ≡ map condition_tree all.old.items ++ map (as_condition program.now.layout) (parallel_conditions (specification program.now.spec) (map part program.now.parts.items))) }
 {
     let layout = &program.layout;
     let parts = program.parts.as_slice();
@@ -192,9 +192,9 @@ pub fn add_conditions(
 /// Refused only where memory was refused.
 pub fn conditions(alloc: Global, program: &Program) -> Result<Vec<Condition>, AllocError>
     // Exactly the rule's list.
-    ensures list { IfOk result (λ all. map claim all.items ≡ map (obligation_claim program.now.layout) (parallel_obligations (specification program.now.spec) (map part program.now.parts.items))) }
+    ensures list { IfOk result (λ all. map condition_tree all.items ≡ map (as_condition program.now.layout) (parallel_conditions (specification program.now.spec) (map part program.now.parts.items))) }
     // Where they are true and each part satisfies its own specification, the program satisfies its specification.
-    ensures sound { IfOk result (λ all. AllConditionsHold (map claim all.items) → PartsSatisfy (program_tree program.now) → IsSatisfied (program_tree program.now)) }
+    ensures sound { IfOk result (λ all. AllConditionsHold (map condition_tree all.items) → PartsSatisfy (program_tree program.now) → IsSatisfied (program_tree program.now)) }
 {
     let mut all = Vec::new(alloc);
     add_conditions(alloc, &mut all, program)?;

@@ -3,7 +3,7 @@
 ghost use Rattle.std.specs.Prelude.{◌≡◌, ◌++◌, ◌≤◌, ◌==◌, if◌then◌else◌, [], ◌∷◌, map, length, codes, string_bytes, OnOk, IfOk};
 ghost use Rattle.rg_words.specs.declared.limits.TheConstants.{MOST_PARTS};
 ghost use Rattle.rg_tree.specs.ProgramView.{specification, part};
-ghost use Rattle.rg_par.specs.Parallel.{parallel_obligations};
+ghost use Rattle.rg_par.specs.Parallel.{parallel_conditions};
 ghost use Rattle.rg_par.specs.Names.{of_part, of_two, other_names, cross_names, parallel_names};
 
 use rg_tree::part::Part;
@@ -108,7 +108,7 @@ pub fn add_names(alloc: Global, all: &mut Vec<String>, program: &Program) -> Res
 pub fn names(alloc: Global, program: &Program) -> Result<Vec<String>, AllocError>
     ensures exact { IfOk result (λ all. map string_bytes all.items ≡ parallel_names (map part program.now.parts.items)) }
     // One for each condition.
-    ensures count { IfOk result (λ all. length all.items ≡ length (parallel_obligations (specification program.now.spec) (map part program.now.parts.items))) }
+    ensures count { IfOk result (λ all. length all.items ≡ length (parallel_conditions (specification program.now.spec) (map part program.now.parts.items))) }
 {
     let mut all = Vec::new(alloc);
     add_names(alloc, &mut all, program)?;

@@ -8,7 +8,7 @@ use Rattle.rg_text.specs.declared.kind.Kind.{Kind}
 use Rattle.rg_text.specs.Text.{text_of}
 use Rattle.rg_text.specs.Tokenization.{gap_len, gap_end, line_at, IsLongest, AreTokens, IsTokenized}
 use Rattle.rg_text.proofs.LineFeeds.{line_on, line_behind}
-use Rattle.rg_parse.specs.Grammar.{Lexeme, lexeme_as, lexeme_of}
+use Rattle.rg_syntax.specs.Grammar.{Lexeme, lexeme_as, lexeme_of}
 use Rattle.rg_parse.proofs.PrintedStands.{printed_leaf}
 
 -- behind a gap without LF stands the longest token, a lexeme of the first line, and then the rest

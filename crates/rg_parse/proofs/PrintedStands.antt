@@ -17,13 +17,13 @@ use Rattle.rg_tree.specs.Trees as tree
 use Rattle.rg_tree.specs.Trees.{Expression, Proposition}
 use Rattle.rg_tree.specs.Typing.{HasWidth, IsTyped}
 use Rattle.rg_tree.specs.Printed.{name_text}
-use Rattle.rg_parse.specs.Grammar.{FormulaText, ExpressionText}
-use Rattle.rg_parse.specs.Grammar as grammar
-use Rattle.rg_parse.specs.Syntax as written
-use Rattle.rg_parse.specs.Syntax.{Term, Claim}
-use Rattle.rg_parse.specs.Build.{claim_of, term_of}
-use Rattle.rg_parse.specs.ResolveFaults.{number_of, first_name}
-use Rattle.rg_parse.specs.ResolveTyping.{TermStandsFor, ClaimStandsFor, number, word, next_word, inverse, binary, shifted, choice, truth, negation, joined, implied, compared}
+use Rattle.rg_syntax.specs.Grammar.{FormulaSpelling, ExpressionSpelling}
+use Rattle.rg_syntax.specs.Grammar as grammar
+use Rattle.rg_syntax.specs.Written as written
+use Rattle.rg_syntax.specs.Written.{Term, Claim}
+use Rattle.rg_syntax.specs.Texts.{claim_of, term_of}
+use Rattle.rg_resolve.specs.Faults.{number_of, first_name}
+use Rattle.rg_resolve.specs.Typing.{TermStandsFor, ClaimStandsFor, number, word, next_word, inverse, binary, shifted, choice, truth, negation, joined, implied, compared}
 use Rattle.rg_parse.specs.PrintedBack.{names_word, ComparesWordsInside, ComparesWords, ReadComparesWords}
 
 -- a text in the first line
@@ -31,7 +31,7 @@ abbrev pub printed_leaf : List ℕ → Leaf
 printed_leaf text = record { text = text; line = 1 }
 
 -- a chain of two, or a conditional
-abbrev pub connected_as : Connective → FormulaText → FormulaText → FormulaText
+abbrev pub connected_as : Connective → FormulaSpelling → FormulaSpelling → FormulaSpelling
 connected_as connectives.And f g = grammar.junction junctions.And (grammar.pair f g)
 connected_as connectives.Or f g = grammar.junction junctions.Or (grammar.pair f g)
 connected_as connectives.Implies f g = grammar.conditional conditionals.Implies f g
@@ -39,13 +39,13 @@ connected_as connectives.Iff f g = grammar.conditional conditionals.Iff f g
 
 -- how a printed formula, and a printed expression, is written
 abbrev mutual
-  pub printed_formula : List Word → Proposition → FormulaText
+  pub printed_formula : List Word → Proposition → FormulaSpelling
   printed_formula words (tree.truth b) = grammar.truth b
   printed_formula words (tree.negation f) = grammar.negation (printed_formula words f)
   printed_formula words (tree.connected c f g) = connected_as c (printed_formula words f) (printed_formula words g)
   printed_formula words (tree.compared c a b) = grammar.comparison c (printed_expression words a) (printed_expression words b)
 
-  pub printed_expression : List Word → Expression → ExpressionText
+  pub printed_expression : List Word → Expression → ExpressionSpelling
   printed_expression words (tree.number w n) = grammar.numeral (printed_leaf (decimal n))
   printed_expression words (tree.word k) = grammar.word (printed_leaf (name_text words k))
   printed_expression words (tree.next_word k) = grammar.next_word (printed_leaf (name_text words k ++ 39 ∷ []))
@@ -88,7 +88,7 @@ has_first words (tree.shifted d w a k) = has_first words a
 has_first words (tree.choice f a b) = either_some _ _ _ _ (has_first words a) (has_first words b)
 
 -- a junction or a conditional stands for its connective
-connected_stands : (words : List Word) (c : Connective) (s t : FormulaText) (f g : Proposition) → ClaimStandsFor words false (claim_of s) f → ClaimStandsFor words false (claim_of t) g → ClaimStandsFor words false (claim_of (connected_as c s t)) (tree.connected c f g)
+connected_stands : (words : List Word) (c : Connective) (s t : FormulaSpelling) (f g : Proposition) → ClaimStandsFor words false (claim_of s) f → ClaimStandsFor words false (claim_of t) g → ClaimStandsFor words false (claim_of (connected_as c s t)) (tree.connected c f g)
 connected_stands words connectives.And s t f g p q = joined junctions.And _ _ f g p q
 connected_stands words connectives.Or s t f g p q = joined junctions.Or _ _ f g p q
 connected_stands words connectives.Implies s t f g p q = implied conditionals.Implies _ _ f g p q

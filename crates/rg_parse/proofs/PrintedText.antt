@@ -15,15 +15,15 @@ use Rattle.rg_tree.specs.Typing.{HasWidth, IsTyped}
 use Rattle.rg_tree.specs.Printed.{operator_text, shift_text, comparison_text, connective_text, truth_text, name_text, between, expression_text, formula_text}
 use Rattle.rg_text.specs.declared.token.Token.{Token}
 use Rattle.rg_text.specs.Tokenization.{IsTokenized}
-use Rattle.rg_parse.specs.Grammar.{Lexeme, FormulaText, lexeme_as, opening, an_if, fixed, name, primed, lexeme_of, formula, expression}
-use Rattle.rg_parse.specs.Grammar as grammar
+use Rattle.rg_syntax.specs.Grammar.{Lexeme, FormulaSpelling, lexeme_as, opening, an_if, fixed, name, primed, lexeme_of, formula, expression}
+use Rattle.rg_syntax.specs.Grammar as grammar
 use Rattle.rg_parse.proofs.PrintedStands.{printed_leaf, connected_as, printed_formula, printed_expression, no_word, within_word, printed_stands}
 use Rattle.rg_parse.proofs.PrintedCuts.{Cut, cut_token, cut_tokens}
 use Rattle.rg_parse.proofs.PrintedTokens.{ends_word, name_token, primed_token, number_token, truth_token, cut_open, cut_close, cut_between, cut_before_space, operator_spaced, shift_spaced, comparison_spaced, connective_terminal, connective_spaced, not_spaced, inv_spaced, if_spaced, then_spaced, else_spaced}
 use Rattle.rg_parse.specs.PrintedBack.{PrintedSpells}
 
 -- the tokens of two formulas with a connective
-connected_lexemes : (c : Connective) (s t : FormulaText) (ls : List Lexeme) → formula (connected_as c s t) ls ≡ fixed Open ∷ formula s (lexeme_as (Fixed (connective_terminal c)) (printed_leaf (connective_text c)) ∷ formula t (fixed Close ∷ ls))
+connected_lexemes : (c : Connective) (s t : FormulaSpelling) (ls : List Lexeme) → formula (connected_as c s t) ls ≡ fixed Open ∷ formula s (lexeme_as (Fixed (connective_terminal c)) (printed_leaf (connective_text c)) ∷ formula t (fixed Close ∷ ls))
 connected_lexemes connectives.And s t ls = refl
 connected_lexemes connectives.Or s t ls = refl
 connected_lexemes connectives.Implies s t ls = refl

@@ -31,7 +31,7 @@ use Rattle.rg_text.proofs.KeywordTables.{no_keyword}
 use Rattle.rg_text.proofs.Longest.{longest_number, longest_word, longest_primed}
 use Rattle.rg_text.proofs.Symbols.{longest_short, longest_long}
 use Rattle.rg_tree.specs.Printed.{operator_text, shift_text, comparison_text, connective_text, truth_text, between}
-use Rattle.rg_parse.specs.Grammar.{Lexeme, fixed, lexeme_as}
+use Rattle.rg_syntax.specs.Grammar.{Lexeme, fixed, lexeme_as}
 use Rattle.rg_parse.proofs.PrintedStands.{printed_leaf}
 use Rattle.rg_parse.proofs.PrintedCuts.{Cut, IsToken, cut_space, cut_token}
 

@@ -8,13 +8,13 @@ use Rattle.rg_words.specs.declared.operators.Connective.TheVariants as connectiv
 use Rattle.rg_words.specs.Layout.{Word, widths_of}
 use Rattle.rg_tree.specs.Trees.{Expression, Proposition, number, word, next_word, inverse, binary, shifted, choice, truth, negation, connected, compared}
 use Rattle.rg_tree.specs.Typing.{IsTyped}
-use Rattle.rg_parse.specs.Grammar.{FormulaText}
-use Rattle.rg_parse.specs.Limits.{formula_fits, expression_fits}
+use Rattle.rg_syntax.specs.Grammar.{FormulaSpelling}
+use Rattle.rg_syntax.specs.Limits.{formula_fits, expression_fits}
 use Rattle.rg_parse.specs.PrintedBack.{expression_openers, formula_openers, PrintedIsRead, ReadPrintsBack}
 use Rattle.rg_parse.proofs.PrintedStands.{connected_as, printed_formula, printed_expression, printed_stands, read_compares_words}
 use Rattle.rg_parse.proofs.PrintedText.{printed_tokens, printed_spells}
-use Rattle.rg_parse.proofs.ResolveStands.{claim_faultless, claim_tree}
-use Rattle.rg_parse.proofs.ResolveTyped.{claim_typed, layout_is_narrow}
+use Rattle.rg_resolve.proofs.Stands.{claim_faultless, claim_tree}
+use Rattle.rg_resolve.proofs.Typed.{claim_typed, layout_is_narrow}
 
 both : (a b : Bool) → a ≡ true → b ≡ true → (a && b) ≡ true
 both a b h g = rw (h, g) refl
@@ -22,7 +22,7 @@ both a b h g = rw (h, g) refl
 room : (n m : ℕ) → n + (1 + m) ≤ MOST_OPENERS → nat_lt n MOST_OPENERS ≡ true
 room n m h = lt-ltb n MOST_OPENERS (omega arith)
 
-connected_fits : (n : ℕ) (c : Connective) (s t : FormulaText) → formula_fits n (connected_as c s t) ≡ (nat_lt n MOST_OPENERS && (formula_fits (suc n) s && formula_fits (suc n) t))
+connected_fits : (n : ℕ) (c : Connective) (s t : FormulaSpelling) → formula_fits n (connected_as c s t) ≡ (nat_lt n MOST_OPENERS && (formula_fits (suc n) s && formula_fits (suc n) t))
 connected_fits n connectives.And s t = refl
 connected_fits n connectives.Or s t = refl
 connected_fits n connectives.Implies s t = refl
@@ -61,6 +61,8 @@ printed_is_read words f layout typed named size depth =
       written = record {
         read = record { size = size; tokenized = read.1 };
         shallow = fits_formula words f 0 (omega arith);
+        short = tt;
+        counted = tt;
         spelled = read.2;
       };
       stands = printed_stands words layout f typed named;

@@ -4,24 +4,23 @@ use Rattle.rg_words.specs.declared.refusal.Refusal.{Refusal}
 use Rattle.rg_words.specs.declared.refusal.SourceFile.TheVariants.{Start, Moves}
 use Rattle.rg_words.specs.Layout.{Word}
 use Rattle.rg_tree.specs.Moves.{MoveTree}
-use Rattle.rg_parse.specs.declared.point.TextKind.TheVariants as texts
-use Rattle.rg_parse.specs.Build.{settings_of, moves_of}
-use Rattle.rg_parse.specs.ResolveSettings.{settings_faults, moves_faults, StartStandsFor, MovesStandFor}
+use Rattle.rg_syntax.specs.declared.text_kind.TextKind.TheVariants as texts
+use Rattle.rg_resolve.specs.Settings.{settings_faults, moves_faults, StartStandsFor, MovesStandFor}
 use Rattle.rg_parse.specs.Spelled.{Spells, IsTextRefusal}
 
 -- the bytes spell settings that stand for this state
 abbrev pub SpellsStart : List Word → List ℕ → List ℕ → Type 0
-SpellsStart words source state = Spells texts.Start settings_of (StartStandsFor words) source state
+SpellsStart words source state = Spells texts.Start (StartStandsFor words) source state
 
 abbrev pub IsStartRefusal : List Word → List ℕ → Refusal → Type 0
-IsStartRefusal words source e = IsTextRefusal texts.Start settings_of (settings_faults words) Start source e
+IsStartRefusal words source e = IsTextRefusal texts.Start (settings_faults words) Start source e
 
 -- the bytes spell these moves
 abbrev pub SpellsMoves : List Word → List ℕ → List MoveTree → Type 0
-SpellsMoves words source ms = Spells texts.Moves moves_of (MovesStandFor words) source ms
+SpellsMoves words source ms = Spells texts.Moves (MovesStandFor words) source ms
 
 abbrev pub IsMovesRefusal : List Word → List ℕ → Refusal → Type 0
-IsMovesRefusal words source e = IsTextRefusal texts.Moves moves_of (moves_faults words) Moves source e
+IsMovesRefusal words source e = IsTextRefusal texts.Moves (moves_faults words) Moves source e
 
 -- the same bytes spell one state, and one list of moves
 abbrev pub OneSpelledStart : Type 0

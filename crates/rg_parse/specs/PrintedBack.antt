@@ -7,10 +7,10 @@ use Rattle.rg_text.specs.Tokenization.{IsTokenized}
 use Rattle.rg_tree.specs.Trees.{Expression, Proposition, number, word, next_word, inverse, binary, shifted, choice, truth, negation, connected, compared}
 use Rattle.rg_tree.specs.Typing.{IsTyped}
 use Rattle.rg_tree.specs.Printed.{formula_text}
-use Rattle.rg_parse.specs.Grammar.{FormulaText, formula, lexeme_of}
-use Rattle.rg_parse.specs.Syntax.{Claim}
-use Rattle.rg_parse.specs.Build.{claim_of}
-use Rattle.rg_parse.specs.ResolveTyping.{ClaimStandsFor}
+use Rattle.rg_syntax.specs.Grammar.{FormulaSpelling, formula, lexeme_of}
+use Rattle.rg_syntax.specs.Written.{Claim}
+use Rattle.rg_syntax.specs.Texts.{claim_of}
+use Rattle.rg_resolve.specs.Typing.{ClaimStandsFor}
 use Rattle.rg_parse.specs.Shown.{SpellsFormula}
 
 -- an expression has a word, plain or primed, outside the formulas of `(if ..)`
@@ -62,7 +62,7 @@ abbrev mutual
 -- the tokens of the bytes are, whatever their number and depth, a formula that stands for this one over the words
 pub record SpellsAtAnySize (words : List Word) (source : List ℕ) (f : Proposition) : Type 0 where
   pub tokens : List Token
-  pub spelling : FormulaText
+  pub spelling : FormulaSpelling
   pub tokenized : IsTokenized source tokens
   pub spelled : map (lexeme_of source) tokens ≡ formula spelling []
   pub stands : ClaimStandsFor words false (claim_of spelling) f

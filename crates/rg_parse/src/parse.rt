@@ -1,135 +1,149 @@
 //! The trees that tokens spell, or the refusal of the first fault of their shape.
 
-ghost use Rattle.std.specs.Prelude.{◌≡◌, ◌-◌, ℕ, List, map, length, IfOk, IfErr, IsOk};
+ghost use Rattle.std.specs.Prelude.{◌≡◌, ◌≢◌, ℕ, List, [], map, IfOk, IfErr, IsSomeAnd};
 ghost use Rattle.rg_words.specs.Refusals.{no_memory};
-ghost use Rattle.rg_parse.specs.Grammar.{lexeme_of};
-ghost use Rattle.rg_parse.specs.Limits.{IsTextWithin};
-ghost use Rattle.rg_parse.specs.Parse.{ParseFormulaIs, ParseShowIs, ParseStartIs, ParseMovesIs, ParseDerivationIs, IsShapeRefusal, OneFormula, OneShow, OneStart, OneMoves, OneDerivation, refusal_of, unexpected_in, line_at, last_line};
+ghost use Rattle.rg_syntax.specs.Grammar.{Spelling, spelled, lexeme_of};
+ghost use Rattle.rg_syntax.specs.declared.text_kind.TextKind.{TextKind};
+ghost use Rattle.rg_syntax.specs.declared.text_kind.TextKind.TheVariants as texts;
+ghost use Rattle.rg_syntax.specs.Limits.{IsTextWithin};
+ghost use Rattle.rg_syntax.specs.Written.{claim, show_text, setting, move_text, line_text};
+ghost use Rattle.rg_parse.specs.Parse.{IsShapeRefusal, refusal_of, unexpected_in, line_at, last_line};
+ghost use Rattle.rg_parse.specs.Spelled.{Said, said, IsParsed, IsWithin};
+ghost use Rattle.rg_syntax.specs.OneReading.{OneFormula, OneShow, OneStart, OneMoves, OneDerivation};
 
-use crate::build::{build_formula, build_moves, build_show, build_start};
-use crate::derivation::build_derivation;
-use crate::point::TextKind;
-use crate::shape::{ShapeFault, shape};
-use crate::syntax::{Formula, LineText, MoveText, Setting, ShowText};
+use rg_build::derivations::build_derivation;
+use rg_build::formulas::{build_formula, build_moves, build_show, build_start};
+use rg_shape::shape::{ShapeFault, shape};
+use rg_syntax::TextKind;
+use rg_syntax::written::{FormulaText, LineText, MoveText, Setting, ShowText};
 use rg_text::token::Token;
 use rg_words::{Place, Refusal, RefusalNumber, SourceFile};
-use std::alloc::Global;
+use std::alloc::{AllocError, Global};
 
-/// The formula that the tokens of a file spell.
+/// A tree that the tokens of a text of one kind spell. A program, whose statements are counted too, is parsed by `parse_program`.
+pub trait Text: Sized + Drop {
+    /// The kind of text.
+    ghost kind: { TextKind };
+
+    /// What the tree says, whose words and numbers are of these bytes.
+    ghost says: { List ℕ → Self → Said kind };
+
+    /// The kind of text.
+    fn kind() -> TextKind
+        ensures { result ≡ kind };
+
+    /// The tree, where the tokens spell one.
+    fn build(alloc: Global, tokens: &[Token]) -> Result<Option<Self>, AllocError>
+        ensures { (src : List ℕ) (s : Spelling kind) → map (lexeme_of src) tokens.now ≡ spelled kind s []
+            → IfOk result (λ built. IsSomeAnd built (λ tree. says src tree ≡ said kind s)) };
+
+    /// It isn't that of programs.
+    ghost is_plain: { kind ≢ texts.Program };
+}
+
+impl Text for FormulaText {
+    ghost kind = { texts.Formula };
+
+    ghost says = { λ source tree. claim source tree };
+
+    fn kind() -> TextKind {
+        TextKind::Formula
+    }
+
+    fn build(alloc: Global, tokens: &[Token]) -> Result<Option<FormulaText>, AllocError> {
+        build_formula(alloc, tokens)
+    }
+
+    ghost is_plain = { λ same. cc };
+}
+
+impl Text for ShowText {
+    ghost kind = { texts.Show };
+
+    ghost says = { λ source tree. show_text source tree };
+
+    fn kind() -> TextKind {
+        TextKind::Show
+    }
+
+    fn build(alloc: Global, tokens: &[Token]) -> Result<Option<ShowText>, AllocError> {
+        build_show(alloc, tokens)
+    }
+
+    ghost is_plain = { λ same. cc };
+}
+
+impl Text for Vec<Setting> {
+    ghost kind = { texts.Start };
+
+    ghost says = { λ source tree. map (setting source) tree.items };
+
+    fn kind() -> TextKind {
+        TextKind::Start
+    }
+
+    fn build(alloc: Global, tokens: &[Token]) -> Result<Option<Vec<Setting>>, AllocError> {
+        build_start(alloc, tokens)
+    }
+
+    ghost is_plain = { λ same. cc };
+}
+
+impl Text for Vec<MoveText> {
+    ghost kind = { texts.Moves };
+
+    ghost says = { λ source tree. map (move_text source) tree.items };
+
+    fn kind() -> TextKind {
+        TextKind::Moves
+    }
+
+    fn build(alloc: Global, tokens: &[Token]) -> Result<Option<Vec<MoveText>>, AllocError> {
+        build_moves(alloc, tokens)
+    }
+
+    ghost is_plain = { λ same. cc };
+}
+
+impl Text for Vec<LineText> {
+    ghost kind = { texts.Derivation };
+
+    ghost says = { λ source tree. map (line_text source) tree.items };
+
+    fn kind() -> TextKind {
+        TextKind::Derivation
+    }
+
+    fn build(alloc: Global, tokens: &[Token]) -> Result<Option<Vec<LineText>>, AllocError> {
+        let lines = build_derivation(alloc, tokens)?;
+        Ok(Some(lines))
+    }
+
+    ghost is_plain = { λ same. cc };
+}
+
+/// The tree that the tokens of a file spell.
 ///
 /// # Errors
 ///
 /// The first token, in their order, that is
 ///
-/// - `Unexpected` (in a derivation `UnexpectedInDerivation`): the tokens up to it begin no formula;
-/// - `Depth`: an opener inside 200 others, or the connective before a 65th operand of a chain;
+/// - `Unexpected` (in a derivation `UnexpectedInDerivation`): the tokens up to it begin no such text;
+/// - `Depth`: an opener inside 200 others, or the connective before a 65th operand of a chain. The `if` that names a rule opens
+///   nothing;
+/// - `Limit`: the first token of a 65th word of a text to show, and the `line` of a 20,001st line of a derivation;
 ///
-/// at its line. Then `Unfinished`, at the line of the last token or 1, where the tokens end too
-/// early. `Memory` where memory is refused.
-pub fn parse_formula(alloc: Global, file: SourceFile, tokens: &[Token]) -> Result<Formula, Refusal>
-    ensures answers { (src : List ℕ) → ParseFormulaIs file src tokens.now result }
-    ensures accepts { (src : List ℕ) → IsTextWithin TextKind.Formula (map (lexeme_of src) tokens.now) → IfErr result (λ e. e ≡ no_memory) }
+/// at its line. Then `Unfinished`, at the line of the last token or 1, where the tokens end too early. `Memory` where memory is
+/// refused.
+pub fn parse<T: Text>(alloc: Global, file: SourceFile, tokens: &[Token]) -> Result<T, Refusal>
+    ensures answers { (src : List ℕ) → IsParsed T.kind (T.says src) file src tokens.now result }
+    ensures accepts { (src : List ℕ) → IsWithin T.kind (map (lexeme_of src) tokens.now) → IfErr result (λ e. e ≡ no_memory) }
 {
-    check_shape(alloc, TextKind::Formula, file, tokens)?;
-    match build_formula(alloc, tokens)? {
-        Some(formula) => Ok(formula),
+    check_shape(alloc, T::kind(), file, tokens)?;
+    match T::build(alloc, tokens)? {
+        Some(tree) => Ok(tree),
         None => unreachable!(),
     }
-}
-
-/// The declared words and the formula that the tokens of a file spell.
-///
-/// # Errors
-///
-/// The first token, in their order, that is
-///
-/// - `Unexpected` (in a derivation `UnexpectedInDerivation`): the tokens up to it begin no such
-///   text;
-/// - `Depth`: an opener inside 200 others, or the connective before a 65th operand of a chain;
-/// - `Limit`: the first token of a 65th word;
-///
-/// at its line. Then `Unfinished`, at the line of the last token or 1, where the tokens end too
-/// early. `Memory` where memory is refused.
-pub fn parse_show(alloc: Global, file: SourceFile, tokens: &[Token]) -> Result<ShowText, Refusal>
-    ensures answers { (src : List ℕ) → ParseShowIs file src tokens.now result }
-    ensures accepts { (src : List ℕ) → IsTextWithin TextKind.Show (map (lexeme_of src) tokens.now) → IfErr result (λ e. e ≡ no_memory) }
-{
-    check_shape(alloc, TextKind::Show, file, tokens)?;
-    match build_show(alloc, tokens)? {
-        Some(text) => Ok(text),
-        None => unreachable!(),
-    }
-}
-
-/// The words that a start sets, which may be none.
-///
-/// # Errors
-///
-/// `Unexpected` (in a derivation `UnexpectedInDerivation`) at the line of the first token such that
-/// the tokens up to it begin no start. Then `Unfinished`, at the line of the last token, where the
-/// tokens end too early. `Memory` where memory is refused.
-pub fn parse_start(
-    alloc: Global,
-    file: SourceFile,
-    tokens: &[Token],
-) -> Result<Vec<Setting>, Refusal>
-    ensures answers { (src : List ℕ) → ParseStartIs file src tokens.now result }
-    ensures accepts { (src : List ℕ) → IsTextWithin TextKind.Start (map (lexeme_of src) tokens.now) → IfErr result (λ e. e ≡ no_memory) }
-{
-    check_shape(alloc, TextKind::Start, file, tokens)?;
-    match build_start(alloc, tokens)? {
-        Some(text) => Ok(text),
-        None => unreachable!(),
-    }
-}
-
-/// The moves of the environment, which may be none.
-///
-/// # Errors
-///
-/// `Unexpected` (in a derivation `UnexpectedInDerivation`) at the line of the first token such that
-/// the tokens up to it begin no moves. Then `Unfinished`, at the line of the last token, where the
-/// tokens end too early. `Memory` where memory is refused.
-pub fn parse_moves(
-    alloc: Global,
-    file: SourceFile,
-    tokens: &[Token],
-) -> Result<Vec<MoveText>, Refusal>
-    ensures answers { (src : List ℕ) → ParseMovesIs file src tokens.now result }
-    ensures accepts { (src : List ℕ) → IsTextWithin TextKind.Moves (map (lexeme_of src) tokens.now) → IfErr result (λ e. e ≡ no_memory) }
-{
-    check_shape(alloc, TextKind::Moves, file, tokens)?;
-    match build_moves(alloc, tokens)? {
-        Some(text) => Ok(text),
-        None => unreachable!(),
-    }
-}
-
-/// The lines of a derivation, which may be none.
-///
-/// # Errors
-///
-/// The first token, in their order, that is
-///
-/// - `UnexpectedInDerivation` (`Unexpected` in another file): the tokens up to it begin no
-///   derivation;
-/// - `Depth`: an opener inside 200 others, or the connective before a 65th operand of a chain. The
-///   `if` that names a rule opens nothing;
-/// - `Limit`: the `line` of a 20,001st line;
-///
-/// at its line. Then `Unfinished`, at the line of the last token, where the tokens end too early.
-/// `Memory` where memory is refused.
-pub fn parse_derivation(
-    alloc: Global,
-    file: SourceFile,
-    tokens: &[Token],
-) -> Result<Vec<LineText>, Refusal>
-    ensures answers { (src : List ℕ) → ParseDerivationIs file src tokens.now result }
-    ensures accepts { (src : List ℕ) → IsTextWithin TextKind.Derivation (map (lexeme_of src) tokens.now) → IfErr result (λ e. e ≡ no_memory) }
-{
-    check_shape(alloc, TextKind::Derivation, file, tokens)?;
-    let lines = build_derivation(alloc, tokens)?;
-    Ok(lines)
 }
 
 /// The same tokens say one thing: two spellings of them have one tree.

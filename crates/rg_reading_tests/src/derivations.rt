@@ -1,7 +1,7 @@
 //! The lines that a derivation spells, with the expected answers written by hand.
 
-use rg_parse::parse::parse_derivation;
-use rg_parse::syntax::{Formula, LineText, SpecText};
+use rg_parse::parse::parse;
+use rg_syntax::written::{FormulaText, LineText, SpecText};
 use rg_text::Tokens;
 use rg_tree::line::Rule;
 use rg_words::{Refusal, SourceFile};
@@ -15,13 +15,13 @@ const TWO: &[u8] =
 /// The lines of the two.
 fn two(alloc: Global) -> Result<Vec<LineText>, Refusal> {
     let tokens = Tokens::read(alloc, TWO, SourceFile::Derivation)?;
-    parse_derivation(alloc, SourceFile::Derivation, tokens.as_slice())
+    parse(alloc, SourceFile::Derivation, tokens.as_slice())
 }
 
 /// Whether a formula is this truth.
-fn is_truth(formula: &Formula, expected: bool) -> bool {
+fn is_truth(formula: &FormulaText, expected: bool) -> bool {
     match formula {
-        Formula::Truth(truth) => *truth == expected,
+        FormulaText::Truth(truth) => *truth == expected,
         _ => false,
     }
 }

@@ -1,7 +1,6 @@
 //! Rows of starts and moves, with the expected answers written by hand.
 
-use rg_parse::inputs::{moves, start};
-use rg_parse::show::show;
+use rg_parse::{moves, show, start};
 use rg_tree::moves::{Move, WordValue};
 use rg_words::{Layout, Place, Refusal, RefusalNumber, SourceFile};
 use std::alloc::Global;

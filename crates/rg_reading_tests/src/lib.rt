@@ -1,4 +1,4 @@
-//! What no command reaches of the words, the tokens, the trees and their parsers, over public calls alone.
+//! What no command reaches of the trees and their parsers, over public calls alone.
 #![tactic(auto)]
 
 #[cfg(test)]
@@ -8,8 +8,4 @@ mod inputs;
 #[cfg(test)]
 mod programs;
 #[cfg(test)]
-mod tokens;
-#[cfg(test)]
 mod trees;
-#[cfg(test)]
-mod words;

@@ -1,6 +1,6 @@
 //! Refused memory while a program is read.
 
-use rg_program::program::program;
+use rg_parse::program;
 use rg_words::{Place, Refusal, RefusalNumber, SourceFile};
 use std::alloc::Global;
 

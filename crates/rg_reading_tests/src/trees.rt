@@ -5,7 +5,7 @@ ghost use Rattle.rg_words.specs.Layout.{widths_of};
 ghost use Rattle.rg_tree.specs.View.{expression};
 ghost use Rattle.rg_tree.specs.Trees.{number, word, binary};
 
-use rg_parse::show::{formula, show};
+use rg_parse::{formula, show};
 use rg_tree::copy::copy_formula;
 use rg_tree::equal::same_formula;
 use rg_tree::meaning::{holds, inside, value};

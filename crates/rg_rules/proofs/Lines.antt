@@ -9,14 +9,14 @@ use Rattle.rg_tree.specs.Numbering.{statements, statements_of_items, statements_
 use Rattle.rg_tree.specs.Programs.{nth}
 use Rattle.rg_tree.specs.Meaning.{holds}
 use Rattle.rg_tree.specs.Traces.{holds_at}
-use Rattle.rg_tree.specs.Claims.{assigned}
+use Rattle.rg_tree.specs.ConditionTrees.{assigned}
 use Rattle.rg_tree.specs.Runs.{runs, runs_of_items, always, Atomic as AtomicRun}
-use Rattle.rg_tree.specs.Obligations.{AllMet}
+use Rattle.rg_tree.specs.RuleConditions.{AllMet}
 use Rattle.rg_tree.proofs.Asked.{met_front, met_back}
 use Rattle.rg_tree.proofs.Guards.{Sound, StatementSound, Sound-Satisfies}
 use Rattle.rg_tree.specs.declared.line.Rule.{Rule}
 use Rattle.rg_tree.specs.declared.line.Rule.TheVariants.{Basic, Atomic, Seq, If, Loop, Conseq}
-use Rattle.rg_rules.specs.Derivations.{IsPremise, ItemsFit, ChoiceFits, LoopFits, ConseqFits, RuleFits, DerivationFits, spec_of, first_spec, step_obligations, obligations_from, rule_obligations, obligations_at, line_obligations, obligations_of, RulesAreSound}
+use Rattle.rg_rules.specs.Derivations.{IsPremise, ItemsFit, ChoiceFits, LoopFits, ConseqFits, RuleFits, DerivationFits, spec_of, first_spec, step_conditions, conditions_from, conditions_of_rule, conditions_at, conditions_of_line, conditions_asked, RulesAreSound}
 use Rattle.rg_rules.proofs.Rules.{atomic_sound, then_sound, choice_sound, loop_sound, conseq_sound}
 use Rattle.rg_tree.proofs.Stands.{Stands, stands_get, stands_tail, stands_front, stands_back}
 use Rattle.rg_tree.specs.Lines.{LineTree}
@@ -44,18 +44,18 @@ abbrev pub LineSound : List Word → List Statement → LineTree → Type 0
 LineSound words all line = (s : Statement) → nth all line.number ≡ Some s → StatementSound words line.spec s
 
 -- a line whose statement makes one step
-step_sound : (words : List Word) (spec : Specification) (act : List Assignment) → AllMet words (step_obligations spec (spec.pre ∷ []) act) → Sound words (holds_at spec.pre) (holds spec.rely) (holds spec.guar) (holds_at spec.post) (AtomicRun always (assigned act))
+step_sound : (words : List Word) (spec : Specification) (act : List Assignment) → AllMet words (step_conditions spec (spec.pre ∷ []) act) → Sound words (holds_at spec.pre) (holds spec.rely) (holds spec.guar) (holds_at spec.post) (AtomicRun always (assigned act))
 step_sound words spec act c =
     atomic_sound words _ _ _ _ always (assigned act) (λ s st at b. c.0 s st (at, tt)) (λ s st pair at b. c.1.0 s st pair (at, tt)) c.1.1.0 c.1.1.1.0
 
 module _ (words : List Word) (all : List Statement) (inner : (n : ℕ) (s : Statement) → slice_get all n ≡ Some s → Stands all n (statements s)) (lines : List LineTree) where
-  line_true : (rest : List LineTree) (k : ℕ) (line : LineTree) → slice_get rest k ≡ Some line → AllMet words (obligations_of all lines rest) → AllMet words (line_obligations all lines line)
+  line_true : (rest : List LineTree) (k : ℕ) (line : LineTree) → slice_get rest k ≡ Some line → AllMet words (conditions_asked all lines rest) → AllMet words (conditions_of_line all lines line)
   line_true [] k line h c = cc h
   line_true (x ∷ rest) zero line h c =
       let same : x ≡ line = cc h in
-      subst (λ l. AllMet words (line_obligations all lines l)) same (met_front words (line_obligations all lines x) (obligations_of all lines rest) c)
+      subst (λ l. AllMet words (conditions_of_line all lines l)) same (met_front words (conditions_of_line all lines x) (conditions_asked all lines rest) c)
   line_true (x ∷ rest) (suc k) line h c =
-      line_true rest k line h (met_back words (line_obligations all lines x) (obligations_of all lines rest) c)
+      line_true rest k line h (met_back words (conditions_of_line all lines x) (conditions_asked all lines rest) c)
 
   -- the statement of a number, with those inside it
   place_of : (n : ℕ) (s : Statement) → nth all n ≡ Some s → (m : ℕ) × (n ≡ suc m) × Stands all m (statements s)
@@ -83,7 +83,7 @@ module _ (words : List Word) (all : List Statement) (inner : (n : ℕ) (s : Stat
   items_sound k n m spec (one s) (i ∷ j ∷ is) ih e h f = absurd f
   items_sound k n m spec (more s items) [] ih e h f = absurd f
 
-  if_sound : (row k n m : ℕ) (spec : Specification) (b : Proposition) (s t : Statement) (is : List ℕ) → Earlier k → n ≡ suc m → Stands all m (statements (branch row b s t)) → ChoiceFits lines k n spec b s is → AllMet words (rule_obligations lines spec is If (branch row b s t)) → StatementSound words spec (branch row b s t)
+  if_sound : (row k n m : ℕ) (spec : Specification) (b : Proposition) (s t : Statement) (is : List ℕ) → Earlier k → n ≡ suc m → Stands all m (statements (branch row b s t)) → ChoiceFits lines k n spec b s is → AllMet words (conditions_of_rule lines spec is If (branch row b s t)) → StatementSound words spec (branch row b s t)
   if_sound row k n m spec b s t [] ih e h f c = absurd f
   if_sound row k n m spec b s t (i ∷ []) ih e h f c = absurd f
   if_sound row k n m spec b s t (i ∷ j ∷ []) ih e h f c =
@@ -91,22 +91,22 @@ module _ (words : List Word) (all : List Statement) (inner : (n : ℕ) (s : Stat
       choice_sound words _ _ _ _ (holds_at b) (holds_at (connected And spec.pre b)) (holds_at (connected And spec.pre (negation b))) (runs s) (runs t) (λ x at yes'. and_both _ _ at yes') (λ x at no'. and_not _ _ at no') c.0 (premise_sound k i (n + 1) _ s ih f.0 (number_of (suc m) (n + 1) s (omega arith) (stands_front all (suc m) (statements s) _ below))) (premise_sound k j (n + 1 + length (statements s)) _ t ih f.1 (number_of (suc m + length (statements s)) (n + 1 + length (statements s)) t (omega arith) (stands_back all (suc m) (statements s) _ below)))
   if_sound row k n m spec b s t (i ∷ j ∷ l ∷ is) ih e h f c = absurd f
 
-  while_sound : (row k n m : ℕ) (spec : Specification) (b : Proposition) (s : Statement) (is : List ℕ) → Earlier k → n ≡ suc m → Stands all m (statements (loop row b s)) → LoopFits lines k n spec b is → AllMet words (rule_obligations lines spec is Loop (loop row b s)) → StatementSound words spec (loop row b s)
+  while_sound : (row k n m : ℕ) (spec : Specification) (b : Proposition) (s : Statement) (is : List ℕ) → Earlier k → n ≡ suc m → Stands all m (statements (loop row b s)) → LoopFits lines k n spec b is → AllMet words (conditions_of_rule lines spec is Loop (loop row b s)) → StatementSound words spec (loop row b s)
   while_sound row k n m spec b s [] ih e h f c = absurd f
   while_sound row k n m spec b s (i ∷ []) ih e h f c =
       loop_sound words _ _ _ _ (holds_at b) (holds_at (connected And spec.pre b)) (runs s) (λ x at yes'. and_both _ _ at yes') c.0 (λ x st at no'. c.1.0 x st (at, (not_false _ no', tt))) c.1.1.0 (premise_sound k i (n + 1) _ s ih f (number_of (suc m) (n + 1) s (omega arith) (stands_tail all m _ _ h)))
   while_sound row k n m spec b s (i ∷ j ∷ is) ih e h f c = absurd f
 
-  same_sound : (k n : ℕ) (spec : Specification) (s : Statement) (is : List ℕ) → Earlier k → nth all n ≡ Some s → ConseqFits lines k n is → AllMet words (obligations_from spec (first_spec lines is)) → StatementSound words spec s
+  same_sound : (k n : ℕ) (spec : Specification) (s : Statement) (is : List ℕ) → Earlier k → nth all n ≡ Some s → ConseqFits lines k n is → AllMet words (conditions_from spec (first_spec lines is)) → StatementSound words spec s
   same_sound k n spec s [] ih h f c = absurd f
   same_sound k n spec s (i ∷ []) ih h f c =
       let from = f.0 in
       let e : first_spec lines (i ∷ []) ≡ Some from = ap spec_of f.1.found ∙ ap Some f.1.same_spec in
-      let c' = subst (λ o. AllMet words (obligations_from spec o)) e c in
+      let c' = subst (λ o. AllMet words (conditions_from spec o)) e c in
       conseq_sound words _ _ _ _ _ _ _ _ (runs s) (λ x st at. c'.0 x st (at, tt)) c'.1.0 c'.1.1.0 (λ x st at. c'.1.1.1.0 x st (at, tt)) (premise_sound k i n from s ih f.1 h)
   same_sound k n spec s (i ∷ j ∷ is) ih h f c = absurd f
 
-  rule_sound : (k n m : ℕ) (spec : Specification) (is : List ℕ) (rule : Rule) (s : Statement) → Earlier k → nth all n ≡ Some s → n ≡ suc m → Stands all m (statements s) → RuleFits lines k n spec is rule s → AllMet words (rule_obligations lines spec is rule s) → StatementSound words spec s
+  rule_sound : (k n m : ℕ) (spec : Specification) (is : List ℕ) (rule : Rule) (s : Statement) → Earlier k → nth all n ≡ Some s → n ≡ suc m → Stands all m (statements s) → RuleFits lines k n spec is rule s → AllMet words (conditions_of_rule lines spec is rule s) → StatementSound words spec s
   rule_sound k n m spec is Basic (skip row) ih h e st f c = step_sound words spec [] c
   rule_sound k n m spec is Basic (assign row a) ih h e st f c = step_sound words spec (a ∷ []) c
   rule_sound k n m spec is Atomic (await row b act) ih h e st f c =
@@ -118,7 +118,7 @@ module _ (words : List Word) (all : List Statement) (inner : (n : ℕ) (s : Stat
   rule_sound k n m spec is Conseq s ih h e st f c = same_sound k n spec s is ih h f c
   rule_sound k n m spec is _ _ ih h e st f c = absurd f
 
-  pub lines_sound : DerivationFits all lines → AllMet words (obligations_of all lines lines) → (bound k : ℕ) → k < bound → (line : LineTree) → nth lines k ≡ Some line → LineSound words all line
+  pub lines_sound : DerivationFits all lines → AllMet words (conditions_asked all lines lines) → (bound k : ℕ) → k < bound → (line : LineTree) → nth lines k ≡ Some line → LineSound words all line
   lines_sound fits conditions zero k le line found s h = absurd (omega arith)
   lines_sound fits conditions (suc bound) zero le line found s h = cc found
   lines_sound fits conditions (suc bound) (suc k) le line found s h =
@@ -126,7 +126,7 @@ module _ (words : List Word) (all : List Statement) (inner : (n : ℕ) (s : Stat
       let f = fits (suc k) line found in
       let same : f.0 ≡ s = cc (f.1, h) in
       let place = place_of line.number s h in
-      let c = subst (λ o. AllMet words (obligations_at lines line o)) h (line_true lines k line found conditions) in
+      let c = subst (λ o. AllMet words (conditions_at lines line o)) h (line_true lines k line found conditions) in
       rule_sound (suc k) line.number place.0 line.spec line.premises line.rule s earlier h place.1 place.2 (subst (λ x. RuleFits lines (suc k) line.number line.spec line.premises line.rule x) same f.2) c
 
 pub rules_are_sound : RulesAreSound

@@ -4,7 +4,7 @@ use Rattle.rg_words.specs.Layout.{Word}
 use Rattle.rg_words.specs.States.{IsState, IsPair}
 use Rattle.rg_tree.specs.Traces.{State, Move, Own, Env, last, IsTrace, Inside, EnvInside}
 use Rattle.rg_tree.specs.Runs.{Behavior, AllEnv, Once, Acts, Atomic, Then, Within, Past, Tests, Yes, No, Choice, Loop, Idle, Wait, Leave, Inner, Again}
-use Rattle.rg_tree.specs.Obligations.{IsStable, IsInside}
+use Rattle.rg_tree.specs.RuleConditions.{IsStable, IsInside}
 use Rattle.rg_tree.proofs.Asked.{inside_more}
 use Rattle.rg_tree.proofs.Guards.{Guards, Sound, trace_state, trace_front, trace_back, last-append, last_state, env_front, env_back, guards_join, all_env_guards}
 

@@ -9,7 +9,7 @@ use Rattle.rg_tree.specs.Statements.{Statement, skip, assign, await, sequence, b
 use Rattle.rg_tree.specs.Numbering.{statements, statements_of_items, statements_of_parts}
 use Rattle.rg_tree.specs.Programs.{nth}
 use Rattle.rg_tree.proofs.Stands.{Stands, stands_get, stands_tail, stands_front, stands_back}
-use Rattle.rg_rules.specs.Sizes.{AreSized, IsSizedInside}
+use Rattle.rg_rules.specs.Inner.Sizes.{AreSized, IsSizedInside}
 use Rattle.rg_rules.proofs.Places.{closed_parts}
 
 abbrev sizes_of : List Statement → List ℕ

@@ -9,27 +9,27 @@ use Rattle.rg_tree.specs.Numbering.{statements, statements_of_parts}
 use Rattle.rg_tree.specs.Programs.{nth, PartsSatisfy}
 use Rattle.rg_tree.specs.Satisfaction.{StatementSatisfies}
 use Rattle.rg_tree.specs.TypedPrograms.{IsTypedSpecification}
-use Rattle.rg_tree.specs.Obligations.{ArePlain, obligation_claim, AllConditionsHold}
+use Rattle.rg_tree.specs.RuleConditions.{ArePlain, as_condition, AllConditionsHold}
 use Rattle.rg_tree.proofs.Asked.{all_met, plain_append}
 use Rattle.rg_tree.proofs.Stands.{Stands, stands_front, stands_back}
 use Rattle.rg_tree.specs.declared.line.Rule.{Rule}
 use Rattle.rg_tree.specs.declared.line.Rule.TheVariants.{Basic, Atomic, If, Loop, Conseq}
 use Rattle.rg_tree.specs.Lines.{LineTree, AreTypedLines}
-use Rattle.rg_rules.specs.Derivations.{first_spec, step_obligations, obligations_from, rule_obligations, obligations_at, line_obligations, obligations_of, LinesHold}
+use Rattle.rg_rules.specs.Derivations.{first_spec, step_conditions, conditions_from, conditions_of_rule, conditions_at, conditions_of_line, conditions_asked, LinesHold}
 use Rattle.rg_rules.specs.Faults.{IsDerived, PartsDerived, Derives}
 use Rattle.rg_rules.proofs.Places.{closed_parts}
 use Rattle.rg_rules.proofs.Lines.{number_of, rules_are_sound}
 
 -- the conditions ask formulas of one state where one state is spoken of
 
-step_plain : (words : List Word) (spec : Specification) (given : List Proposition) (act : List Assignment) → IsTypedSpecification words spec → ArePlain (step_obligations spec given act)
+step_plain : (words : List Word) (spec : Specification) (given : List Proposition) (act : List Assignment) → IsTypedSpecification words spec → ArePlain (step_conditions spec given act)
 step_plain words spec given act h = (tt, (tt, (h.0.1, (h.3.1, tt))))
 
-from_plain : (spec : Specification) (from : Option Specification) → ArePlain (obligations_from spec from)
+from_plain : (spec : Specification) (from : Option Specification) → ArePlain (conditions_from spec from)
 from_plain spec None = tt
 from_plain spec (Some from) = (tt, (tt, (tt, (tt, tt))))
 
-rule_plain : (words : List Word) (lines : List LineTree) (spec : Specification) (is : List ℕ) (rule : Rule) (s : Statement) → IsTypedSpecification words spec → ArePlain (rule_obligations lines spec is rule s)
+rule_plain : (words : List Word) (lines : List LineTree) (spec : Specification) (is : List ℕ) (rule : Rule) (s : Statement) → IsTypedSpecification words spec → ArePlain (conditions_of_rule lines spec is rule s)
 rule_plain words lines spec is Basic (assign row a) h = step_plain words spec (spec.pre ∷ []) (a ∷ []) h
 rule_plain words lines spec is Basic _ h = step_plain words spec (spec.pre ∷ []) [] h
 rule_plain words lines spec is Atomic (await row b act) h = step_plain words spec (spec.pre ∷ b ∷ []) act h
@@ -38,20 +38,20 @@ rule_plain words lines spec is Loop (loop row b s) h = (h.0.1, (tt, (h.3.1, tt))
 rule_plain words lines spec is Conseq _ h = from_plain spec (first_spec lines is)
 rule_plain words lines spec is _ _ h = tt
 
-at_plain : (words : List Word) (lines : List LineTree) (line : LineTree) (o : Option Statement) → IsTypedSpecification words line.spec → ArePlain (obligations_at lines line o)
+at_plain : (words : List Word) (lines : List LineTree) (line : LineTree) (o : Option Statement) → IsTypedSpecification words line.spec → ArePlain (conditions_at lines line o)
 at_plain words lines line None h = tt
 at_plain words lines line (Some s) h = rule_plain words lines line.spec line.premises line.rule s h
 
-lines_plain : (words : List Word) (all : List Statement) (lines rest : List LineTree) → AreTypedLines words rest → ArePlain (obligations_of all lines rest)
+lines_plain : (words : List Word) (all : List Statement) (lines rest : List LineTree) → AreTypedLines words rest → ArePlain (conditions_asked all lines rest)
 lines_plain words all lines [] h = tt
 lines_plain words all lines (line ∷ rest) h =
-    plain_append (line_obligations all lines line) (obligations_of all lines rest) (at_plain words lines line (nth all line.number) h.0) (lines_plain words all lines rest h.1)
+    plain_append (conditions_of_line all lines line) (conditions_asked all lines rest) (at_plain words lines line (nth all line.number) h.0) (lines_plain words all lines rest h.1)
 
 -- the lines say the truth
-pub lines_hold : (words : List Word) (parts : List PartTree) (lines : List LineTree) → AreTypedLines words lines → Derives parts lines → AllConditionsHold (map (obligation_claim words) (obligations_of (statements_of_parts parts) lines lines)) → LinesHold words parts lines
+pub lines_hold : (words : List Word) (parts : List PartTree) (lines : List LineTree) → AreTypedLines words lines → Derives parts lines → AllConditionsHold (map (as_condition words) (conditions_asked (statements_of_parts parts) lines lines)) → LinesHold words parts lines
 lines_hold words parts lines typed d h =
     let all = statements_of_parts parts in
-    rules_are_sound words parts lines d.lines_fit (all_met words (obligations_of all lines lines) (lines_plain words all lines lines typed) h)
+    rules_are_sound words parts lines d.lines_fit (all_met words (conditions_asked all lines lines) (lines_plain words all lines lines typed) h)
 
 -- the number of a part's body is that of its first statement
 body_at : (all : List Statement) (lines : List LineTree) (m : ℕ) (ps : List PartTree) (k : ℕ) (p : PartTree) → Stands all m (statements_of_parts ps) → PartsDerived lines (suc m) ps → slice_get ps k ≡ Some p → (n : ℕ) × IsDerived lines (suc n) p.spec × Stands all n (statements p.body)

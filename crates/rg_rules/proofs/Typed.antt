@@ -7,7 +7,7 @@ use Rattle.rg_tree.specs.Numbering.{statements, statements_of_items, statements_
 use Rattle.rg_tree.specs.Programs.{nth}
 use Rattle.rg_tree.specs.ProgramView.{specification}
 use Rattle.rg_tree.specs.TypedPrograms.{IsTypedSpecification, IsTypedStatement, AreTypedItems, AreTypedParts}
-use Rattle.rg_tree.specs.declared.line.Line.{Line}
+use Rattle.rg_tree.specs.declared.line.DerivationLine.{DerivationLine}
 use Rattle.rg_tree.specs.Lines.{LineTree, line_tree, AreTypedLines}
 use Rattle.rg_rules.specs.Derivations.{spec_of, first_spec}
 
@@ -47,9 +47,9 @@ statement_typed words parts h zero s e = cc e
 statement_typed words parts h (suc n) s e = get_typed words (statements_of_parts parts) n s (parts_typed words parts h) e
 
 -- each of typed lines is typed
-pub line_typed : (words : List Word) (lines : List Line) (i : ℕ) (line : Line) → AreTypedLines words (map line_tree lines) → i < length lines → line ≡ get_or lines i line → IsTypedSpecification words (specification line.spec)
+pub line_typed : (words : List Word) (lines : List DerivationLine) (i : ℕ) (line : DerivationLine) → AreTypedLines words (map line_tree lines) → i < length lines → line ≡ get_or lines i line → IsTypedSpecification words (specification line.spec)
 line_typed words [] i line h less at = absurd (omega arith)
-line_typed words (x ∷ lines) zero line h less at = subst (λ (l : Line). IsTypedSpecification words (specification l.spec)) (sym at) h.0
+line_typed words (x ∷ lines) zero line h less at = subst (λ (l : DerivationLine). IsTypedSpecification words (specification l.spec)) (sym at) h.0
 line_typed words (x ∷ lines) (suc i) line h less at = line_typed words lines i line h.1 (omega arith) at
 
 get_line_typed : (words : List Word) (lines : List LineTree) (i : ℕ) (line : LineTree) → AreTypedLines words lines → slice_get lines i ≡ Some line → IsTypedSpecification words line.spec

@@ -7,24 +7,24 @@ use Rattle.rg_tree.specs.Statements.{Statement, skip, assign, await, sequence, b
 use Rattle.rg_tree.specs.Numbering.{statements, statements_of_parts}
 use Rattle.rg_tree.specs.Programs.{nth}
 use Rattle.rg_tree.specs.Satisfaction.{StatementSatisfies}
-use Rattle.rg_tree.specs.Obligations.{Obligation, reaches, makes, keeps, allows, AllMet}
+use Rattle.rg_tree.specs.RuleConditions.{RuleCondition, reaches, makes, keeps, allows, AllMet}
 use Rattle.rg_tree.specs.declared.line.Rule.{Rule}
 use Rattle.rg_tree.specs.declared.line.Rule.TheVariants.{Basic, Atomic, Seq, If, Loop, Conseq}
 use Rattle.rg_tree.specs.Lines.{LineTree}
 
 -- of a line whose statement makes one step, the assignments, where the given formulas hold
-abbrev pub step_obligations : Specification → List Proposition → List Assignment → List Obligation
-step_obligations l given act = reaches given act l.post ∷ makes given act l.guar ∷ keeps l.pre l.rely ∷ keeps l.post l.rely ∷ []
+abbrev pub step_conditions : Specification → List Proposition → List Assignment → List RuleCondition
+step_conditions l given act = reaches given act l.post ∷ makes given act l.guar ∷ keeps l.pre l.rely ∷ keeps l.post l.rely ∷ []
 
-abbrev pub choice_obligations : Specification → List Obligation
-choice_obligations l = keeps l.pre l.rely ∷ []
+abbrev pub choice_conditions : Specification → List RuleCondition
+choice_conditions l = keeps l.pre l.rely ∷ []
 
-abbrev pub loop_obligations : Specification → Proposition → List Obligation
-loop_obligations l b = keeps l.pre l.rely ∷ reaches (l.pre ∷ negation b ∷ []) [] l.post ∷ keeps l.post l.rely ∷ []
+abbrev pub loop_conditions : Specification → Proposition → List RuleCondition
+loop_conditions l b = keeps l.pre l.rely ∷ reaches (l.pre ∷ negation b ∷ []) [] l.post ∷ keeps l.post l.rely ∷ []
 
 -- of a line that follows from another of the same statement
-abbrev pub conseq_obligations : Specification → Specification → List Obligation
-conseq_obligations l from = reaches (l.pre ∷ []) [] from.pre ∷ allows l.rely from.rely ∷ allows from.guar l.guar ∷ reaches (from.post ∷ []) [] l.post ∷ []
+abbrev pub conseq_conditions : Specification → Specification → List RuleCondition
+conseq_conditions l from = reaches (l.pre ∷ []) [] from.pre ∷ allows l.rely from.rely ∷ allows from.guar l.guar ∷ reaches (from.post ∷ []) [] l.post ∷ []
 
 -- line i comes before line k, is of statement n, and has these formulas
 pub record IsPremise (lines : List LineTree) (k i n : ℕ) (spec : Specification) : Type 0 where
@@ -89,31 +89,31 @@ abbrev pub first_spec : List LineTree → List ℕ → Option Specification
 first_spec lines [] = None
 first_spec lines (i ∷ is) = spec_of (nth lines i)
 
-abbrev pub obligations_from : Specification → Option Specification → List Obligation
-obligations_from spec None = []
-obligations_from spec (Some from) = conseq_obligations spec from
+abbrev pub conditions_from : Specification → Option Specification → List RuleCondition
+conditions_from spec None = []
+conditions_from spec (Some from) = conseq_conditions spec from
 
 -- the conditions of a line
-abbrev pub rule_obligations : List LineTree → Specification → List ℕ → Rule → Statement → List Obligation
-rule_obligations lines spec is Basic (assign row a) = step_obligations spec (spec.pre ∷ []) (a ∷ [])
-rule_obligations lines spec is Basic _ = step_obligations spec (spec.pre ∷ []) []
-rule_obligations lines spec is Atomic (await row b as') = step_obligations spec (spec.pre ∷ b ∷ []) as'
-rule_obligations lines spec is If _ = choice_obligations spec
-rule_obligations lines spec is Loop (loop row b s) = loop_obligations spec b
-rule_obligations lines spec is Conseq _ = obligations_from spec (first_spec lines is)
-rule_obligations lines spec is _ _ = []
+abbrev pub conditions_of_rule : List LineTree → Specification → List ℕ → Rule → Statement → List RuleCondition
+conditions_of_rule lines spec is Basic (assign row a) = step_conditions spec (spec.pre ∷ []) (a ∷ [])
+conditions_of_rule lines spec is Basic _ = step_conditions spec (spec.pre ∷ []) []
+conditions_of_rule lines spec is Atomic (await row b as') = step_conditions spec (spec.pre ∷ b ∷ []) as'
+conditions_of_rule lines spec is If _ = choice_conditions spec
+conditions_of_rule lines spec is Loop (loop row b s) = loop_conditions spec b
+conditions_of_rule lines spec is Conseq _ = conditions_from spec (first_spec lines is)
+conditions_of_rule lines spec is _ _ = []
 
-abbrev pub obligations_at : List LineTree → LineTree → Option Statement → List Obligation
-obligations_at lines line None = []
-obligations_at lines line (Some s) = rule_obligations lines line.spec line.premises line.rule s
+abbrev pub conditions_at : List LineTree → LineTree → Option Statement → List RuleCondition
+conditions_at lines line None = []
+conditions_at lines line (Some s) = conditions_of_rule lines line.spec line.premises line.rule s
 
-abbrev pub line_obligations : List Statement → List LineTree → LineTree → List Obligation
-line_obligations all lines line = obligations_at lines line (nth all line.number)
+abbrev pub conditions_of_line : List Statement → List LineTree → LineTree → List RuleCondition
+conditions_of_line all lines line = conditions_at lines line (nth all line.number)
 
 -- the conditions of some of the lines, one line after another
-abbrev pub obligations_of : List Statement → List LineTree → List LineTree → List Obligation
-obligations_of all lines [] = []
-obligations_of all lines (line ∷ rest) = line_obligations all lines line ++ obligations_of all lines rest
+abbrev pub conditions_asked : List Statement → List LineTree → List LineTree → List RuleCondition
+conditions_asked all lines [] = []
+conditions_asked all lines (line ∷ rest) = conditions_of_line all lines line ++ conditions_asked all lines rest
 
 -- each line says the truth of its statement
 abbrev pub LinesHold : List Word → List PartTree → List LineTree → Type 0
@@ -124,4 +124,4 @@ LinesHold words parts lines =
 abbrev pub RulesAreSound : Type 0
 RulesAreSound =
     (words : List Word) (parts : List PartTree) (lines : List LineTree) → DerivationFits (statements_of_parts parts) lines
-    → AllMet words (obligations_of (statements_of_parts parts) lines lines) → LinesHold words parts lines
+    → AllMet words (conditions_asked (statements_of_parts parts) lines lines) → LinesHold words parts lines

@@ -7,15 +7,15 @@ ghost use Rattle.rg_tree.specs.View.{formula};
 ghost use Rattle.rg_tree.specs.Statements.{Statement};
 ghost use Rattle.rg_tree.specs.Programs.{nth, PartsSatisfy};
 ghost use Rattle.rg_tree.specs.Typing.{IsTyped};
-ghost use Rattle.rg_tree.specs.Claims.{assignment, AllTyped, AssignmentsTyped};
-ghost use Rattle.rg_tree.specs.Conditions.{claim};
+ghost use Rattle.rg_tree.specs.ConditionTrees.{assignment, AllTyped, AssignmentsTyped};
+ghost use Rattle.rg_tree.specs.Conditions.{condition_tree};
 ghost use Rattle.rg_tree.specs.TypedPrograms.{IsTypedSpecification, IsTypedStatement};
-ghost use Rattle.rg_tree.specs.Obligations.{obligation_claim, AllConditionsHold};
+ghost use Rattle.rg_tree.specs.RuleConditions.{as_condition, AllConditionsHold};
 ghost use Rattle.rg_tree.specs.Numbering.{statements_of_parts};
 ghost use Rattle.rg_tree.specs.ProgramView.{specification, statement, part};
 ghost use Rattle.rg_tree.specs.ProgramTrees.{program as program_tree};
-ghost use Rattle.rg_rules.specs.Derivations.{step_obligations, loop_obligations, conseq_obligations, first_spec, rule_obligations, obligations_of, LinesHold};
-ghost use Rattle.rg_rules.specs.View.{referred, referred_line, referred_spec};
+ghost use Rattle.rg_rules.specs.Derivations.{step_conditions, loop_conditions, conseq_conditions, first_spec, conditions_of_rule, conditions_asked, LinesHold};
+ghost use Rattle.rg_rules.specs.Inner.View.{referred, referred_line, referred_spec};
 ghost use Rattle.rg_tree.specs.declared.line.Rule.TheVariants.{Basic};
 ghost use Rattle.rg_tree.specs.Lines.{line_tree, AreTypedLines};
 ghost use Rattle.rg_rules.specs.Faults.{Derives};
@@ -25,10 +25,10 @@ use crate::derivation::Derivation;
 use crate::table::{statement_at, statements_by_number};
 use rg_tree::condition::{Assign, Condition};
 use rg_tree::copy::{copy_expr, copy_formula};
-use rg_tree::line::{Line, Rule};
-use rg_tree::obligations::{allows, copy_assigns, implies, keeps, makes, reaches};
+use rg_tree::line::{DerivationLine, Rule};
 use rg_tree::part::Spec;
 use rg_tree::program::Program;
+use rg_tree::rule_conditions::{allows, copy_assigns, implies, keeps, makes, reaches};
 use rg_tree::statement::Stmt;
 use rg_tree::tree::Formula;
 use rg_words::Layout;
@@ -66,7 +66,7 @@ fn add_step(
     requires given { AllTyped (widths_of layout.now) (map formula given.items) }
     requires again { map formula again.items ≡ map formula given.items }
     requires act { AssignmentsTyped (widths_of layout.now) (map assignment act.now) }
-    ensures { OnOk result (map claim all.new.items ≡ map claim all.old.items ++ map (obligation_claim layout.now) (step_obligations (specification spec.now) (map formula given.items) (map assignment act.now))) }
+    ensures { OnOk result (map condition_tree all.new.items ≡ map condition_tree all.old.items ++ map (as_condition layout.now) (step_conditions (specification spec.now) (map formula given.items) (map assignment act.now))) }
 {
     let first = copy_assigns(alloc, act)?;
     let second = copy_assigns(alloc, act)?;
@@ -90,7 +90,7 @@ fn add_loop(
 ) -> Result<(), AllocError>
     requires spec { IsTypedSpecification layout.now (specification spec.now) }
     requires test { IsTyped (widths_of layout.now) (formula test.now) }
-    ensures { OnOk result (map claim all.new.items ≡ map claim all.old.items ++ map (obligation_claim layout.now) (loop_obligations (specification spec.now) (formula test.now))) }
+    ensures { OnOk result (map condition_tree all.new.items ≡ map condition_tree all.old.items ++ map (as_condition layout.now) (loop_conditions (specification spec.now) (formula test.now))) }
 {
     let negated = Formula::Not(Box::new(alloc, copy_formula(alloc, test)?)?);
     let both = two_formulas(alloc, &spec.pre, &negated)?;
@@ -111,7 +111,7 @@ fn add_conseq(
 ) -> Result<(), AllocError>
     requires spec { IsTypedSpecification layout.now (specification spec.now) }
     requires from { IsTypedSpecification layout.now (specification from.now) }
-    ensures { OnOk result (map claim all.new.items ≡ map claim all.old.items ++ map (obligation_claim layout.now) (conseq_obligations (specification spec.now) (specification from.now))) }
+    ensures { OnOk result (map condition_tree all.new.items ≡ map condition_tree all.old.items ++ map (as_condition layout.now) (conseq_conditions (specification spec.now) (specification from.now))) }
 {
     all.push(implies(alloc, layout.copy()?, &spec.pre, &from.pre)?)?;
     all.push(allows(alloc, layout.copy()?, &spec.rely, &from.rely)?)?;
@@ -130,7 +130,7 @@ fn add_basic(
 ) -> Result<(), AllocError>
     requires spec { IsTypedSpecification layout.now (specification spec.now) }
     requires statement { IsTypedStatement layout.now (statement s.now) }
-    ensures { OnOk result (map claim all.new.items ≡ map claim all.old.items ++ map (obligation_claim layout.now) (rule_obligations [] (specification spec.now) [] Basic (statement s.now))) }
+    ensures { OnOk result (map condition_tree all.new.items ≡ map condition_tree all.old.items ++ map (as_condition layout.now) (conditions_of_rule [] (specification spec.now) [] Basic (statement s.now))) }
 {
     let given = one_formula(alloc, &spec.pre)?;
     let again = one_formula(alloc, &spec.pre)?;
@@ -148,7 +148,7 @@ fn add_basic(
 }
 
 /// The line of a number, from 1.
-fn line_of_number(lines: &[Line], number: u64) -> Option<&Line>
+fn line_of_number(lines: &[DerivationLine], number: u64) -> Option<&DerivationLine>
     ensures { option_map referred_line result ≡ nth (map line_tree lines.now) number }
 {
     if number == 0 || number > lines.len() as u64 {
@@ -159,7 +159,7 @@ fn line_of_number(lines: &[Line], number: u64) -> Option<&Line>
 }
 
 /// The formulas of the first premise.
-fn first_premise<'a>(lines: &'a [Line], premises: &[u64]) -> Option<&'a Spec>
+fn first_premise<'a>(lines: &'a [DerivationLine], premises: &[u64]) -> Option<&'a Spec>
     ensures { option_map referred_spec result ≡ first_spec (map line_tree lines.now) premises.now }
 {
     let first = premises.first()?;
@@ -172,14 +172,14 @@ fn add_line(
     alloc: Global,
     all: &mut Vec<Condition>,
     layout: &Layout,
-    lines: &[Line],
-    line: &Line,
+    lines: &[DerivationLine],
+    line: &DerivationLine,
     s: &Stmt,
 ) -> Result<(), AllocError>
     requires lines { AreTypedLines layout.now (map line_tree lines.now) }
     requires line { IsTypedSpecification layout.now (specification line.now.spec) }
     requires statement { IsTypedStatement layout.now (statement s.now) }
-    ensures { OnOk result (map claim all.new.items ≡ map claim all.old.items ++ map (obligation_claim layout.now) (rule_obligations (map line_tree lines.now) (specification line.now.spec) line.now.premises.items line.now.rule (statement s.now))) }
+    ensures { OnOk result (map condition_tree all.new.items ≡ map condition_tree all.old.items ++ map (as_condition layout.now) (conditions_of_rule (map line_tree lines.now) (specification line.now.spec) line.now.premises.items line.now.rule (statement s.now))) }
 {
     let spec = &line.spec;
     match (line.rule, s) {
@@ -208,11 +208,11 @@ fn add_lines(
     all: &mut Vec<Condition>,
     layout: &Layout,
     list: &[&Stmt],
-    lines: &[Line],
+    lines: &[DerivationLine],
 ) -> Result<(), AllocError>
     requires lines { AreTypedLines layout.now (map line_tree lines.now) }
     requires statements { (n : ℕ) (s : Statement) → nth (map referred list.now) n ≡ Some s → IsTypedStatement layout.now s }
-    ensures { OnOk result (map claim all.new.items ≡ map claim all.old.items ++ map (obligation_claim layout.now) (obligations_of (map referred list.now) (map line_tree lines.now) (map line_tree lines.now))) }
+    ensures { OnOk result (map condition_tree all.new.items ≡ map condition_tree all.old.items ++ map (as_condition layout.now) (conditions_asked (map referred list.now) (map line_tree lines.now) (map line_tree lines.now))) }
 {
     for line in lines {
         if let Some(s) = statement_at(list, line.number) {
@@ -235,13 +235,13 @@ impl Derivation {
         // The lines were read for this program: that there is a proof of it, as a type can keep.
         requires derives { ∥ Derives (map part program.now.parts.items) (map line_tree self.now.lines.items) ∥₁ }
         // Exactly the rules' list.
-        ensures list { IfOk result (λ all. map claim all.items ≡ map (obligation_claim program.now.layout) (obligations_of (statements_of_parts (map part program.now.parts.items)) (map line_tree self.now.lines.items) (map line_tree self.now.lines.items))) }
+        ensures list { IfOk result (λ all. map condition_tree all.items ≡ map (as_condition program.now.layout) (conditions_asked (statements_of_parts (map part program.now.parts.items)) (map line_tree self.now.lines.items) (map line_tree self.now.lines.items))) }
         // One for each name.
         ensures count { IfOk result (λ all. length all.items ≡ length (line_names 1 (map line_tree self.now.lines.items))) }
         // Where they are true, each line's statement satisfies the line's four formulas.
-        ensures sound { IfOk result (λ all. AllConditionsHold (map claim all.items) → LinesHold program.now.layout (map part program.now.parts.items) (map line_tree self.now.lines.items)) }
+        ensures sound { IfOk result (λ all. AllConditionsHold (map condition_tree all.items) → LinesHold program.now.layout (map part program.now.parts.items) (map line_tree self.now.lines.items)) }
         // And so each part's body satisfies the part's own specification.
-        ensures parts { IfOk result (λ all. AllConditionsHold (map claim all.items) → PartsSatisfy (program_tree program.now)) }
+        ensures parts { IfOk result (λ all. AllConditionsHold (map condition_tree all.items) → PartsSatisfy (program_tree program.now)) }
     {
         let list = statements_by_number(alloc, program.parts.as_slice())?;
         let mut all = Vec::new(alloc);

@@ -5,7 +5,7 @@ ghost use Rattle.rg_words.specs.Refusals.{no_memory};
 
 use crate::fits::{are_parts_derived, first_bad_line};
 use crate::table::{sizes_of, statements_by_number};
-use rg_tree::line::Line;
+use rg_tree::line::DerivationLine;
 use rg_tree::program::Program;
 use rg_words::{Place, Refusal, RefusalNumber, SourceFile};
 use std::alloc::Global;
@@ -14,7 +14,7 @@ use std::alloc::Global;
 /// of its whole body with the part's four formulas.
 #[derive(Drop)]
 pub struct Derivation {
-    pub lines: Vec<Line>,
+    pub lines: Vec<DerivationLine>,
 }
 
 impl Derivation {
@@ -34,7 +34,7 @@ impl Derivation {
     pub fn of_lines(
         alloc: Global,
         program: &Program,
-        lines: Vec<Line>,
+        lines: Vec<DerivationLine>,
         last_line: u32,
     ) -> Result<Derivation, Refusal>
         // What is answered is these lines, and they derive the parts.

@@ -10,13 +10,13 @@ ghost use Rattle.rg_tree.specs.Programs.{nth};
 ghost use Rattle.rg_tree.specs.Numbering.{statements, statements_of_items, statements_of_parts};
 ghost use Rattle.rg_tree.specs.ProgramView.{specification, statement, items, part};
 ghost use Rattle.rg_tree.specs.Lines.{line_tree};
-ghost use Rattle.rg_rules.specs.View.{referred};
+ghost use Rattle.rg_rules.specs.Inner.View.{referred};
 ghost use Rattle.rg_rules.specs.Faults.{count_items, premise_count, item_numbers, premise_numbers, AreEarlier, lines_at, AreChained, AreChoices, AreTurn, TreesFit, IsLineAnswer, IsDerived, PartsDerived, AreFaultlessBefore, IsFirstBadLine};
-ghost use Rattle.rg_rules.specs.Sizes.{AreSized, IsSizedInside};
+ghost use Rattle.rg_rules.specs.Inner.Sizes.{AreSized, IsSizedInside};
 
 use crate::table::{size, statement_at};
 use rg_tree::equal::same_formula;
-use rg_tree::line::{Line, Rule};
+use rg_tree::line::{DerivationLine, Rule};
 use rg_tree::part::{Part, Spec};
 use rg_tree::statement::{Items, Stmt};
 use rg_tree::tree::Formula;
@@ -24,7 +24,7 @@ use rg_words::operators::Connective;
 use rg_words::{Place, Refusal, RefusalNumber, SourceFile};
 
 /// The line of a number, from 1.
-fn line_at(lines: &[Line], number: u64) -> &Line
+fn line_at(lines: &[DerivationLine], number: u64) -> &DerivationLine
     requires least { 1 ≤ number }
     requires most { number ≤ length lines.now }
     ensures { nth (map line_tree lines.now) number ≡ Some (line_tree result.now) }
@@ -88,7 +88,13 @@ fn size_at(sizes: &[u64], number: u64) -> u64
 
 /// Whether the premises are lines of the items, the first of which is statement `number`.
 #[tactic(auto, using(crate::proofs::Find::numbers))]
-fn are_of_items(lines: &[Line], sizes: &[u64], number: u64, rest: &Items, premises: &[u64]) -> bool
+fn are_of_items(
+    lines: &[DerivationLine],
+    sizes: &[u64],
+    number: u64,
+    rest: &Items,
+    premises: &[u64],
+) -> bool
     requires earlier { AreEarlier (length lines.now + 1) premises.now }
     requires sizes { AreSized sizes.now number (items rest.now) }
     requires room { number + length (statements_of_items (items rest.now)) < 2 ^ 64 }
@@ -108,7 +114,7 @@ fn are_of_items(lines: &[Line], sizes: &[u64], number: u64, rest: &Items, premis
 }
 
 /// Whether the premises are lines of these statements.
-fn are_of(lines: &[Line], premises: &[u64], numbers: &[u64]) -> bool
+fn are_of(lines: &[DerivationLine], premises: &[u64], numbers: &[u64]) -> bool
     requires earlier { AreEarlier (length lines.now + 1) premises.now }
     ensures { IsTrue result ↔ (map (λ l. l.number) (lines_at (map line_tree lines.now) premises.now) ≡ numbers.now) }
 {
@@ -125,7 +131,7 @@ fn are_of(lines: &[Line], premises: &[u64], numbers: &[u64]) -> bool
 /// Whether the premises are lines of the items of a sequence, the first of which is statement `number`.
 #[tactic(auto, using(crate::proofs::Find::numbers))]
 fn are_of_sequence(
-    lines: &[Line],
+    lines: &[DerivationLine],
     sizes: &[u64],
     number: u64,
     s: &Stmt,
@@ -147,7 +153,7 @@ fn are_of_sequence(
 
 /// Whether the premises are lines of the statements that the rule asks.
 #[tactic(auto, using(crate::proofs::Find::numbers))]
-fn are_asked(lines: &[Line], sizes: &[u64], line: &Line, s: &Stmt) -> bool
+fn are_asked(lines: &[DerivationLine], sizes: &[u64], line: &DerivationLine, s: &Stmt) -> bool
     requires earlier { AreEarlier (length lines.now + 1) line.now.premises.items }
     requires number { line.now.number ≤ MOST_STATEMENTS }
     requires sizes { IsSizedInside sizes.now line.now.number (statement s.now) }
@@ -216,7 +222,7 @@ fn is_spec(a: &Spec, pre: &Formula, spec: &Spec, post: &Formula) -> bool
 }
 
 /// Whether the premises lead from this pre to the post, each post the next pre.
-fn are_chained(lines: &[Line], pre: &Formula, spec: &Spec, premises: &[u64]) -> bool
+fn are_chained(lines: &[DerivationLine], pre: &Formula, spec: &Spec, premises: &[u64]) -> bool
     requires earlier { AreEarlier (length lines.now + 1) premises.now }
     ensures { IsTrue result ↔ AreChained (record (specification spec.now) { pre = formula pre.now }) (map (λ l. l.spec) (lines_at (map line_tree lines.now) premises.now)) }
 {
@@ -232,7 +238,7 @@ fn are_chained(lines: &[Line], pre: &Formula, spec: &Spec, premises: &[u64]) -> 
 }
 
 /// Whether the premises are formulas of the two blocks of an `if`.
-fn are_choices(lines: &[Line], spec: &Spec, test: &Formula, premises: &[u64]) -> bool
+fn are_choices(lines: &[DerivationLine], spec: &Spec, test: &Formula, premises: &[u64]) -> bool
     requires earlier { AreEarlier (length lines.now + 1) premises.now }
     requires count { length premises.now ≡ 2 }
     ensures { IsTrue result ↔ AreChoices (specification spec.now) (formula test.now) (map (λ l. l.spec) (lines_at (map line_tree lines.now) premises.now)) }
@@ -251,7 +257,7 @@ fn are_choices(lines: &[Line], spec: &Spec, test: &Formula, premises: &[u64]) ->
 }
 
 /// Whether the premise has the formulas of the body of a loop.
-fn is_turn(lines: &[Line], spec: &Spec, test: &Formula, premises: &[u64]) -> bool
+fn is_turn(lines: &[DerivationLine], spec: &Spec, test: &Formula, premises: &[u64]) -> bool
     requires earlier { AreEarlier (length lines.now + 1) premises.now }
     requires count { length premises.now ≡ 1 }
     ensures { IsTrue result ↔ AreTurn (specification spec.now) (formula test.now) (map (λ l. l.spec) (lines_at (map line_tree lines.now) premises.now)) }
@@ -266,7 +272,7 @@ fn is_turn(lines: &[Line], spec: &Spec, test: &Formula, premises: &[u64]) -> boo
 }
 
 /// Whether the formulas of the premises are as the rule asks.
-fn trees_fit(lines: &[Line], line: &Line, s: &Stmt) -> bool
+fn trees_fit(lines: &[DerivationLine], line: &DerivationLine, s: &Stmt) -> bool
     requires earlier { AreEarlier (length lines.now + 1) line.now.premises.items }
     requires count { premise_count line.now.rule (statement s.now) ≡ Some (length line.now.premises.items) }
     ensures { IsTrue result ↔ TreesFit (specification line.now.spec) line.now.rule (statement s.now) (map (λ l. l.spec) (lines_at (map line_tree lines.now) line.now.premises.items)) }
@@ -286,9 +292,9 @@ fn trees_fit(lines: &[Line], line: &Line, s: &Stmt) -> bool
 fn line_fault(
     list: &[&Stmt],
     sizes: &[u64],
-    lines: &[Line],
+    lines: &[DerivationLine],
     place: u64,
-    line: &Line,
+    line: &DerivationLine,
 ) -> Option<RefusalNumber>
     requires place { place ≤ length lines.now }
     requires most { length list.now ≤ MOST_STATEMENTS }
@@ -319,14 +325,14 @@ fn line_fault(
 }
 
 /// Whether the line is of this statement and has these four formulas.
-fn is_line_of(line: &Line, number: u64, spec: &Spec) -> bool
+fn is_line_of(line: &DerivationLine, number: u64, spec: &Spec) -> bool
     ensures { IsTrue result ↔ ((line.now.number ≡ number) × (specification line.now.spec ≡ specification spec.now)) }
 {
     line.number == number && is_spec(&line.spec, &spec.pre, spec, &spec.post)
 }
 
 /// Whether some line is of this statement and has these four formulas.
-fn is_derived(lines: &[Line], number: u64, spec: &Spec) -> bool
+fn is_derived(lines: &[DerivationLine], number: u64, spec: &Spec) -> bool
     ensures { IsTrue result ↔ IsDerived (map line_tree lines.now) number (specification spec.now) }
 {
     for line in lines {
@@ -338,7 +344,7 @@ fn is_derived(lines: &[Line], number: u64, spec: &Spec) -> bool
 }
 
 /// Whether each part has a line of its whole body with its four formulas.
-pub(crate) fn are_parts_derived(lines: &[Line], parts: &[Part]) -> bool
+pub(crate) fn are_parts_derived(lines: &[DerivationLine], parts: &[Part]) -> bool
     requires most { length (statements_of_parts (map part parts.now)) ≤ MOST_STATEMENTS }
     ensures { IsTrue result ↔ PartsDerived (map line_tree lines.now) 1 (map part parts.now) }
 {
@@ -353,7 +359,11 @@ pub(crate) fn are_parts_derived(lines: &[Line], parts: &[Part]) -> bool
 }
 
 /// The first line that doesn't meet its demands, as a refusal.
-pub(crate) fn first_bad_line(list: &[&Stmt], sizes: &[u64], lines: &[Line]) -> Option<Refusal>
+pub(crate) fn first_bad_line(
+    list: &[&Stmt],
+    sizes: &[u64],
+    lines: &[DerivationLine],
+) -> Option<Refusal>
     requires most { length list.now ≤ MOST_STATEMENTS }
     requires within { (n : ℕ) (s : Statement) → nth (map referred list.now) n ≡ Some s → length (statements s) ≤ MOST_STATEMENTS }
     requires sizes { (n : ℕ) (s : Statement) → nth (map referred list.now) n ≡ Some s → IsSizedInside sizes.now n s }

@@ -11,5 +11,4 @@ mod table;
 
 pub use derivation::Derivation;
 pub use laws::{derivations_have_no_fault, rules_are_sound};
-pub use read::derivations_read_in_one_way;
-pub use rg_tree::line::{Line, Rule};
+pub use rg_tree::line::{DerivationLine, Rule};

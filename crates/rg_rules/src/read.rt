@@ -4,27 +4,13 @@ ghost use Rattle.std.specs.Prelude.{◌≡◌, List, map, IfOk, IfErr};
 ghost use Rattle.rg_words.specs.Refusals.{no_memory};
 ghost use Rattle.rg_tree.specs.Lines.{LineTree, line_tree, AreTypedLines};
 ghost use Rattle.rg_tree.specs.ProgramTrees.{program as program_tree};
-ghost use Rattle.rg_parse.specs.Parse.{last_line};
-ghost use Rattle.rg_rules.specs.Reading.{FitsProgram, IsDerivationRefusal, OneDerivation};
+ghost use Rattle.rg_rules.specs.Reading.{FitsProgram, IsDerivationRefusal};
 
 use crate::derivation::Derivation;
-use rg_parse::parse::parse_derivation;
-use rg_parse::resolve::resolve_derivation;
-use rg_text::Tokens;
-use rg_text::token::Token;
+use rg_parse::derivation;
 use rg_tree::program::Program;
-use rg_words::{Refusal, SourceFile};
+use rg_words::Refusal;
 use std::alloc::Global;
-
-/// The line of the last token, and 1 where there is none.
-fn last_line(tokens: &[Token]) -> u32
-    ensures { result ≡ last_line tokens.now }
-{
-    match tokens.get(tokens.len().saturating_sub(1)) {
-        Some(token) => token.line,
-        None => 1,
-    }
-}
 
 impl Derivation {
     /// The derivation of a program's parts that a source spells: `line 1 basic 1 pre true rely true guar true post true`, and
@@ -35,7 +21,7 @@ impl Derivation {
     /// The first fault, in the file `derivation`. First `Limit` at line 1 (the file is too large) and `BadByte` at the byte's
     /// line. Then of its shape, at the line of the token, `UnexpectedInDerivation`, `Depth` and `Limit`, and `Unfinished` at
     /// the last line. Then of its meaning, the least token first: `NumberTooLarge` for a number of a line above
-    /// 4,294,967,295, and the faults of its formulas as `rg_parse::resolve::resolve_formula` tells them. Then of its lines, as
+    /// 4,294,967,295, and the faults of its formulas as `rg_resolve::resolve::resolve_formula` tells them. Then of its lines, as
     /// `of_lines` tells them. `Memory` where memory was refused.
     pub fn read(alloc: Global, program: &Program, source: &[u8]) -> Result<Derivation, Refusal>
         // What is read is what is written, and it derives the program's parts.
@@ -45,34 +31,13 @@ impl Derivation {
         // What is written and derives the parts is read, unless memory runs out.
         ensures accepts { (ls : List LineTree) → FitsProgram (program_tree program.now) source.now ls → IfErr result (λ e. e ≡ no_memory) }
     {
-        let tokens = match Tokens::read(alloc, source, SourceFile::Derivation) {
-            Ok(tokens) => tokens,
+        let (lines, last) = match derivation(alloc, &program.layout, source) {
+            Ok(read) => read,
             Err(refusal) => return Err(refusal),
         };
-        let written = match parse_derivation(alloc, SourceFile::Derivation, tokens.as_slice()) {
-            Ok(written) => written,
-            Err(refusal) => return Err(refusal),
-        };
-        let layout = &program.layout;
-        let lines = match resolve_derivation(
-            alloc,
-            layout,
-            SourceFile::Derivation,
-            source,
-            &written,
-        ) {
-            Ok(lines) => lines,
-            Err(refusal) => return Err(refusal),
-        };
-        let last = last_line(tokens.as_slice());
         match Derivation::of_lines(alloc, program, lines, last) {
             Ok(derivation) => Ok(derivation),
             Err(refusal) => Err(refusal),
         }
     }
 }
-
-/// The same bytes over the same words spell one list of lines.
-pub fn derivations_read_in_one_way()
-    ensures { OneDerivation }
-{}

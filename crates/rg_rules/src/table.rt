@@ -6,7 +6,7 @@ ghost use Rattle.rg_words.specs.declared.limits.TheConstants.{MOST_STATEMENTS};
 ghost use Rattle.rg_tree.specs.Programs.{nth};
 ghost use Rattle.rg_tree.specs.Numbering.{statements, statements_of_items, statements_of_parts};
 ghost use Rattle.rg_tree.specs.ProgramView.{statement, items, part};
-ghost use Rattle.rg_rules.specs.View.{referred};
+ghost use Rattle.rg_rules.specs.Inner.View.{referred};
 
 use rg_tree::part::Part;
 use rg_tree::statement::{Items, Stmt};

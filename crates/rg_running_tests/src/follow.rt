@@ -1,8 +1,6 @@
 //! What `follows` says of traces of small programs over the words x and y, with the expected answers written by hand.
 
-use rg_parse::inputs::start;
-use rg_parse::show::show;
-use rg_program::program::program;
+use rg_parse::{program, show, start};
 use rg_runs::{Step, Trace, follows};
 use rg_tree::program::Program;
 use rg_words::{Layout, Refusal, State};

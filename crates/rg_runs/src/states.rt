@@ -31,7 +31,7 @@ fn agree(layout: &Layout, first: &State, second: &State) -> bool
     requires second { IsState layout.now second.now.values }
     ensures { IsTrue result ↔ AgreeOnFixed layout.now first.now.values second.now.values }
 {
-    let _ = first.len();
+    first.facts();
     for word in 0..layout.len() {
         if layout.is_fixed(word) && first.get(word) != second.get(word) {
             return false;

@@ -5,7 +5,7 @@ ghost use Rattle.rg_words.specs.Layout.{widths_of};
 ghost use Rattle.rg_words.specs.States.{IsState};
 ghost use Rattle.rg_tree.specs.View.{formula};
 ghost use Rattle.rg_tree.specs.ProgramView.{statement, items};
-ghost use Rattle.rg_tree.specs.Claims.{assignment, assigned, AssignmentsTyped};
+ghost use Rattle.rg_tree.specs.ConditionTrees.{assignment, assigned, AssignmentsTyped};
 ghost use Rattle.rg_tree.specs.Traces.{holds_at};
 ghost use Rattle.rg_tree.specs.TypedPrograms.{IsTypedPredicate, IsTypedStatement, AreTypedItems};
 ghost use Rattle.rg_tree.specs.Following.{same_state, list_of, step_of, step_of_all};
@@ -37,8 +37,8 @@ fn holds_in(layout: &Layout, f: &Formula, state: &State) -> bool
     ensures { result ≡ holds_at (formula f.now) state.now.values }
 {
     typed_trees_fit();
-    let _ = layout.len();
-    let _ = state.len();
+    layout.facts();
+    state.facts();
     holds(f, state, state)
 }
 
@@ -51,8 +51,8 @@ fn set(layout: &Layout, state: &mut State, assign: &Assign)
 {
     typed_trees_fit();
     values_stay_within_width();
-    let _ = layout.len();
-    let _ = state.len();
+    layout.facts();
+    state.facts();
     let value = value(&assign.value, state, state);
     state.set(assign.word, value);
 }

@@ -6,9 +6,9 @@ use Rattle.rg_words.specs.States.{AreValues, IsState, IsPair}
 use Rattle.rg_tree.specs.Trees.{Expression, Proposition, Assignment, number, word, next_word, inverse, binary, shifted, choice, truth, negation, connected, compared}
 use Rattle.rg_tree.specs.Meaning.{value_of, holds, operated, moved, is_so, joined}
 use Rattle.rg_tree.specs.Primes.{has_next_word, speaks_of_two}
-use Rattle.rg_tree.specs.Claims.{all_hold, are_same, ConditionHolds, assigned}
+use Rattle.rg_tree.specs.ConditionTrees.{all_hold, are_same, ConditionHolds, assigned}
 use Rattle.rg_tree.specs.Traces.{State, holds_at, Inside}
-use Rattle.rg_tree.specs.Obligations.{Obligation, reaches, makes, keeps, allows, obligation_claim, AllHold, IsMet, AllMet, IsInside, IsPlainObligation, ArePlain, AllConditionsHold}
+use Rattle.rg_tree.specs.RuleConditions.{RuleCondition, reaches, makes, keeps, allows, as_condition, AllHold, IsMet, AllMet, IsInside, IsPlainCondition, ArePlain, AllConditionsHold}
 use Rattle.rg_tree.proofs.Steps.{agree_self}
 
 or_left : (a b : Bool) → (a || b) ≡ false → a ≡ false
@@ -86,7 +86,7 @@ inside_of R ws s t p q h = by_test (R s t) refl h
 self_pair : (words : List Word) (s : State) → IsState words s → IsPair words s s
 self_pair words s st = record { first = st; second = st; fixed = agree_self words s }
 
-pub met : (words : List Word) (o : Obligation) → IsPlainObligation o → ConditionHolds (obligation_claim words o) → IsMet words o
+pub met : (words : List Word) (o : RuleCondition) → IsPlainCondition o → ConditionHolds (as_condition words o) → IsMet words o
 met words (reaches given act goal) plain h = λ s st all.
     goal_of (all_hold given s s true) (holds goal (assigned act s) (assigned act s)) (h s s (self_pair words s st)) (all_true given s true refl all)
 met words (makes given act goal) plain h = λ s st pair all.
@@ -102,19 +102,19 @@ met words (allows R S) plain h = λ s t pair r.
 pub inside_more : (words : List Word) (R S : State → State → Bool) → IsInside words R S → (s t : State) → IsPair words s t → Inside R s t → Inside S s t
 inside_more words R S le s t pair h = ⊎_elim (λ r. le s t pair r) (λ e. inr e) h
 
-pub met_front : (words : List Word) (xs ys : List Obligation) → AllMet words (xs ++ ys) → AllMet words xs
+pub met_front : (words : List Word) (xs ys : List RuleCondition) → AllMet words (xs ++ ys) → AllMet words xs
 met_front words [] ys h = tt
 met_front words (x ∷ xs) ys h = (h.0, met_front words xs ys h.1)
 
-pub met_back : (words : List Word) (xs ys : List Obligation) → AllMet words (xs ++ ys) → AllMet words ys
+pub met_back : (words : List Word) (xs ys : List RuleCondition) → AllMet words (xs ++ ys) → AllMet words ys
 met_back words [] ys h = h
 met_back words (x ∷ xs) ys h = met_back words xs ys h.1
 
 -- true conditions say what their rules ask
-pub all_met : (words : List Word) (os : List Obligation) → ArePlain os → AllConditionsHold (map (obligation_claim words) os) → AllMet words os
+pub all_met : (words : List Word) (os : List RuleCondition) → ArePlain os → AllConditionsHold (map (as_condition words) os) → AllMet words os
 all_met words [] plain h = tt
 all_met words (o ∷ os) plain h = (met words o plain.0 h.0, all_met words os plain.1 h.1)
 
-pub plain_append : (xs ys : List Obligation) → ArePlain xs → ArePlain ys → ArePlain (xs ++ ys)
+pub plain_append : (xs ys : List RuleCondition) → ArePlain xs → ArePlain ys → ArePlain (xs ++ ys)
 plain_append [] ys p q = q
 plain_append (x ∷ xs) ys p q = (p.0, plain_append xs ys p.1 q)

@@ -5,7 +5,7 @@ use Rattle.std.proofs.lemmas.Bool.{eq-eqb, eqb-true}
 use Rattle.std.specs.Prelude.{◌==◌, if◌then◌else◌, option_and_then}
 use Rattle.rg_tree.specs.Trees.{Proposition}
 use Rattle.rg_tree.specs.Statements.{Statement, skip, assign, await, sequence, branch, loop, Items, one, more}
-use Rattle.rg_tree.specs.Claims.{assigned}
+use Rattle.rg_tree.specs.ConditionTrees.{assigned}
 use Rattle.rg_tree.specs.Traces.{State, holds_at}
 use Rattle.rg_tree.specs.Traces.{Move, Own, Env, last}
 use Rattle.rg_tree.specs.Runs.{Behavior, AllEnv, Atomic, Then, Within, Past, Yes, No, Choice, Loop, Idle, Wait, Leave, Inner, Again, runs, runs_of_items, always}

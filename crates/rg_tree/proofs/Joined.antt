@@ -3,7 +3,7 @@ use Rattle.std.proofs.Common.{◌≡◌, ℕ, Bool, true, false, List, [], ◌�
 use Rattle.std.proofs.lemmas.List.{append-nil}
 use Rattle.rg_tree.specs.Trees.{Proposition}
 use Rattle.rg_tree.specs.Statements.{Statement, skip, assign, await, sequence, branch, loop, Items, one, more}
-use Rattle.rg_tree.specs.Claims.{assigned}
+use Rattle.rg_tree.specs.ConditionTrees.{assigned}
 use Rattle.rg_tree.specs.Traces.{State, holds_at}
 use Rattle.rg_tree.specs.Traces.{Move, Own, Env, last}
 use Rattle.rg_tree.specs.Runs.{Behavior, AllEnv, Once, Acts, Then, Within, Past, Tests, Yes, No, Loop, Idle, Wait, Leave, Inner, Again, runs, runs_of_items, always}

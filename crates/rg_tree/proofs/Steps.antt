@@ -5,7 +5,7 @@ use Rattle.rg_words.specs.Layout.{Word, widths_of}
 use Rattle.rg_words.specs.States.{AreValues, IsState, SameIf, AgreeOnFixed, IsPair}
 use Rattle.rg_tree.specs.Trees.{Assignment}
 use Rattle.rg_tree.specs.Meaning.{value_of}
-use Rattle.rg_tree.specs.Claims.{assigned, AssignmentsTyped}
+use Rattle.rg_tree.specs.ConditionTrees.{assigned, AssignmentsTyped}
 use Rattle.rg_tree.specs.TypedPrograms.{TargetsFree}
 use Rattle.rg_tree.specs.Laws.{StepsArePairs}
 use Rattle.rg_tree.proofs.Widths.{values_within}

@@ -3,7 +3,7 @@ use Rattle.std.proofs.Common.{◌≡◌, ℕ, Bool, true, false, not, ◌&&◌, 
 use Rattle.std.proofs.lemmas.Bool.Decides.{nat_tests}
 use Rattle.rg_tree.specs.Trees.{Proposition, Assignment}
 use Rattle.rg_tree.specs.Meaning.{value_of, holds}
-use Rattle.rg_tree.specs.Claims.{SecondState, same, free, after, assigned, before, reached, all_hold, are_same, goal_holds}
+use Rattle.rg_tree.specs.ConditionTrees.{SecondState, same, free, after, assigned, before, reached, all_hold, are_same, goal_holds}
 use Rattle.rg_tree.specs.Truth.{AllTrue, TestsSayTruth}
 
 both_left : (a b : Bool) → (a && b) ≡ true → a ≡ true

@@ -13,8 +13,8 @@ use Rattle.rg_tree.specs.Trees.{Expression, Proposition, Assignment, number, wor
 use Rattle.rg_tree.specs.Meaning.{operated, moved, value_of, holds}
 use Rattle.rg_tree.specs.Fits.{ExpressionFits, FormulaFits}
 use Rattle.rg_tree.specs.Typing.{HasWidth, IsTyped}
-use Rattle.rg_tree.specs.Claims.{SecondState, same, free, after, AllFit, AssignmentsFit, SecondFits, AllTyped, AssignmentsTyped, SecondTyped}
-use Rattle.rg_tree.specs.WellTyped.{ValuesStayWithinWidth, TypedExpressionsFit, TypedFormulasFit, TypedClaimsFit}
+use Rattle.rg_tree.specs.ConditionTrees.{SecondState, same, free, after, AllFit, AssignmentsFit, SecondFits, AllTyped, AssignmentsTyped, SecondTyped}
+use Rattle.rg_tree.specs.WellTyped.{ValuesStayWithinWidth, TypedExpressionsFit, TypedFormulasFit, TypedConditionsFit}
 
 -- a word's value is below 2 to the power of its width
 value_within : (widths s : List ℕ) (k : ℕ) → AreValues widths s → k < length widths → get_or s k 0 < 2 ^ get_or widths k 0
@@ -125,8 +125,8 @@ second_fits words limits same h = tt
 second_fits words limits free h = tt
 second_fits words limits (after as_) h = assignments_fit words limits as_ h
 
-pub typed_claims_fit : TypedClaimsFit
-typed_claims_fit c limits h = record {
+pub typed_conditions_fit : TypedConditionsFit
+typed_conditions_fit c limits h = record {
   hypotheses = all_fit c.words limits c.hypotheses h.hypotheses;
   second = second_fits c.words limits c.second h.second;
   goal = typed_formulas_fit c.words limits c.goal h.goal;

@@ -1,7 +1,7 @@
 -- Following a trace: what is still to be done, as a list of statements, of which one own step takes the first.
 use Rattle.std.specs.Prelude.{◌≡◌, Bool, true, false, ◌&&◌, ◌==◌, List, [], ◌∷◌, ◌++◌, if◌then◌else◌, Option, Some, None, option_and_then, ◌↔◌}
 use Rattle.rg_tree.specs.Statements.{Statement, skip, assign, await, sequence, branch, loop, Items, one, more}
-use Rattle.rg_tree.specs.Claims.{assigned}
+use Rattle.rg_tree.specs.ConditionTrees.{assigned}
 use Rattle.rg_tree.specs.Traces.{State, holds_at}
 use Rattle.rg_tree.specs.Traces.{Move, Own, Env}
 use Rattle.rg_tree.specs.Runs.{runs}

@@ -3,7 +3,7 @@ use Rattle.std.specs.Prelude.{ℕ, List}
 use Rattle.rg_words.specs.Layout.{Word, widths_of}
 use Rattle.rg_words.specs.States.{IsState, IsPair}
 use Rattle.rg_tree.specs.Trees.{Assignment}
-use Rattle.rg_tree.specs.Claims.{assigned}
+use Rattle.rg_tree.specs.ConditionTrees.{assigned}
 use Rattle.rg_tree.specs.TypedPrograms.{IsTypedAction}
 
 -- the step of typed assignments leads from a state to a state and keeps the fixed words

@@ -2,7 +2,7 @@
 use Rattle.std.specs.Prelude.{ℕ, List, [], ◌∷◌}
 use Rattle.rg_words.specs.Layout.{Word}
 use Rattle.rg_tree.specs.declared.line.Rule.{Rule}
-use Rattle.rg_tree.specs.declared.line.Line.{Line}
+use Rattle.rg_tree.specs.declared.line.DerivationLine.{DerivationLine}
 use Rattle.rg_tree.specs.Statements.{Specification}
 use Rattle.rg_tree.specs.ProgramView.{specification}
 use Rattle.rg_tree.specs.TypedPrograms.{IsTypedSpecification}
@@ -17,7 +17,7 @@ pub record LineTree : Type 0 where
   pub premises : List ℕ
   pub spec : Specification
 
-abbrev pub line_tree : Line → LineTree
+abbrev pub line_tree : DerivationLine → LineTree
 line_tree l = record {
   own_number = l.own_number;
   source_line = l.source_line;

@@ -8,7 +8,7 @@ use Rattle.rg_tree.specs.declared.statement.Items as declared
 use Rattle.rg_tree.specs.declared.part.Spec.{Spec}
 use Rattle.rg_tree.specs.declared.part.Part.{Part}
 use Rattle.rg_tree.specs.View.{formula}
-use Rattle.rg_tree.specs.Claims.{assignment}
+use Rattle.rg_tree.specs.ConditionTrees.{assignment}
 use Rattle.rg_tree.specs.Statements.{Statement, skip, assign, await, sequence, branch, loop, Items, one, more, Specification, PartTree}
 
 abbrev mutual

@@ -1,7 +1,7 @@
 -- The runs of a statement: which traces it can make, and whether it has ended.
 use Rattle.std.specs.Prelude.{◌≡◌, Bool, true, false, List, [], ◌∷◌, ◌++◌}
 use Rattle.rg_tree.specs.Statements.{Statement, skip, assign, await, sequence, branch, loop, Items, one, more}
-use Rattle.rg_tree.specs.Claims.{assigned}
+use Rattle.rg_tree.specs.ConditionTrees.{assigned}
 use Rattle.rg_tree.specs.Traces.{State, holds_at}
 use Rattle.rg_tree.specs.Traces.{Move, Own, Env, last}
 

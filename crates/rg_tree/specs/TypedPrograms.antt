@@ -6,7 +6,7 @@ use Rattle.rg_words.specs.declared.limits.TheConstants.{MOST_PARTS, MOST_STATEME
 use Rattle.rg_tree.specs.Trees.{Proposition, Assignment}
 use Rattle.rg_tree.specs.Typing.{IsTyped}
 use Rattle.rg_tree.specs.Primes.{speaks_of_two, has_next_word}
-use Rattle.rg_tree.specs.Claims.{AssignmentsTyped}
+use Rattle.rg_tree.specs.ConditionTrees.{AssignmentsTyped}
 use Rattle.rg_tree.specs.Statements.{Statement, skip, assign, await, sequence, branch, loop, Items, one, more, Specification, PartTree, ProgramTree}
 use Rattle.rg_tree.specs.Numbering.{statements_of_parts}
 

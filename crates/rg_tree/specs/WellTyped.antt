@@ -6,7 +6,7 @@ use Rattle.rg_tree.specs.Trees.{Expression, Proposition}
 use Rattle.rg_tree.specs.Meaning.{value_of}
 use Rattle.rg_tree.specs.Fits.{ExpressionFits, FormulaFits}
 use Rattle.rg_tree.specs.Typing.{HasWidth, IsTyped}
-use Rattle.rg_tree.specs.Claims.{Claim, ClaimFits, ClaimTyped}
+use Rattle.rg_tree.specs.ConditionTrees.{ConditionTree, ConditionFits, ConditionTyped}
 
 -- an expression of width w has a value below 2 ^ w in every two states
 abbrev pub ValuesStayWithinWidth : Type 0
@@ -19,5 +19,5 @@ TypedExpressionsFit = (words : List Word) → IsLayout words → (e : Expression
 abbrev pub TypedFormulasFit : Type 0
 TypedFormulasFit = (words : List Word) → IsLayout words → (f : Proposition) → IsTyped (widths_of words) f → FormulaFits f (length words)
 
-abbrev pub TypedClaimsFit : Type 0
-TypedClaimsFit = (c : Claim) → IsLayout c.words → ClaimTyped c → ClaimFits c
+abbrev pub TypedConditionsFit : Type 0
+TypedConditionsFit = (c : ConditionTree) → IsLayout c.words → ConditionTyped c → ConditionFits c

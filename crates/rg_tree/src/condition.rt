@@ -3,8 +3,8 @@
 ghost use Rattle.std.specs.Prelude.{◌≡◌, length, map};
 ghost use Rattle.rg_words.specs.Layout.{widths_of};
 ghost use Rattle.rg_tree.specs.View.{formula};
-ghost use Rattle.rg_tree.specs.Claims.{ClaimFits, ClaimTyped, claim_of, second_state};
-ghost use Rattle.rg_tree.specs.OneProof.{ClaimFits-prop, ClaimTyped-prop};
+ghost use Rattle.rg_tree.specs.ConditionTrees.{ConditionFits, ConditionTyped, condition_tree_of, second_state};
+ghost use Rattle.rg_tree.specs.Inner.OneProof.{ConditionFits-prop, ConditionTyped-prop};
 ghost use Rattle.rg_tree.specs.Truth.{TestsSayTruth};
 
 use crate::primes::speaks_of_two;
@@ -48,26 +48,26 @@ pub struct Condition {
     pub alone: bool,
     /// A step that changes nothing meets the goal too.
     pub or_no_change: bool,
-    pub ghost fits: { ClaimFits (claim_of layout (map formula hypotheses.items) (second_state second) (formula goal) alone or_no_change) } by { ClaimFits-prop _ },
-    pub ghost typed: { ClaimTyped (claim_of layout (map formula hypotheses.items) (second_state second) (formula goal) alone or_no_change) } by { ClaimTyped-prop _ },
+    pub ghost fits: { ConditionFits (condition_tree_of layout (map formula hypotheses.items) (second_state second) (formula goal) alone or_no_change) } by { ConditionFits-prop _ },
+    pub ghost typed: { ConditionTyped (condition_tree_of layout (map formula hypotheses.items) (second_state second) (formula goal) alone or_no_change) } by { ConditionTyped-prop _ },
 }
 
 impl Condition {
     ghost use Rattle.rg_tree.specs.Fits.{FormulaFits};
     ghost use Rattle.rg_tree.specs.Typing.{IsTyped};
-    ghost use Rattle.rg_tree.specs.Conditions.{claim, shown};
+    ghost use Rattle.rg_tree.specs.Conditions.{condition_tree, shown};
 
     /// What every condition keeps: its words are there, and its trees are of one width each.
     pub fn facts(&self)
-        ensures fits { ClaimFits (claim self.now) }
-        ensures typed { ClaimTyped (claim self.now) }
+        ensures fits { ConditionFits (condition_tree self.now) }
+        ensures typed { ConditionTyped (condition_tree self.now) }
     {}
 
     /// A formula as a condition of its own, with no hypotheses. It speaks of two states where a primed word stands in it.
     pub fn show(alloc: Global, layout: Layout, goal: Formula) -> Condition
         requires fits { FormulaFits (formula goal) (length layout) }
         requires typed { IsTyped (widths_of layout) (formula goal) }
-        ensures { claim result ≡ shown layout (formula goal) }
+        ensures { condition_tree result ≡ shown layout (formula goal) }
     {
         let second = if speaks_of_two(&goal) {
             Second::Free

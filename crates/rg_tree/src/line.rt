@@ -18,7 +18,7 @@ pub enum Rule {
 
 /// A line: that a statement satisfies four formulas, by a rule and earlier lines.
 #[derive(Drop)]
-pub struct Line {
+pub struct DerivationLine {
     /// The number that the line gives itself.
     pub own_number: u64,
     /// The line of the source on which it begins, from 1.

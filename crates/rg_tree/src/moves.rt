@@ -28,7 +28,7 @@ pub fn give(values: &[WordValue], state: &mut State)
     ensures widths { state.new.widths ≡ state.old.widths }
 {
     // As many values as widths.
-    let _count = state.len();
+    state.facts();
     for value in values {
         state.set(value.word, value.value);
     }

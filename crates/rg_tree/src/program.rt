@@ -3,7 +3,7 @@
 ghost use Rattle.std.specs.Prelude.{map};
 ghost use Rattle.rg_tree.specs.ProgramView.{specification, part};
 ghost use Rattle.rg_tree.specs.TypedPrograms.{IsTypedProgram};
-ghost use Rattle.rg_tree.specs.ProgramProof.{IsTypedProgram-prop};
+ghost use Rattle.rg_tree.specs.Inner.ProgramProof.{IsTypedProgram-prop};
 
 use crate::part::{Part, Spec};
 use rg_words::Layout;

@@ -25,7 +25,7 @@ pub struct Buffered<W> {
 impl<W: Out> Buffered<W> {
     ghost use Rattle.rg_words.specs.Buffers.{inner_of, waiting_in};
     ghost use Rattle.std.specs.Io.KnownBytes.{Keeps, append_known};
-    ghost use Rattle.rg_words.specs.Written.{IsWritten};
+    ghost use Rattle.rg_words.specs.Written.{CanCount, IsWritten};
 
     /// A buffer before this writer. All of its memory is taken here.
     pub fn new(alloc: Global, inner: W) -> Result<Buffered<W>, AllocError>
@@ -51,7 +51,7 @@ impl<W: Out> Buffered<W> {
 
     /// Passes on all that waits. It stops at the first failure, and the rest then waits.
     pub fn flush(&mut self) -> Result<(), WriteFault>
-        requires { W.failures (inner_of self.old) < 2 ^ 64 - 1 }
+        requires { CanCount (W.failures (inner_of self.old)) }
 
         // What waited goes out whole, or a beginning of it and one failure more.
         ensures written { IsWritten (W.contents (inner_of self.old)) (W.contents (inner_of self.new)) (W.failures (inner_of self.old)) (W.failures (inner_of self.new)) (waiting_in self.old) result }

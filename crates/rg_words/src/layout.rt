@@ -57,6 +57,13 @@ impl Layout {
         self.words.len()
     }
 
+    /// What is known of every layout, for proofs: there is nothing to do.
+    pub fn facts(&self)
+        ensures layout { IsLayout self.now }
+    {
+        let _ = self.len();
+    }
+
     /// The word of this name.
     pub fn find(&self, name: &str) -> Option<usize>
         ensures exact { result ≡ index_of self.now name.now }

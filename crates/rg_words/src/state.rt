@@ -49,6 +49,14 @@ impl State {
         self.values.len()
     }
 
+    /// What is known of every state, for proofs: there is nothing to do.
+    pub fn facts(&self)
+        ensures widths { length self.now.widths ≡ length self.now.values }
+        ensures state { AreValues self.now.widths self.now.values }
+    {
+        let _ = self.len();
+    }
+
     /// The value of a word.
     pub fn get(&self, word: usize) -> u64
         requires { word < length self.now.values }

@@ -3,12 +3,13 @@ use Rattle.std.proofs.Common.{◌≡◌, ℕ, List, inr, subst, sym}
 use Rattle.rg_words.specs.declared.refusal.Refusal.{Refusal}
 use Rattle.rg_tree.specs.Statements.{ProgramTree}
 use Rattle.rg_tree.specs.Lines.{LineTree}
-use Rattle.rg_rules.specs.Reading.{FitsProgram, OneDerivation}
+use Rattle.rg_rules.specs.Reading.{FitsProgram}
+use Rattle.rg_parse.specs.Derivations.{OneSpelledDerivation}
 use Rattle.rg_hints.specs.Proved.{AreProved, IsProofsRefusal}
 use Rattle.rgc.specs.Accepted.{conditions_of, IsAccepted, IsAcceptRefusal}
 
 -- the proofs of an accepted program prove the conditions of the lines that were read, over the program as it was kept
-pub proved_read : OneDerivation → (derivation proofs : List ℕ) (p q : ProgramTree) (lines : List LineTree) → q ≡ p → FitsProgram p derivation lines → IsAccepted p derivation proofs → AreProved (conditions_of q lines) proofs
+pub proved_read : OneSpelledDerivation → (derivation proofs : List ℕ) (p q : ProgramTree) (lines : List LineTree) → q ≡ p → FitsProgram p derivation lines → IsAccepted p derivation proofs → AreProved (conditions_of q lines) proofs
 proved_read one derivation proofs p q lines same fits a =
     let same_lines = (one p.words derivation a.lines lines a.fits.last fits.last a.fits.spelled fits.spelled).0 in
     subst (λ (t : ProgramTree). AreProved (conditions_of t lines) proofs) (sym same) (subst (λ (ls : List LineTree). AreProved (conditions_of p ls) proofs) same_lines a.proved)

@@ -3,11 +3,12 @@ use Rattle.std.proofs.Common.{◌≡◌, ◌∙◌, ℕ, List, inl, inr, subst, 
 use Rattle.rg_words.specs.declared.refusal.Refusal.{Refusal}
 use Rattle.rg_tree.specs.Statements.{ProgramTree}
 use Rattle.rg_tree.specs.Lines.{LineTree}
-use Rattle.rg_rules.specs.Reading.{FitsProgram, OneDerivation, IsDerivationRefusal}
+use Rattle.rg_rules.specs.Reading.{FitsProgram, IsDerivationRefusal}
+use Rattle.rg_parse.specs.Derivations.{OneSpelledDerivation}
 use Rattle.rg_hints.specs.Proved.{AreProved, IsProofsRefusal}
 use Rattle.rg_code.specs.Code.{BlockTree, HasRunsOf}
 use Rattle.rg_tree.specs.Programs.{IsSatisfied}
-use Rattle.rg_program.specs.Programs.{SpellsProgram, OneSpelledProgram}
+use Rattle.rg_parse.specs.Programs.{SpellsProgram, OneSpelledProgram}
 use Rattle.rgc.specs.Accepted.{conditions_of, IsAccepted, IsAcceptRefusal, AreAccepted, IsAcceptedText, IsAcceptTextRefusal, IsBuiltText}
 use Rattle.rgc.proofs.Accepting.{proved_read, kept_proved, proofs_refused}
 
@@ -23,7 +24,7 @@ fits_read one text derivation proofs p spells a =
     (b.lines, b.fits)
 
 -- its proofs prove the conditions of the lines that were read, over the program as it was kept
-pub text_proved : OneSpelledProgram → OneDerivation → (text derivation proofs : List ℕ) (p q : ProgramTree) (lines : List LineTree) → SpellsProgram text p → q ≡ p → FitsProgram p derivation lines → IsAcceptedText text derivation proofs → AreProved (conditions_of q lines) proofs
+pub text_proved : OneSpelledProgram → OneSpelledDerivation → (text derivation proofs : List ℕ) (p q : ProgramTree) (lines : List LineTree) → SpellsProgram text p → q ≡ p → FitsProgram p derivation lines → IsAcceptedText text derivation proofs → AreProved (conditions_of q lines) proofs
 text_proved one_program one_derivation text derivation proofs p q lines spells same fits a =
     proved_read one_derivation derivation proofs p q lines same fits (accepted_read one_program text derivation proofs p spells a)
 

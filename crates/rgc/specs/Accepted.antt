@@ -2,26 +2,26 @@
 -- program's code.
 use Rattle.std.specs.Prelude.{◌⊎◌, ℕ, List, ◌++◌, map}
 use Rattle.rg_words.specs.declared.refusal.Refusal.{Refusal}
-use Rattle.rg_tree.specs.Claims.{Claim}
+use Rattle.rg_tree.specs.ConditionTrees.{ConditionTree}
 use Rattle.rg_tree.specs.Lines.{LineTree}
 use Rattle.rg_tree.specs.Statements.{ProgramTree}
 use Rattle.rg_tree.specs.Numbering.{statements_of_parts}
 use Rattle.rg_tree.specs.Programs.{IsSatisfied}
-use Rattle.rg_tree.specs.Obligations.{Obligation, obligation_claim}
-use Rattle.rg_rules.specs.Derivations.{obligations_of}
+use Rattle.rg_tree.specs.RuleConditions.{RuleCondition, as_condition}
+use Rattle.rg_rules.specs.Derivations.{conditions_asked}
 use Rattle.rg_rules.specs.Reading.{FitsProgram, IsDerivationRefusal}
-use Rattle.rg_par.specs.Parallel.{parallel_obligations}
+use Rattle.rg_par.specs.Parallel.{parallel_conditions}
 use Rattle.rg_hints.specs.Proved.{AreProved, IsProofsRefusal}
 use Rattle.rg_code.specs.Code.{BlockTree, HasRunsOf}
-use Rattle.rg_program.specs.Programs.{SpellsProgram, IsProgramRefusal}
+use Rattle.rg_parse.specs.Programs.{SpellsProgram, IsProgramRefusal}
 
 -- what the rules ask of a program and the lines of its derivation: first for the lines, then for the parallel parts
-abbrev pub asked_of : ProgramTree → List LineTree → List Obligation
-asked_of p lines = obligations_of (statements_of_parts p.parts) lines lines ++ parallel_obligations p.spec p.parts
+abbrev pub asked_of : ProgramTree → List LineTree → List RuleCondition
+asked_of p lines = conditions_asked (statements_of_parts p.parts) lines lines ++ parallel_conditions p.spec p.parts
 
 -- the conditions, which are numbered from 1 in this order
-abbrev pub conditions_of : ProgramTree → List LineTree → List Claim
-conditions_of p lines = map (obligation_claim p.words) (asked_of p lines)
+abbrev pub conditions_of : ProgramTree → List LineTree → List ConditionTree
+conditions_of p lines = map (as_condition p.words) (asked_of p lines)
 
 -- accepted by the written rules for this program: the derivation spells lines that derive its parts, and the proofs prove every condition
 pub record IsAccepted (p : ProgramTree) (derivation proofs : List ℕ) : Type 0 where

@@ -6,14 +6,14 @@ use Rattle.rg_words.specs.declared.refusal.RefusalNumber.TheVariants.{Limit, Unk
 use Rattle.rg_words.specs.declared.refusal.SourceFile.TheVariants.{Derivation}
 use Rattle.rg_words.specs.declared.refusal.Place.TheVariants.{Condition}
 use Rattle.rg_words.specs.Refusals.{no_memory, refused, refused_in}
-use Rattle.rg_tree.specs.Claims.{Claim}
+use Rattle.rg_tree.specs.ConditionTrees.{ConditionTree}
 use Rattle.rg_tree.specs.Lines.{LineTree}
 use Rattle.rg_tree.specs.Statements.{ProgramTree}
 use Rattle.rg_tree.specs.Programs.{nth}
-use Rattle.rg_clauses.specs.Conditions.{clauses_of_claim}
+use Rattle.rg_clauses.specs.Conditions.{clauses_of_condition}
 use Rattle.rg_rules.specs.Reading.{FitsProgram, IsDerivationRefusal}
 use Rattle.rgc.specs.Accepted.{conditions_of}
-use Rattle.rg_program.specs.Programs.{SpellsProgram, IsProgramRefusal}
+use Rattle.rg_parse.specs.Programs.{SpellsProgram, IsProgramRefusal}
 
 -- the text spells a program, and the derivation lines that derive its parts
 pub record AreDerived (text derivation : List ℕ) (program : ProgramTree) (lines : List LineTree) : Type 0 where
@@ -26,7 +26,7 @@ IsDeriveRefusal text derivation e =
     IsProgramRefusal text e ⊎ ((program : ProgramTree) × SpellsProgram text program × IsDerivationRefusal program derivation e)
 
 -- the condition of this number, from 1, of the text's program with this derivation
-pub record IsChosen (text derivation : List ℕ) (number : ℕ) (c : Claim) : Type 0 where
+pub record IsChosen (text derivation : List ℕ) (number : ℕ) (c : ConditionTree) : Type 0 where
   pub program : ProgramTree
   pub lines : List LineTree
   pub derived : AreDerived text derivation program lines
@@ -50,7 +50,7 @@ IsChoiceRefusal text derivation number e =
 abbrev pub IsChosenClausesRefusal : List ℕ → List ℕ → ℕ → Refusal → Type 0
 IsChosenClausesRefusal text derivation number e =
     IsChoiceRefusal text derivation number e
-    ⊎ ((c : Claim) × IsChosen text derivation number c × (MOST_VARIABLES < (clauses_of_claim c).variables) × (e ≡ refused_in Limit Derivation (Condition number)))
+    ⊎ ((c : ConditionTree) × IsChosen text derivation number c × (MOST_VARIABLES < (clauses_of_condition c).variables) × (e ≡ refused_in Limit Derivation (Condition number)))
 
 -- why nothing is said of it: it has no clauses, or too many decisions are asked for
 abbrev pub IsChosenFindRefusal : List ℕ → List ℕ → ℕ → ℕ → Refusal → Type 0

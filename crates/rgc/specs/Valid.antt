@@ -8,20 +8,20 @@ use Rattle.rg_words.specs.declared.refusal.Place.TheVariants.{Condition}
 use Rattle.rg_words.specs.Refusals.{refused, refused_in, refused_at}
 use Rattle.rg_words.specs.Layout.{Word}
 use Rattle.rg_tree.specs.Trees.{Proposition}
-use Rattle.rg_tree.specs.Conditions.{Claim, shown, ConditionHolds}
+use Rattle.rg_tree.specs.Conditions.{ConditionTree, shown, ConditionHolds}
 use Rattle.rg_parse.specs.Shown.{SpellsShow, IsShowRefusal}
-use Rattle.rg_clauses.specs.Formula.{Formula}
-use Rattle.rg_clauses.specs.Conditions.{clauses_of_claim}
+use Rattle.rg_clauses.specs.ClauseLists.{Cnf}
+use Rattle.rg_clauses.specs.Conditions.{clauses_of_condition}
 use Rattle.rg_hints.specs.Lines.{Section}
 use Rattle.rg_hints.specs.Reading.{section_of}
 use Rattle.rg_hints.specs.Verdict.{IsClosed, IsSectionRefusal}
 
 -- the clauses of a formula to show
-abbrev pub clauses_shown : List Word → Proposition → Formula
-clauses_shown words f = clauses_of_claim (shown words f)
+abbrev pub clauses_shown : List Word → Proposition → Cnf
+clauses_shown words f = clauses_of_condition (shown words f)
 
 -- the text spells a formula to show, and these are its clauses, which keep the limit of variables
-pub record HasClauses (text : List ℕ) (clauses : Formula) : Type 0 where
+pub record HasClauses (text : List ℕ) (clauses : Cnf) : Type 0 where
   pub words : List Word
   pub formula : Proposition
   pub spells : SpellsShow text words formula
@@ -39,7 +39,7 @@ IsClausesRefusal text e =
     ⊎ ((words : List Word) × (f : Proposition) × SpellsShow text words f × (MOST_VARIABLES < (clauses_shown words f).variables) × (e ≡ refused_in Limit Text (Condition 1)))
 
 -- the text spells a formula to show, and this is its condition
-pub record IsShown (text : List ℕ) (c : Claim) : Type 0 where
+pub record IsShown (text : List ℕ) (c : ConditionTree) : Type 0 where
   pub words : List Word
   pub formula : Proposition
   pub spells : SpellsShow text words formula
@@ -51,7 +51,7 @@ IsFindRefusal text steps e = IsClausesRefusal text e ⊎ ((MOST_DECISIONS < step
 
 -- the text spells a formula to show, and the proofs, within their size, have the form of hint lines and close its clauses
 pub record IsProved (text proofs : List ℕ) : Type 0 where
-  pub clauses : Formula
+  pub clauses : Cnf
   pub has : HasClauses text clauses
   pub size : length proofs ≤ MOST_PROOF_BYTES
   pub section : Section
@@ -62,7 +62,7 @@ pub record IsProved (text proofs : List ℕ) : Type 0 where
 abbrev pub IsValidRefusal : List ℕ → List ℕ → Refusal → Type 0
 IsValidRefusal text proofs e =
     IsClausesRefusal text e
-    ⊎ ((clauses : Formula) × HasClauses text clauses
+    ⊎ ((clauses : Cnf) × HasClauses text clauses
     × (((MOST_PROOF_BYTES < length proofs) × (e ≡ refused_at Limit Proofs 1))
     ⊎ ((length proofs ≤ MOST_PROOF_BYTES)
     × ((section_of 1 (length clauses.clauses) proofs ≡ Err e)

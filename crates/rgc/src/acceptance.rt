@@ -8,8 +8,7 @@ ghost use Rattle.rgc.specs.Accepted.{IsAccepted, IsAcceptRefusal, IsBuilt, AreAc
 ghost use Rattle.rgc.specs.Stages.{accepted_program, emitted_program, emitted_blocks};
 
 use crate::stages::{Accepted, Derived, Emitted, Parsed};
-use rg_program::program::one_program;
-use rg_rules::derivations_read_in_one_way;
+use rg_parse::{one_derivation, one_program};
 use rg_tree::program::Program;
 use rg_words::Refusal;
 use std::alloc::Global;
@@ -35,7 +34,7 @@ pub fn accept_program(
     ensures satisfied { OnOk result (IsSatisfied (program_tree program)) }
 {
     // The bytes spell one derivation.
-    derivations_read_in_one_way();
+    one_derivation();
     let derived = match Derived::read(alloc, program, derivation) {
         Ok(derived) => derived,
         Err(refusal) => return Err(refusal),
@@ -78,7 +77,7 @@ pub fn build_program(
 ///
 /// # Errors
 ///
-/// The first fault over all three files: of the text, as `rg_parse::program::program` tells it; then of the derivation, as
+/// The first fault over all three files: of the text, as `rg_parse::program` tells it; then of the derivation, as
 /// `rg_rules::Derivation::read` tells it; then of the proofs, as `rg_hints::prove` tells it. `Memory` where memory is refused.
 pub fn accept(
     alloc: Global,
@@ -95,7 +94,7 @@ pub fn accept(
 {
     // The bytes spell one program and one derivation.
     one_program();
-    derivations_read_in_one_way();
+    one_derivation();
     let parsed = match Parsed::read(alloc, text) {
         Ok(parsed) => parsed,
         Err(refusal) => return Err(refusal),

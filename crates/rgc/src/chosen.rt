@@ -6,9 +6,9 @@ ghost use Rattle.rg_words.specs.declared.refusal.RefusalNumber.TheVariants.{Unkn
 ghost use Rattle.rg_words.specs.declared.refusal.SourceFile.TheVariants.{Derivation};
 ghost use Rattle.rg_words.specs.declared.refusal.Place.TheVariants.{Condition as the_condition};
 ghost use Rattle.rg_words.specs.Refusals.{refused_in};
-ghost use Rattle.rg_tree.specs.Conditions.{claim};
+ghost use Rattle.rg_tree.specs.Conditions.{condition_tree};
 ghost use Rattle.rg_tree.specs.Programs.{nth};
-ghost use Rattle.rg_clauses.specs.Conditions.{clauses_of_claim};
+ghost use Rattle.rg_clauses.specs.Conditions.{clauses_of_condition};
 ghost use Rattle.rg_find.specs.Judged.{IsJudged};
 ghost use Rattle.rgc.specs.Chosen.{AreDerived, IsDeriveRefusal, IsChosen, IsChoiceRefusal, IsChosenClausesRefusal, IsChosenFindRefusal};
 ghost use Rattle.rgc.specs.Stages.{derived_program, derived_lines};
@@ -41,8 +41,8 @@ pub fn derive_program(alloc: Global, text: &[u8], derivation: &[u8]) -> Result<D
 
 /// The condition of a number, from 1.
 fn condition_at(mut conditions: Vec<Condition>, number: u64) -> Result<Condition, Refusal>
-    ensures found { IfOk result (λ c. nth (map claim conditions.items) number ≡ Some (claim c)) }
-    ensures none { IfErr result (λ _. nth (map claim conditions.items) number ≡ None) }
+    ensures found { IfOk result (λ c. nth (map condition_tree conditions.items) number ≡ Some (condition_tree c)) }
+    ensures none { IfErr result (λ _. nth (map condition_tree conditions.items) number ≡ None) }
     ensures refused { IfErr result (λ e. e ≡ refused_in UnknownCondition Derivation (the_condition number)) }
 {
     if number == 0 || number > conditions.len() as u64 {
@@ -66,7 +66,7 @@ pub fn chosen_condition(
     derivation: &[u8],
     number: u64,
 ) -> Result<Condition, Refusal>
-    ensures chosen { IfOk result (λ c. IsChosen text.now derivation.now number (claim c)) }
+    ensures chosen { IfOk result (λ c. IsChosen text.now derivation.now number (condition_tree c)) }
     ensures refused { IfErr result (IsChoiceRefusal text.now derivation.now number) }
 {
     let derived = match derive_program(alloc, text, derivation) {
@@ -92,9 +92,9 @@ pub fn condition_clauses(
     derivation: &[u8],
     number: u64,
 ) -> Result<(Condition, Clauses), Refusal>
-    ensures chosen { IfOk result (λ r. IsChosen text.now derivation.now number (claim r.0)) }
-    ensures clauses { IfOk result (λ r. r.1 ≡ clauses_of_claim (claim r.0)) }
-    ensures within { IfOk result (λ r. (clauses_of_claim (claim r.0)).variables ≤ MOST_VARIABLES) }
+    ensures chosen { IfOk result (λ r. IsChosen text.now derivation.now number (condition_tree r.0)) }
+    ensures clauses { IfOk result (λ r. r.1 ≡ clauses_of_condition (condition_tree r.0)) }
+    ensures within { IfOk result (λ r. (clauses_of_condition (condition_tree r.0)).variables ≤ MOST_VARIABLES) }
     ensures refused { IfErr result (IsChosenClausesRefusal text.now derivation.now number) }
 {
     let chosen = match chosen_condition(alloc, text, derivation, number) {
@@ -121,8 +121,8 @@ pub fn find_condition<W: Watcher>(
     steps: u64,
     watcher: &mut W,
 ) -> Result<(Condition, Judged), Refusal>
-    ensures chosen { IfOk result (λ r. IsChosen text.now derivation.now number (claim r.0)) }
-    ensures judged { IfOk result (λ r. IsJudged (claim r.0) r.1) }
+    ensures chosen { IfOk result (λ r. IsChosen text.now derivation.now number (condition_tree r.0)) }
+    ensures judged { IfOk result (λ r. IsJudged (condition_tree r.0) r.1) }
     ensures refused { IfErr result (IsChosenFindRefusal text.now derivation.now number steps) }
 {
     let condition = match chosen_condition(alloc, text, derivation, number) {

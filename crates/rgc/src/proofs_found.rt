@@ -4,10 +4,10 @@ ghost use Rattle.std.specs.Prelude.{IfOk};
 ghost use Rattle.rgc.specs.Proofs.{AreFoundFor};
 ghost use Rattle.rgc.specs.Stages.{derived_program, derived_lines};
 
-use crate::judged::failure_text;
+use crate::failures::failure_text;
 use crate::stages::Derived;
 use rg_find::{Judged, Watcher, judge};
-use rg_hints::prove;
+use rg_hints::{Lines, prove};
 use rg_tree::condition::Condition;
 use rg_words::{Refusal, SourceFile};
 use std::alloc::Global;
@@ -22,6 +22,28 @@ struct Search {
 }
 
 impl Search {
+    /// Adds the section of a condition of this number.
+    fn add_section(&mut self, alloc: Global, number: usize, lines: &Lines) -> Result<(), Refusal> {
+        let head = format!(in alloc; "section {number}\n")?;
+        self.sections.push_str(&head)?;
+        let text = lines.text(alloc)?;
+        self.sections.push_str(&text)?;
+        Ok(())
+    }
+
+    /// Adds what is told of a condition of this number and name.
+    fn add_failure(
+        &mut self,
+        alloc: Global,
+        number: usize,
+        name: &str,
+        told: &str,
+    ) -> Result<(), Refusal> {
+        let failure = format!(in alloc; "condition {number} {name} {told}")?;
+        self.failures.push_str(&failure)?;
+        Ok(())
+    }
+
     /// Takes what a search says of the condition of this number and name.
     fn take(
         &mut self,
@@ -32,52 +54,48 @@ impl Search {
         judged: &Judged,
     ) -> Result<(), Refusal> {
         match judged {
-            Judged::Holds(lines) if lines.len() == 0 => {}
-            Judged::Holds(lines) => {
-                let head = format!(in alloc; "section {number}\n")?;
-                self.sections.push_str(&head)?;
-                let text = lines.text(alloc)?;
-                self.sections.push_str(&text)?;
-            }
+            Judged::Holds(lines) if lines.len() == 0 => Ok(()),
+            Judged::Holds(lines) => self.add_section(alloc, number, lines),
             Judged::Fails(first, second) => {
-                let head = format!(in alloc; "condition {number} {name} ")?;
-                self.failures.push_str(&head)?;
                 let states = failure_text(alloc, &condition.layout, first, second)?;
-                self.failures.push_str(&states)?;
+                self.add_failure(alloc, number, name, &states)
             }
-            Judged::GaveUp => {
-                let told = format!(in alloc; "condition {number} {name} gave up\n")?;
-                self.failures.push_str(&told)?;
-            }
+            Judged::GaveUp => self.add_failure(alloc, number, name, "gave up\n"),
         }
-        Ok(())
+    }
+
+    /// Searches for lines for the condition of this number and name, with at most so many decisions.
+    fn search<P: Watcher>(
+        &mut self,
+        alloc: Global,
+        condition: &Condition,
+        number: usize,
+        name: &str,
+        steps: u64,
+        watcher: &mut P,
+    ) -> Result<(), Refusal> {
+        let file = SourceFile::Derivation;
+        let judged = judge(alloc, condition, file, number as u64, steps, watcher)?;
+        self.take(alloc, condition, number, name, &judged)
     }
 }
 
-/// Searches for lines for each condition, with at most so many decisions each.
+/// Searches for lines for each condition of a program, with at most so many decisions each.
 fn search_all<P: Watcher>(
     alloc: Global,
+    derived: &Derived,
     conditions: &[Condition],
-    names: &[String],
     steps: u64,
     watcher: &mut P,
 ) -> Result<Search, Refusal> {
+    let names = derived.names(alloc)?;
     let mut found = Search {
         sections: String::new(alloc),
         failures: String::new(alloc),
     };
     for (i, condition) in conditions.iter().enumerate() {
-        let number = i + 1;
         let name = names.get(i).map_or("", |name| name.as_str());
-        let judged = judge(
-            alloc,
-            condition,
-            SourceFile::Derivation,
-            number as u64,
-            steps,
-            watcher,
-        )?;
-        found.take(alloc, condition, number, name, &judged)?;
+        found.search(alloc, condition, i + 1, name, steps, watcher)?;
     }
     Ok(found)
 }
@@ -107,14 +125,7 @@ pub fn find_proofs<P: Watcher>(
     ensures { IfOk result (AreFoundFor (derived_program derived.now) (derived_lines derived.now)) }
 {
     let conditions = derived.conditions(alloc)?;
-    let names = derived.names(alloc)?;
-    let found = search_all(
-        alloc,
-        conditions.as_slice(),
-        names.as_slice(),
-        steps,
-        watcher,
-    )?;
+    let found = search_all(alloc, derived, conditions.as_slice(), steps, watcher)?;
     let Search { sections, failures } = found;
     if !failures.is_empty() {
         return Ok(ProofsFound::Failures(failures));

@@ -5,17 +5,17 @@ ghost use Rattle.rg_words.specs.declared.limits.TheConstants.{MOST_VARIABLES};
 ghost use Rattle.rg_words.specs.Layout.{Word};
 ghost use Rattle.rg_words.specs.Refusals.{no_memory};
 ghost use Rattle.rg_tree.specs.Trees.{Proposition};
-ghost use Rattle.rg_clauses.specs.Formula.{IsUnsatisfiable};
+ghost use Rattle.rg_clauses.specs.ClauseLists.{IsUnsatisfiable};
 ghost use Rattle.rg_parse.specs.Shown.{SpellsShow};
-ghost use Rattle.rg_tree.specs.Conditions.{claim, ConditionHolds};
-ghost use Rattle.rg_clauses.specs.Conditions.{clauses_of_claim};
+ghost use Rattle.rg_tree.specs.Conditions.{condition_tree, ConditionHolds};
+ghost use Rattle.rg_clauses.specs.Conditions.{clauses_of_condition};
 ghost use Rattle.rg_find.specs.Judged.{IsJudged};
 ghost use Rattle.rgc.specs.Valid.{clauses_shown, HasClauses, ShownHolds, IsShown, IsClausesRefusal, IsFindRefusal, IsProved, IsValidRefusal};
 
 use rg_clauses::Clauses;
 use rg_find::{Judged, Watcher, judge};
 use rg_hints::{Lines, check};
-use rg_parse::show::{one_meaning, show};
+use rg_parse::{one_meaning, show};
 use rg_tree::condition::Condition;
 use rg_words::limits::MOST_PROOF_BYTES;
 use rg_words::{Place, Refusal, RefusalNumber, SourceFile};
@@ -26,7 +26,7 @@ use std::alloc::Global;
 ///
 /// # Errors
 ///
-/// The first fault of the text, as `rg_parse::show::show` tells it; then `Limit` at condition 1 where the formula has too many
+/// The first fault of the text, as `rg_parse::show` tells it; then `Limit` at condition 1 where the formula has too many
 /// variables. `Memory` where memory is refused.
 pub fn clauses(alloc: Global, text: &[u8]) -> Result<Clauses, Refusal>
     ensures clauses { IfOk result (λ c. HasClauses text.now c) }
@@ -60,10 +60,10 @@ pub fn find<W: Watcher>(
     steps: u64,
     watcher: &mut W,
 ) -> Result<(Condition, Judged), Refusal>
-    ensures formula { IfOk result (λ r. IsShown text.now (claim r.0)) }
-    ensures judged { IfOk result (λ r. IsJudged (claim r.0) r.1) }
-    ensures clauses { IfOk result (λ r. HasClauses text.now (clauses_of_claim (claim r.0))) }
-    ensures holds { IfOk result (λ r. ConditionHolds (claim r.0) → ShownHolds text.now) }
+    ensures formula { IfOk result (λ r. IsShown text.now (condition_tree r.0)) }
+    ensures judged { IfOk result (λ r. IsJudged (condition_tree r.0) r.1) }
+    ensures clauses { IfOk result (λ r. HasClauses text.now (clauses_of_condition (condition_tree r.0))) }
+    ensures holds { IfOk result (λ r. ConditionHolds (condition_tree r.0) → ShownHolds text.now) }
     ensures refused { IfErr result (IsFindRefusal text.now steps) }
 {
     // The text spells one formula.

@@ -7,7 +7,7 @@ ghost use Rattle.rg_tree.specs.ProgramView.{part};
 ghost use Rattle.rg_tree.specs.ProgramTrees.{program as program_tree};
 ghost use Rattle.rg_tree.specs.Programs.{IsSatisfied};
 ghost use Rattle.rg_tree.specs.Lines.{line_tree, AreTypedLines};
-ghost use Rattle.rg_rules.specs.OneProof.{AreTypedLines-prop};
+ghost use Rattle.rg_rules.specs.Inner.OneProof.{AreTypedLines-prop};
 ghost use Rattle.rg_rules.specs.Faults.{Derives};
 ghost use Rattle.rg_code.specs.declared.code.Code.{Code};
 ghost use Rattle.rg_code.specs.Lawful.{IsLawful};

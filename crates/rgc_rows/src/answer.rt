@@ -6,7 +6,8 @@ use clap::error::ErrorKind;
 use rg_find::Unwatched;
 use rg_words::limits::{MOST_PROOF_BYTES, MOST_TEXT_BYTES};
 use rg_words::{Out, Taker, write_all};
-use rgc::{Files, Line, LineFault, perform};
+use rgc_line::{Line, LineFault};
+use rgc_perform::{Files, perform};
 use std::alloc::{AllocError, Global};
 
 /// What a command answered: its status, its output and its faults.

@@ -1,6 +1,7 @@
 //! Commands with their files, and what they print.
 
-use rgc::{Chosen, Command, Files};
+use rgc_line::{Chosen, Command};
+use rgc_perform::Files;
 
 /// The texts of a command's files.
 #[derive(Clone, Copy)]

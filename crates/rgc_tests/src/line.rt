@@ -1,6 +1,6 @@
 //! What no command shows of the words: the most decisions, exactly, and the text of a fault.
 
-use rgc::{Command, FieldFault, Line, LineFault};
+use rgc_line::{Command, FieldFault, Line, LineFault};
 use std::alloc::Global;
 use std::test::Fail;
 

@@ -4,7 +4,9 @@ use crate::commands::{DERIVATION, PROOFS, Printed, TEXT, rows};
 use rg_code::checked::Checked;
 use rg_find::Unwatched;
 use rg_words::{Device, RefusalNumber};
-use rgc::{Line, build, perform};
+use rgc::build;
+use rgc_line::Line;
+use rgc_perform::perform;
 use std::alloc::Global;
 use std::test::Fail;
 

@@ -11,10 +11,8 @@ use rg_tree::program::Program;
 use rg_tree::statement::Stmt;
 use rg_tree::tree::Formula;
 use rg_words::{Fuse, Layout, Place, Refusal, RefusalNumber, SourceFile, Taker};
-use rgc::{
-    Derived, Emitted, ProofsFound, accept_program, build_program, find_proofs, write_conditions,
-    write_listing,
-};
+use rgc::{Derived, Emitted, ProofsFound, accept_program, build_program, find_proofs};
+use rgc_perform::{write_conditions, write_listing};
 use std::alloc::{AllocError, Global};
 use std::test::Fail;
 

@@ -3,7 +3,8 @@
 use crate::commands::{Printed, rows};
 use rg_find::Unwatched;
 use rg_words::{Fuse, Out, Taker};
-use rgc::{Command, Files, Line, perform};
+use rgc_line::{Command, Line};
+use rgc_perform::{Files, perform};
 use std::alloc::Global;
 use std::test::Fail;
 

@@ -3,8 +3,8 @@
 ghost use Rattle.std.specs.Prelude.{◌≡◌, List, map, string_bytes, IfOk, IfErr, OnOk};
 ghost use Rattle.rg_words.specs.Refusals.{no_memory};
 ghost use Rattle.rg_tree.specs.ProgramTrees.{program as program_tree};
-ghost use Rattle.rg_tree.specs.Conditions.{claim};
-ghost use Rattle.rg_tree.specs.Obligations.{AllConditionsHold};
+ghost use Rattle.rg_tree.specs.Conditions.{condition_tree};
+ghost use Rattle.rg_tree.specs.RuleConditions.{AllConditionsHold};
 ghost use Rattle.rg_tree.specs.Programs.{IsSatisfied};
 ghost use Rattle.rg_tree.specs.Statements.{ProgramTree};
 ghost use Rattle.rg_tree.specs.Lines.{LineTree};
@@ -12,15 +12,15 @@ ghost use Rattle.rg_hints.specs.Proved.{AreProved, IsProofsRefusal};
 ghost use Rattle.rg_code.specs.Code.{HasRunsOf};
 ghost use Rattle.rg_rules.specs.Reading.{FitsProgram, IsDerivationRefusal};
 ghost use Rattle.rgc.specs.Accepted.{conditions_of};
-ghost use Rattle.rgc.specs.Conditions.{names_of};
-ghost use Rattle.rg_program.specs.Programs.{SpellsProgram, IsProgramRefusal};
+ghost use Rattle.rgc.specs.Names.{names_of};
+ghost use Rattle.rg_parse.specs.Programs.{SpellsProgram, IsProgramRefusal};
 ghost use Rattle.rgc.specs.Stages.{parsed_program, derived_program, derived_lines, accepted_program, emitted_program, emitted_blocks};
 
 use super::{Accepted, Derived, Emitted, Parsed};
 use rg_code::compile::compile;
 use rg_par::conditions::add_conditions;
 use rg_par::names::add_names;
-use rg_program::program::program;
+use rg_parse::program;
 use rg_rules::Derivation;
 use rg_tree::condition::Condition;
 use rg_tree::program::Program;
@@ -32,7 +32,7 @@ impl Parsed {
     ///
     /// # Errors
     ///
-    /// The first fault of the text, as `rg_parse::program::program` tells it.
+    /// The first fault of the text, as `rg_parse::program` tells it.
     pub fn read(alloc: Global, text: &[u8]) -> Result<Parsed, Refusal>
         // Ok exactly where the text spells a program, unless memory runs out; that program is kept.
         ensures spells { IfOk result (λ p. SpellsProgram text.now (parsed_program p)) }
@@ -106,9 +106,9 @@ impl Derived {
     /// Only where memory is refused.
     pub fn conditions(&self, alloc: Global) -> Result<Vec<Condition>, AllocError>
         // Exactly the rules' list.
-        ensures list { IfOk result (λ all. map claim all.items ≡ conditions_of (derived_program self.now) (derived_lines self.now)) }
+        ensures list { IfOk result (λ all. map condition_tree all.items ≡ conditions_of (derived_program self.now) (derived_lines self.now)) }
         // Where all of them are true, the program satisfies its specification.
-        ensures sound { IfOk result (λ all. AllConditionsHold (map claim all.items) → IsSatisfied (derived_program self.now)) }
+        ensures sound { IfOk result (λ all. AllConditionsHold (map condition_tree all.items) → IsSatisfied (derived_program self.now)) }
     {
         let mut all = self.derivation.conditions(alloc, &self.program)?;
         add_conditions(alloc, &mut all, &self.program)?;

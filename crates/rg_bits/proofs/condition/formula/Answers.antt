@@ -1,12 +1,14 @@
 use Rattle.std.proofs.Common.{List, length, sym, ap, ◌∙◌, subst, arith}
 use Rattle.std.proofs.lemmas.Result.{IfOk-weaker}
 use Rattle.rg_gates.specs.declared.Lit.{Lit}
-use Rattle.rg_tree.specs.Conditions.{claim, second_state}
-use Rattle.rg_bits.specs.WordRows.{AreRowsIn, rows_of}
+use Rattle.rg_tree.specs.Conditions.{condition_tree, second_state}
+use Rattle.rg_bits.specs.Inner.Within.{AreRowsIn, rows_of}
 use Rattle.rg_bits.specs.Inputs.{second_width}
 use Rattle.rg_bits.proofs.ConditionSteps.{length-rows_of}
 use Rattle.rg_bits.proofs.InputRows.{first_in}
 use Rattle.rg_bits.proofs.FormulaLaw.{row_counts, condition_law, before_in, length-before_rows}
+use Rattle.rg_gates.proofs.Growth.{Extends-refl}
+use Rattle.rg_bits.proofs.Building.{ran_out}
 use Rattle.rg_bits.proofs.Pairs.{pairs_law}
 use Rattle.rg_bits.proofs.condition.formula.Goals as goal
 
@@ -35,9 +37,20 @@ build_implication-requires-clause-second g c =
     subst P (sym c.in_ok-second.ensures.rows)
     (before_in c.args.gates.now kind words (omega (arith, c.requires.inputs)) (λ e. omega (arith, c.requires.inputs, ap (λ k. second_width k words) e)))
 
+pub returns-in_err-first-clause-builds : goal.returns-in_err-first-clause-builds
+returns-in_err-first-clause-builds g c = ran_out _ c.from_residual.ensures (Extends-refl _)
+
+pub returns-in_err-second-clause-builds : goal.returns-in_err-second-clause-builds
+returns-in_err-second-clause-builds g c = ran_out _ c.from_residual-in_err-second.ensures (Extends-refl _)
+
+pub returns-clause-builds : goal.returns-clause-builds
+returns-clause-builds g c =
+    let rows = ap rows_of c.deref-2.ensures.value ∙ c.in_ok-first.ensures.rows in
+    rw (rows, c.in_ok-second.ensures.rows) at c.build_implication.ensures
+
 pub returns-clause-meaning : goal.returns-clause-meaning
 returns-clause-meaning g c =
-    let whole = claim c.args.condition.now in
+    let whole = condition_tree c.args.condition.now in
     let first = c.in_ok-first.ensures.rows in
     let rows = ap rows_of c.deref-2.ensures.value ∙ first in
     IfOk-weaker c.build_implication.result _ _
@@ -46,7 +59,7 @@ returns-clause-meaning g c =
 
 pub returns-clause-pairs : goal.returns-clause-pairs
 returns-clause-pairs g c =
-    let whole = claim c.args.condition.now in
+    let whole = condition_tree c.args.condition.now in
     let first = c.in_ok-first.ensures.rows in
     let rows = ap rows_of c.deref-2.ensures.value ∙ first in
     IfOk-weaker c.build_implication.result _ _

@@ -1,9 +1,10 @@
+use Rattle.std.proofs.lemmas.Result.{IfOk-from_err}
 use Rattle.std.proofs.Common.{arith, rules}
 use Rattle.std.specs.List.{zip}
 use Rattle.rg_gates.specs.declared.Lit.TheVariants.{True}
 use Rattle.rg_words.specs.declared.limits.TheConstants.{MOST_VARIABLES}
 use Rattle.rg_gates.proofs.Growth.{Extends-trans, IsRowIn-extends}
-use Rattle.rg_bits.specs.WordRows.{rows_of}
+use Rattle.rg_bits.specs.Inner.Within.{rows_of}
 use Rattle.rg_bits.specs.Conditions.{same_word_of}
 use Rattle.rg_bits.proofs.TreeSteps.{word_in}
 use Rattle.rg_bits.proofs.FoldSteps.{fold-turn, fold-done, fold-past}
@@ -19,11 +20,16 @@ pub add_same_word-requires-clause-second : goal.add_same_word-requires-clause-se
 add_same_word-requires-clause-second g c =
     IsRowIn-extends c.loop-i.invariant.extends (word_in c.args.gates.now (rows_of c.args.before.now) c.loop-i.i _ c.requires.second (row_at c.args.before.now c.loop-i.i c.index-before-i.result c.deref-in-loop-i.result.now (omega arith) c.index-before-i.is c.deref-in-loop-i.ensures.value))
 
-pub returns-in_err-same-clause-full : goal.returns-in_err-same-clause-full
-returns-in_err-same-clause-full g c = λ e.
+pub returns-in_err-same : goal.returns-in_err-same
+returns-in_err-same g c =
     let l = c.loop-i in
     let at = zipped_at c.args.after.now c.args.before.now l.i c.index-after-i.result c.index-before-i.result c.deref.result.now c.deref-in-loop-i.result.now (omega arith) c.index-after-i.is c.index-before-i.is c.deref.ensures.value c.deref-in-loop-i.ensures.value in
-    fold-past same_word_of (zip (rows_of c.args.after.now) (rows_of c.args.before.now)) l.i True l.same c.args.gates.now l.gates l.invariant.built same_word-grows (c.deref.result.now, c.deref-in-loop-i.result.now) MOST_VARIABLES at (search rules)
+    record {
+      built = IfOk-from_err c.from_residual.result _ c.from_residual.ensures.0;
+      within = IfOk-from_err c.from_residual.result _ c.from_residual.ensures.0;
+      extends = Extends-trans l.invariant.extends c.add_same_word.ensures.extends;
+      full = λ e. fold-past same_word_of (zip (rows_of c.args.after.now) (rows_of c.args.before.now)) l.i True l.same c.args.gates.now l.gates l.invariant.built same_word-grows (c.deref.result.now, c.deref-in-loop-i.result.now) MOST_VARIABLES at (search rules);
+    }
 
 pub loop-i-preserved : goal.loop-i-preserved
 loop-i-preserved g c =
@@ -32,10 +38,15 @@ loop-i-preserved g c =
     record {
       built = fold-turn same_word_of (zip (rows_of c.args.after.now) (rows_of c.args.before.now)) l.i True l.same c.args.gates.now l.gates l.invariant.built (c.deref.result.now, c.deref-in-loop-i.result.now) c.in_ok-same.same c.add_same_word.new.gates at c.in_ok-same.ensures.built;
       extends = Extends-trans l.invariant.extends c.add_same_word.ensures.extends;
-      same = c.in_ok-same.ensures.literal;
+      same = c.in_ok-same.ensures.within;
     }
 
-pub returns-clause-built : goal.returns-clause-built
-returns-clause-built g c =
+pub returns : goal.returns
+returns g c =
     let l = c.loop-i in
-    fold-done same_word_of (zip (rows_of c.args.after.now) (rows_of c.args.before.now)) l.i True l.same c.args.gates.now l.gates l.invariant.built (zipped_end c.args.after.now c.args.before.now l.i (omega arith))
+    record {
+      built = fold-done same_word_of (zip (rows_of c.args.after.now) (rows_of c.args.before.now)) l.i True l.same c.args.gates.now l.gates l.invariant.built (zipped_end c.args.after.now c.args.before.now l.i (omega arith));
+      within = l.invariant.same;
+      extends = l.invariant.extends;
+      full = λ e. (cc);
+    }

@@ -3,7 +3,7 @@ use Rattle.std.specs.List.{zip}
 use Rattle.rg_gates.specs.Extends.{Extends, IsIn}
 use Rattle.rg_gates.specs.declared.Lit.TheVariants.{True}
 use Rattle.rg_bits.specs.Build.{fold_of}
-use Rattle.rg_bits.specs.WordRows.{rows_of}
+use Rattle.rg_bits.specs.Inner.Within.{rows_of}
 use Rattle.rg_bits.specs.Conditions.{same_word_of}
 use Rattle.rg_bits.proofs.condition.unchanged.Given as goal
 

@@ -1,5 +1,5 @@
 use Rattle.std.proofs.Common.{◌++◌, sym, ap, ◌∙◌, arith}
-use Rattle.rg_bits.specs.WordRows.{rows_of}
+use Rattle.rg_bits.specs.Inner.Within.{rows_of}
 use Rattle.rg_bits.specs.Inputs.{first_rows, total_width}
 use Rattle.rg_bits.proofs.InputRows.{rows_of-nil, first-turn, total_next}
 use Rattle.rg_bits.proofs.input_rows.first_state.Goals as goal

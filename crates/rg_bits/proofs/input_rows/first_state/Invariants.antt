@@ -1,5 +1,5 @@
 use Rattle.std.proofs.Common.{◌≡◌, ◌+◌, ◌++◌, drop}
-use Rattle.rg_bits.specs.WordRows.{rows_of}
+use Rattle.rg_bits.specs.Inner.Within.{rows_of}
 use Rattle.rg_bits.specs.Inputs.{first_rows, total_width}
 use Rattle.rg_bits.proofs.input_rows.first_state.Given as goal
 

@@ -1,5 +1,5 @@
 use Rattle.std.proofs.Common.{◌++◌, ◌+◌, sym, ap, ◌∙◌, arith}
-use Rattle.rg_bits.specs.WordRows.{rows_of}
+use Rattle.rg_bits.specs.Inner.Within.{rows_of}
 use Rattle.rg_bits.specs.Inputs.{free_rows, free_width, total_width}
 use Rattle.rg_bits.proofs.InputRows.{rows_of-nil, free-turn, free_next}
 use Rattle.rg_bits.proofs.ConditionSteps.{drop_row, length-rows_of}

@@ -5,7 +5,7 @@ use Rattle.rg_code.proofs.compile.compile.Goals as goal
 
 pub invariant_of-result : goal.invariant_of-result
 invariant_of-result c =
-    record { legal = rw (c.in_ok-parts.ensures.blocks, c.deref.ensures.value, c.in_ok-layout.ensures) (program_legal (program_tree c.args.program.now) c.len.ensures.layout c.args.program.now.typed) }
+    record { legal = rw (c.in_ok-parts.ensures.blocks, c.deref.ensures.value, c.in_ok-layout.ensures) (program_legal (program_tree c.args.program.now) c.facts.ensures.layout c.args.program.now.typed) }
 
 pub returns-clause-runs : goal.returns-clause-runs
 returns-clause-runs c = rw (c.in_ok-parts.ensures.blocks, c.deref.ensures.value) (compiler_is_right (program_tree c.args.program.now))

@@ -1,5 +1,5 @@
 use Rattle.std.proofs.Common.{◌≡◌, map, take}
-use Rattle.rg_tree.specs.Claims.{assignment}
+use Rattle.rg_tree.specs.ConditionTrees.{assignment}
 use Rattle.rg_code.specs.Code.{store_of}
 use Rattle.rg_code.specs.BlockView.{store}
 use Rattle.rg_code.proofs.postfix.stores.Given as goal

@@ -1,5 +1,5 @@
 use Rattle.std.proofs.Common.{ℤ, List, [], get_or, subst, below_more, arith, refl}
-use Rattle.rg_clauses.specs.Formula.{SatisfiesClause, value_at}
+use Rattle.rg_clauses.specs.ClauseLists.{SatisfiesClause, value_at}
 use Rattle.rg_find.proofs.Values.{all_of}
 use Rattle.rg_find.proofs.answer.satisfies.Goals as goal
 

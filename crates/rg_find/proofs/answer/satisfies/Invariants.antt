@@ -1,5 +1,5 @@
 use Rattle.std.proofs.Common.{ℕ, ◌<◌, [], get_or}
-use Rattle.rg_clauses.specs.Formula.{SatisfiesClause, value_at}
+use Rattle.rg_clauses.specs.ClauseLists.{SatisfiesClause, value_at}
 use Rattle.rg_find.proofs.answer.satisfies.Given as goal
 
 -- the clauses so far are satisfied

@@ -1,5 +1,5 @@
 use Rattle.std.proofs.Common.{ℕ, ◌+◌, ◌≤◌, List, length}
-use Rattle.rg_hints.specs.SectionForms.{ArePlainLines}
+use Rattle.rg_hints.specs.Inner.SectionForms.{ArePlainLines}
 use Rattle.rg_hints.proofs.sections.lines_before_head.Given as goal
 
 -- so many lines stand before the rest, and none is a head

@@ -1,7 +1,7 @@
 use Rattle.std.proofs.Common.{◌≡◌, ◌+◌, refl, inl, inr, ◌∙◌, ⊎_elim}
 use Rattle.std.proofs.lemmas.Result.{MatchResult-weaker}
 use Rattle.rg_hints.specs.Sections.{sections_of}
-use Rattle.rg_hints.specs.SectionForms.{sections_behind}
+use Rattle.rg_hints.specs.Inner.SectionForms.{sections_behind}
 use Rattle.rg_hints.proofs.SectionSteps.{whole_file, rest_is}
 use Rattle.rg_hints.proofs.sections.read_sections.Goals as goal
 

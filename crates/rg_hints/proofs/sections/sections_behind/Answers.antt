@@ -2,7 +2,7 @@ use Rattle.std.proofs.Common.{◌≡◌, ◌+◌, ◌≤◌, length, refl, sym, 
 use Rattle.std.proofs.lemmas.List.{length-append}
 use Rattle.std.proofs.lemmas.List.Elements.{All-push}
 use Rattle.rg_hints.specs.declared.sections.SectionBytes.{SectionBytes}
-use Rattle.rg_hints.specs.SectionForms.{BeginsWithHead}
+use Rattle.rg_hints.specs.Inner.SectionForms.{BeginsWithHead}
 use Rattle.rg_hints.proofs.SectionSteps.{one_section, rising_more, below_more, rest_is}
 use Rattle.rg_hints.proofs.sections.sections_behind.Goals as goal
 

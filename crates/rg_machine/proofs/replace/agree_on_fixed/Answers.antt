@@ -9,7 +9,7 @@ returns-then-not-same_if c =
     let less : c.loop-word.word < length c.args.layout.now = search rules in
     let before = ap (λ ws. length ws) c.requires.before in
     let after = ap (λ ws. length ws) c.requires.after in
-    let split = agree_at c.args.layout.now c.args.before.now.values c.args.after.now.values c.loop-word.word less (omega (arith, c.len.ensures.widths, before, size, less)) (omega (arith, c.len-2.ensures.widths, after, size, less)) in (
+    let split = agree_at c.args.layout.now c.args.before.now.values c.args.after.now.values c.loop-word.word less (omega (arith, c.facts.ensures.widths, before, size, less)) (omega (arith, c.facts-2.ensures.widths, after, size, less)) in (
       (λ e. cc e),
       (λ agree.
           let here = (split.0 (c.loop-word.invariant.needed agree)).0 in
@@ -24,7 +24,7 @@ loop-word-preserved c =
     let less : c.loop-word.word < length c.args.layout.now = search rules in
     let before = ap (λ ws. length ws) c.requires.before in
     let after = ap (λ ws. length ws) c.requires.after in
-    let split = agree_at c.args.layout.now c.args.before.now.values c.args.after.now.values c.loop-word.word less (omega (arith, c.len.ensures.widths, before, size, less)) (omega (arith, c.len-2.ensures.widths, after, size, less)) in
+    let split = agree_at c.args.layout.now c.args.before.now.values c.args.after.now.values c.loop-word.word less (omega (arith, c.facts.ensures.widths, before, size, less)) (omega (arith, c.facts-2.ensures.widths, after, size, less)) in
     let told : c.same_if.result ≡ true = search (rules, c.if-not-same_if.false) in
     let same = rw (c.is_fixed.ensures, c.get.ensures.exact, c.get-in-loop-word.ensures.exact) at (c.same_if.ensures.0 told) in
     record {

@@ -1,12 +1,12 @@
 use Rattle.std.proofs.Common.{◌≡◌, ◌++◌, map, drop}
 use Rattle.rg_tree.specs.View.{formula}
 use Rattle.rg_tree.specs.ProgramView.{part}
-use Rattle.rg_tree.specs.Conditions.{claim}
-use Rattle.rg_tree.specs.Obligations.{obligation_claim}
-use Rattle.rg_par.specs.Parallel.{guar_obligations}
+use Rattle.rg_tree.specs.Conditions.{condition_tree}
+use Rattle.rg_tree.specs.RuleConditions.{as_condition}
+use Rattle.rg_par.specs.Parallel.{guar_conditions}
 use Rattle.rg_par.proofs.conditions.add_guars.Given as goal
 
 abbrev pub invariant-loop-part : goal.invariant-loop-part
 invariant-loop-part l =
-    map claim l.all.items ++ map (obligation_claim l.layout) (guar_obligations (formula l.guar) (map part (drop l.part-index l.parts)))
-    ≡ map claim l.initial.all.items ++ map (obligation_claim l.layout) (guar_obligations (formula l.guar) (map part l.parts))
+    map condition_tree l.all.items ++ map (as_condition l.layout) (guar_conditions (formula l.guar) (map part (drop l.part-index l.parts)))
+    ≡ map condition_tree l.initial.all.items ++ map (as_condition l.layout) (guar_conditions (formula l.guar) (map part l.parts))

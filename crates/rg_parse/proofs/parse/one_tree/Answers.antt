@@ -1,6 +1,6 @@
 use Rattle.rg_parse.proofs.Shown.{one_formula, one_show}
-use Rattle.rg_parse.proofs.Builds.{one_start, one_moves}
-use Rattle.rg_parse.proofs.BuildsLines.{one_derivation}
+use Rattle.rg_build.proofs.Builds.{one_start, one_moves}
+use Rattle.rg_build.proofs.BuildsLines.{one_derivation}
 use Rattle.rg_parse.proofs.parse.one_tree.Goals as goal
 
 pub returns-clause-formula : goal.returns-clause-formula

@@ -2,7 +2,7 @@ use Rattle.std.proofs.Common.{◌+◌, map, rules, ap, subst, sym, ◌∙◌, ad
 use Rattle.rg_words.specs.Refusals.{refused_at}
 use Rattle.rg_words.specs.declared.refusal.SourceFile.TheVariants.{Derivation}
 use Rattle.rg_rules.proofs.Find.{nth-at}
-use Rattle.rg_rules.specs.View.{referred}
+use Rattle.rg_rules.specs.Inner.View.{referred}
 use Rattle.rg_tree.specs.Lines.{line_tree}
 use Rattle.rg_rules.specs.Faults.{AreFaultlessBefore}
 use Rattle.rg_rules.proofs.Faults.{faultless_more}

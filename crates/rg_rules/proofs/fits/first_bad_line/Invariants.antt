@@ -1,5 +1,5 @@
 use Rattle.std.proofs.Common.{suc, map}
-use Rattle.rg_rules.specs.View.{referred}
+use Rattle.rg_rules.specs.Inner.View.{referred}
 use Rattle.rg_tree.specs.Lines.{line_tree}
 use Rattle.rg_rules.specs.Faults.{AreFaultlessBefore}
 use Rattle.rg_rules.proofs.fits.first_bad_line.Given as goal

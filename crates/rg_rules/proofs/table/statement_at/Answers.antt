@@ -1,5 +1,5 @@
 use Rattle.std.proofs.Common.{Some, sym, ap, ◌∙◌, arith}
-use Rattle.rg_rules.specs.View.{referred}
+use Rattle.rg_rules.specs.Inner.View.{referred}
 use Rattle.rg_rules.proofs.Find.{nth-map}
 use Rattle.rg_rules.proofs.table.statement_at.Goals as goal
 

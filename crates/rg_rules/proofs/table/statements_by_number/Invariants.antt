@@ -1,7 +1,7 @@
 use Rattle.std.proofs.Common.{◌≡◌, ◌++◌, map, drop}
 use Rattle.rg_tree.specs.Numbering.{statements_of_parts}
 use Rattle.rg_tree.specs.ProgramView.{part}
-use Rattle.rg_rules.specs.View.{referred}
+use Rattle.rg_rules.specs.Inner.View.{referred}
 use Rattle.rg_rules.proofs.table.statements_by_number.Given as goal
 
 abbrev pub invariant-loop-part : goal.invariant-loop-part

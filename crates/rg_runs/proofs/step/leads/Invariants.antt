@@ -1,6 +1,6 @@
 use Rattle.std.proofs.Common.{◌≡◌, map, drop}
 use Rattle.rg_words.specs.Layout.{widths_of}
-use Rattle.rg_tree.specs.Claims.{assignment, assigned, AssignmentsTyped}
+use Rattle.rg_tree.specs.ConditionTrees.{assignment, assigned, AssignmentsTyped}
 use Rattle.rg_runs.proofs.step.leads.Given as goal
 
 -- the assignments that are left lead to where all of them lead

@@ -27,7 +27,7 @@ returns-in-Ok-prove-clause-satisfied c = c.in-Ok-prove.ensures.satisfied
 
 pub returns-in-Err-prove-clause-accepts : goal.returns-in-Err-prove-clause-accepts
 returns-in-Err-prove-clause-accepts c = λ a.
-    c.in-Err-prove.ensures.accepts (text_proved c.one_program.ensures c.derivations_read_in_one_way.ensures c.args.text.now c.args.derivation.now c.args.proofs.now (parsed_program c.in-Ok.parsed) (derived_program c.in-Ok-derive.derived) (derived_lines c.in-Ok-derive.derived) c.in-Ok.ensures.spells c.in-Ok-derive.ensures.program c.in-Ok-derive.ensures.fits a)
+    c.in-Err-prove.ensures.accepts (text_proved c.one_program.ensures c.one_derivation.ensures c.args.text.now c.args.derivation.now c.args.proofs.now (parsed_program c.in-Ok.parsed) (derived_program c.in-Ok-derive.derived) (derived_lines c.in-Ok-derive.derived) c.in-Ok.ensures.spells c.in-Ok-derive.ensures.program c.in-Ok-derive.ensures.fits a)
 
 pub returns-in-Err-prove-clause-refused : goal.returns-in-Err-prove-clause-refused
 returns-in-Err-prove-clause-refused c =

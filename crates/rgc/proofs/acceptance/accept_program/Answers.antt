@@ -13,7 +13,7 @@ returns-in-Ok-prove-clause-accepted c = record {
 
 pub returns-in-Err-prove-clause-accepts : goal.returns-in-Err-prove-clause-accepts
 returns-in-Err-prove-clause-accepts c = λ a.
-    c.in-Err-prove.ensures.accepts (proved_read c.derivations_read_in_one_way.ensures c.args.derivation.now c.args.proofs.now (program c.args.program) (derived_program c.in-Ok.derived) (derived_lines c.in-Ok.derived) c.in-Ok.ensures.program c.in-Ok.ensures.fits a)
+    c.in-Err-prove.ensures.accepts (proved_read c.one_derivation.ensures c.args.derivation.now c.args.proofs.now (program c.args.program) (derived_program c.in-Ok.derived) (derived_lines c.in-Ok.derived) c.in-Ok.ensures.program c.in-Ok.ensures.fits a)
 
 pub returns-in-Err-prove-clause-refused : goal.returns-in-Err-prove-clause-refused
 returns-in-Err-prove-clause-refused c =

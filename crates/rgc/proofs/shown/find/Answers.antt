@@ -1,5 +1,5 @@
 use Rattle.std.proofs.Common.{subst}
-use Rattle.rg_tree.specs.Conditions.{Claim, ConditionHolds}
+use Rattle.rg_tree.specs.Conditions.{ConditionTree, ConditionHolds}
 use Rattle.rgc.proofs.OneList.{shown_moves}
 use Rattle.rgc.proofs.Found.{find_refused}
 use Rattle.rgc.proofs.shown.find.Goals as goal
@@ -7,8 +7,8 @@ use Rattle.rgc.proofs.shown.find.Goals as goal
 pub returns-in-Ok-judge-clause-holds : goal.returns-in-Ok-judge-clause-holds
 returns-in-Ok-judge-clause-holds g c = λ h words f sp.
     let same = c.one_meaning.ensures.show c.args.text.now _ words _ f c.in-Ok.ensures.spells sp in
-    let claim_is = shown_moves _ _ words _ f c.show-condition.ensures same in
-    subst (λ (d : Claim). ConditionHolds d) claim_is h
+    let condition_is = shown_moves _ _ words _ f c.show-condition.ensures same in
+    subst (λ (d : ConditionTree). ConditionHolds d) condition_is h
 
 pub returns-in-Err-judge-clause-refused : goal.returns-in-Err-judge-clause-refused
 returns-in-Err-judge-clause-refused g c =

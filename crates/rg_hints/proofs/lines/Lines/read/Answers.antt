@@ -1,7 +1,7 @@
 use Rattle.std.proofs.Common.{◌≡◌, ◌<◌, ap, ◌∙◌, arith}
 use Rattle.std.specs.Str.Lines.{lines}
 use Rattle.rg_hints.specs.declared.read.LineForm.{LineForm}
-use Rattle.rg_hints.specs.LineForms.{reading_as}
+use Rattle.rg_hints.specs.Inner.LineForms.{reading_as}
 use Rattle.rg_hints.specs.Text.{fields_of}
 use Rattle.rg_hints.specs.Reading.{reading_of, passed_over, hint_line}
 use Rattle.rg_hints.specs.Lines.{Line}

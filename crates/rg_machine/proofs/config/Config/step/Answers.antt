@@ -16,7 +16,7 @@ index_mut-requires c =
 pub invariant_of-self : goal.invariant_of-self
 invariant_of-self c =
     let code = c.self.inside.code.now in
-    let st = rw c.self.invariant.widths at c.len.ensures.state in
+    let st = rw c.self.invariant.widths at c.facts.ensures.state in
     let made = c.in-Some.ensures.made in
     let pair = block_steps_are_pairs code.layout _ (block c.block_at-block.result.now) c.self.inside.state.values c.lead.new.state.values c.in-Some.to c.block_at-block.ensures.legal st made in
     record {
@@ -31,7 +31,7 @@ returns-in-Some c =
     let codes = code_blocks code in
     let part = rw (← c.self.view_is) at c.requires in
     let less : c.args.part - 1 < length codes = omega (arith, part.0, part.1) in
-    let st = rw c.self.invariant.widths at c.len.ensures.state in
+    let st = rw c.self.invariant.widths at c.facts.ensures.state in
     let made = c.in-Some.ensures.made in
     let found = rw c.deref.ensures.value at c.block_at-block.ensures.found in
     let pair = block_steps_are_pairs code.layout _ (block c.block_at-block.result.now) c.self.inside.state.values c.lead.new.state.values c.in-Some.to c.block_at-block.ensures.legal st made in

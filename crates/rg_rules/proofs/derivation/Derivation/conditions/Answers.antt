@@ -4,7 +4,7 @@ use Rattle.rg_tree.specs.Numbering.{statements_of_parts}
 use Rattle.rg_tree.specs.ProgramView.{part}
 use Rattle.rg_tree.specs.ProgramTrees.{program}
 use Rattle.rg_tree.specs.Lines.{line_tree}
-use Rattle.rg_rules.specs.View.{referred}
+use Rattle.rg_rules.specs.Inner.View.{referred}
 use Rattle.rg_rules.proofs.Typed.{statement_typed}
 use Rattle.rg_rules.proofs.Counts.{count_conditions}
 use Rattle.std.proofs.Math.Logic.{∥∥₁_elim, ∥∥₁_map}

@@ -4,8 +4,8 @@ use Rattle.rg_words.specs.declared.limits.TheConstants.{MOST_STATEMENTS}
 use Rattle.rg_tree.specs.ProgramView.{part}
 use Rattle.rg_tree.specs.Numbering.{statements, statements_of_parts}
 use Rattle.rg_tree.specs.Lines.{line_tree}
-use Rattle.rg_rules.specs.View.{referred}
-use Rattle.rg_rules.specs.Sizes.{IsSizedInside}
+use Rattle.rg_rules.specs.Inner.View.{referred}
+use Rattle.rg_rules.specs.Inner.Sizes.{IsSizedInside}
 use Rattle.rg_rules.proofs.Sizes.{sized_inside, all_numbered}
 use Rattle.rg_rules.proofs.Demands.{derives_of, sizes_within}
 use Rattle.rg_rules.proofs.derivation.Derivation.of_lines.Goals as goal

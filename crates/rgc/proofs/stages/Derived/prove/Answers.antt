@@ -1,12 +1,12 @@
 use Rattle.std.proofs.Common.{List, rules, subst}
 use Rattle.std.proofs.lemmas.Grind.{merely}
-use Rattle.rg_tree.specs.Claims.{Claim}
+use Rattle.rg_tree.specs.ConditionTrees.{ConditionTree}
 use Rattle.rg_hints.specs.Proved.{IsProofsRefusal}
 use Rattle.rgc.proofs.stages.Derived.prove.Goals as goal
 
 pub returns-in-Err-clause-refused : goal.returns-in-Err-clause-refused
 returns-in-Err-clause-refused c =
-    subst (λ (cs : List Claim). IsProofsRefusal cs c.args.proofs.now c.in-Err.refusal) (search rules) c.in-Err.ensures.refused
+    subst (λ (cs : List ConditionTree). IsProofsRefusal cs c.args.proofs.now c.in-Err.refusal) (search rules) c.in-Err.ensures.refused
 
 pub invariant_of-result : goal.invariant_of-result
 invariant_of-result c = record {

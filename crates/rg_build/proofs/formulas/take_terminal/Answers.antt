@@ -1,0 +1,35 @@
+use Rattle.std.proofs.Common.{◌≡◌, Bool, List, refl, ◌∙◌}
+use Rattle.rg_text.specs.Text.{Leaf}
+use Rattle.rg_text.specs.declared.kind.Kind.TheVariants.{Fixed}
+use Rattle.rg_text.specs.declared.kind.Terminal.{Terminal}
+use Rattle.rg_text.specs.declared.kind.Terminal.TheVariants.{Open, Close, Truth, Not, Inv, If, Section}
+use Rattle.rg_text.specs.declared.kind.Keyword.TheVariants.{Skip}
+use Rattle.rg_syntax.specs.Grammar.{lexeme_as}
+use Rattle.rg_build.specs.Inner.Frames as frames
+use Rattle.rg_build.specs.Inner.Building.{step, between}
+use Rattle.rg_build.proofs.formulas.take_terminal.Goals as goal
+
+-- any other keyword or symbol stands between two parts
+others : (t : Terminal) (leaf : Leaf) (os : List frames.Open) → (t ≡ Open → ⊥) → (t ≡ Close → ⊥) → ((b : Bool) → t ≡ Truth b → ⊥) → (t ≡ Not → ⊥) → (t ≡ Inv → ⊥) → (t ≡ If → ⊥) → between t os ≡ step os (lexeme_as (Fixed t) leaf)
+others Open leaf os a b c d e f = absurd (a refl)
+others Close leaf os a b c d e f = absurd (b refl)
+others (Truth v) leaf os a b c d e f = absurd (c v refl)
+others Not leaf os a b c d e f = absurd (d refl)
+others Inv leaf os a b c d e f = absurd (e refl)
+others If leaf os a b c d e f = absurd (f refl)
+others (Section Skip) leaf os a b c d e f = refl
+others _ leaf os a b c d e f = refl
+
+pub returns-in_ok-take_close-in-Close : goal.returns-in_ok-take_close-in-Close
+returns-in_ok-take_close-in-Close c = λ leaf src. rw c.in-Close.is (c.in_ok-take_close-in-Close.ensures src)
+
+pub returns-in_ok-take_if-in-If : goal.returns-in_ok-take_if-in-If
+returns-in_ok-take_if-in-If c = λ leaf src. rw c.in-If.is (c.in_ok-take_if-in-If.ensures src)
+
+pub returns-in_ok-take_formula-in-Truth : goal.returns-in_ok-take_formula-in-Truth
+returns-in_ok-take_formula-in-Truth c = λ leaf src. rw c.in-Truth.is (c.in_ok-take_formula-in-Truth.ensures src)
+
+pub returns-in_ok-take_between-in_default : goal.returns-in_ok-take_between-in_default
+returns-in_ok-take_between-in_default c = λ leaf src.
+    let d = c.in_default in
+    c.in_ok-take_between-in_default.ensures src ∙ others c.args.terminal leaf _ d.not-Open d.not-Close d.not-Truth d.not-Not d.not-Inv d.not-If

@@ -1,0 +1,480 @@
+//! The trees of texts, built token by token.
+
+ghost use Rattle.std.specs.Prelude.{◌≡◌, ℕ, List, [], ◌∷◌, ◌++◌, map, OnOk, IfOk, IsSomeAnd, option_map};
+ghost use Rattle.rg_syntax.specs.Written.{claim, term, show_text, setting, move_text};
+ghost use Rattle.rg_build.specs.Inner.Frames.{stack, open_of, piece, setter_of};
+ghost use Rattle.rg_text.specs.Text.{Leaf, leaf_of};
+ghost use Rattle.rg_syntax.specs.Grammar.{FormulaSpelling, ShowSpelling, SettingsSpelling, MovesSpelling, formula, show, settings, moves, lexeme_as, lexeme_of};
+ghost use Rattle.rg_syntax.specs.Texts.{claim_of, shown_claim, settings_of, moves_of};
+ghost use Rattle.rg_build.specs.Inner.Building.{with_claim, with_term, with_piece, close, on_if, between, on_fixed, on_name, on_number, step, steps, whole_of, whole_show_of, after_at, whole_start_of, whole_moves_of, with_last};
+
+use rg_syntax::written::{Declaration, ExpressionText, FormulaText, MoveText, Setting, ShowText};
+use rg_text::kind::{Conditional, Junction, Keyword, Kind, Terminal};
+use rg_text::token::Token;
+use rg_words::operators::{Comparison, Operator, Shift};
+use std::alloc::{AllocError, Global};
+
+/// A formula or an expression.
+#[derive(Drop)]
+pub enum Item {
+    Formula(FormulaText),
+    Expression(ExpressionText),
+}
+
+/// What words are set for: a start, or a move of this number after others.
+#[derive(Drop)]
+pub enum Setter {
+    Start,
+    Move(Vec<MoveText>, Token),
+}
+
+/// An open part of the text, with what was read of it. Each stands where the `Point` of its name
+/// does.
+#[derive(Drop)]
+pub enum Frame {
+    Whole,
+    Negated,
+    Inverted,
+    First,
+    Next(Junction, FormulaText),
+    Second(Conditional, FormulaText),
+    Compared(Comparison, ExpressionText),
+    Operated(Operator, ExpressionText),
+    Chosen,
+    Condition,
+    Consequent(FormulaText),
+    Alternative(FormulaText, ExpressionText),
+    End(FormulaText),
+    AfterFormula(FormulaText),
+    AfterExpression(ExpressionText),
+    AfterNext(Junction, FormulaText),
+    Counted(Shift, ExpressionText),
+    Closing(Item),
+    AfterCondition(FormulaText),
+    AfterConsequent(FormulaText, ExpressionText),
+    /// Declared words, and whether `fixed` stands before the next.
+    Declaring(Vec<Declaration>, bool),
+    /// The same, and the name of the next.
+    Declared(Vec<Declaration>, bool, Token),
+    /// After `show`.
+    Showing(Vec<Declaration>),
+    ShowEnd(Vec<Declaration>, FormulaText),
+    /// Words that are set.
+    Settings(Setter, Vec<Setting>),
+    /// The same, and the next word.
+    SettingWord(Setter, Vec<Setting>, Token),
+    /// Whole moves, before the first `at` or after another.
+    Moves(Vec<MoveText>),
+    /// Before an expression that stands alone, and after it.
+    WholeValue,
+    Valued(ExpressionText),
+}
+
+/// Opens a part. It stands apart so that each call that fails drops no part in place: the checker would spell that out, kind by kind.
+fn put(frames: &mut Vec<Frame>, frame: Frame) -> Result<(), AllocError>
+    ensures { OnOk result (frames.new.items ≡ frames.old.items ++ frame ∷ []) }
+{
+    frames.push(frame)?;
+    Ok(())
+}
+
+/// Takes a whole formula into the parts around it.
+fn take_formula(
+    alloc: Global,
+    frames: &mut Vec<Frame>,
+    formula: FormulaText,
+) -> Result<(), AllocError>
+    ensures { (src : List ℕ) → OnOk result (stack src frames.new
+        ≡ with_claim (stack src frames.old) (claim src formula)) }
+{
+    match frames.pop() {
+        None => {}
+        Some(Frame::Whole) => put(frames, Frame::End(formula))?,
+        Some(Frame::Negated) => {
+            let negation = FormulaText::Not(Box::new(alloc, formula)?);
+            take_formula(alloc, frames, negation)?;
+        }
+        Some(Frame::First) => put(frames, Frame::AfterFormula(formula))?,
+        Some(Frame::Next(junction, left)) => {
+            let left = Box::new(alloc, left)?;
+            let chain = FormulaText::Joined(junction, left, Box::new(alloc, formula)?);
+            put(frames, Frame::AfterNext(junction, chain))?;
+        }
+        Some(Frame::Second(conditional, left)) => {
+            let left = Box::new(alloc, left)?;
+            let whole = FormulaText::Implied(conditional, left, Box::new(alloc, formula)?);
+            put(frames, Frame::Closing(Item::Formula(whole)))?;
+        }
+        Some(Frame::Condition) => put(frames, Frame::AfterCondition(formula))?,
+        Some(Frame::Showing(words)) => put(frames, Frame::ShowEnd(words, formula))?,
+        Some(other) => put(frames, other)?,
+    }
+    Ok(())
+}
+
+/// Takes a whole expression into the parts around it.
+fn take_expression(
+    alloc: Global,
+    frames: &mut Vec<Frame>,
+    expression: ExpressionText,
+) -> Result<(), AllocError>
+    ensures { (src : List ℕ) → OnOk result (stack src frames.new
+        ≡ with_term (stack src frames.old) (term src expression)) }
+{
+    match frames.pop() {
+        None => {}
+        Some(Frame::Inverted) => {
+            let inverse = ExpressionText::Inverse(Box::new(alloc, expression)?);
+            take_expression(alloc, frames, inverse)?;
+        }
+        Some(Frame::First) => put(frames, Frame::AfterExpression(expression))?,
+        Some(Frame::Compared(comparison, left)) => {
+            let whole = FormulaText::Compared(comparison, left, expression);
+            put(frames, Frame::Closing(Item::Formula(whole)))?;
+        }
+        Some(Frame::Operated(operator, left)) => {
+            let left = Box::new(alloc, left)?;
+            let whole = ExpressionText::Binary(operator, left, Box::new(alloc, expression)?);
+            put(frames, Frame::Closing(Item::Expression(whole)))?;
+        }
+        Some(Frame::Chosen) => put(frames, Frame::Closing(Item::Expression(expression)))?,
+        Some(Frame::Consequent(formula)) => {
+            put(frames, Frame::AfterConsequent(formula, expression))?;
+        }
+        Some(Frame::Alternative(formula, first)) => {
+            let formula = Box::new(alloc, formula)?;
+            let first = Box::new(alloc, first)?;
+            let choice = ExpressionText::If(formula, first, Box::new(alloc, expression)?);
+            take_expression(alloc, frames, choice)?;
+        }
+        Some(Frame::WholeValue) => put(frames, Frame::Valued(expression))?,
+        Some(other) => put(frames, other)?,
+    }
+    Ok(())
+}
+
+/// Takes a closing parenthesis.
+fn take_close(alloc: Global, frames: &mut Vec<Frame>) -> Result<(), AllocError>
+    ensures { (src : List ℕ) → OnOk result (stack src frames.new
+        ≡ close (stack src frames.old)) }
+{
+    match frames.pop() {
+        None => {}
+        Some(Frame::AfterNext(_, formula)) => take_formula(alloc, frames, formula)?,
+        Some(Frame::Closing(Item::Formula(formula))) => take_formula(alloc, frames, formula)?,
+        Some(Frame::Closing(Item::Expression(expression))) => {
+            take_expression(alloc, frames, expression)?;
+        }
+        Some(other) => put(frames, other)?,
+    }
+    Ok(())
+}
+
+/// Takes the `if` of an expression.
+fn take_if(frames: &mut Vec<Frame>) -> Result<(), AllocError>
+    ensures { (src : List ℕ) → OnOk result (stack src frames.new
+        ≡ on_if (stack src frames.old)) }
+{
+    match frames.pop() {
+        None => {}
+        Some(Frame::First) => {
+            put(frames, Frame::Chosen)?;
+            put(frames, Frame::Condition)?;
+        }
+        Some(other) => put(frames, other)?,
+    }
+    Ok(())
+}
+
+/// Takes a token that stands after a part of an item, other than a parenthesis or an `if`.
+fn take_between(frames: &mut Vec<Frame>, terminal: Terminal) -> Result<(), AllocError>
+    ensures { (src : List ℕ) → OnOk result (stack src frames.new
+        ≡ between terminal (stack src frames.old)) }
+{
+    match (frames.pop(), terminal) {
+        (None, _) => {}
+        (Some(Frame::AfterFormula(f)), Terminal::Join(junction)) => {
+            put(frames, Frame::Next(junction, f))?;
+        }
+        (Some(Frame::AfterNext(junction, f)), Terminal::Join(_)) => {
+            put(frames, Frame::Next(junction, f))?;
+        }
+        (Some(Frame::AfterFormula(f)), Terminal::Imply(conditional)) => {
+            put(frames, Frame::Second(conditional, f))?;
+        }
+        (Some(Frame::AfterExpression(a)), Terminal::Compare(comparison)) => {
+            put(frames, Frame::Compared(comparison, a))?;
+        }
+        (Some(Frame::AfterExpression(a)), Terminal::Operate(operator)) => {
+            put(frames, Frame::Operated(operator, a))?;
+        }
+        (Some(Frame::AfterExpression(a)), Terminal::ShiftBy(shift)) => {
+            put(frames, Frame::Counted(shift, a))?;
+        }
+        (Some(Frame::AfterCondition(f)), Terminal::Then) => put(frames, Frame::Consequent(f))?,
+        (Some(Frame::AfterConsequent(f, a)), Terminal::Else) => {
+            put(frames, Frame::Alternative(f, a))?;
+        }
+        (Some(Frame::Declaring(words, _)), Terminal::Section(Keyword::Fixed)) => {
+            put(frames, Frame::Declaring(words, true))?;
+        }
+        (Some(Frame::Declaring(words, _)), Terminal::Show) => put(frames, Frame::Showing(words))?,
+        (Some(Frame::Settings(setter, settings)), Terminal::Section(Keyword::At)) => {
+            take_at(frames, setter, settings)?;
+        }
+        (Some(other), _) => put(frames, other)?,
+    }
+    Ok(())
+}
+
+/// Takes the `at` after words that are set, which ends a move.
+fn take_at(
+    frames: &mut Vec<Frame>,
+    setter: Setter,
+    settings: Vec<Setting>,
+) -> Result<(), AllocError>
+    ensures { (src : List ℕ) → OnOk result (stack src frames.new
+        ≡ after_at (setter_of src setter) (map (setting src) settings.items) ∷ (stack src frames.old)) }
+{
+    match setter {
+        Setter::Start => put(frames, Frame::Settings(Setter::Start, settings))?,
+        Setter::Move(moves, number) => {
+            let mut moves = moves;
+            moves.push(MoveText { number, settings })?;
+            put(frames, Frame::Moves(moves))?;
+        }
+    }
+    Ok(())
+}
+
+/// Takes a keyword or a symbol.
+fn take_terminal(
+    alloc: Global,
+    frames: &mut Vec<Frame>,
+    terminal: Terminal,
+) -> Result<(), AllocError>
+    ensures { (leaf : Leaf) (src : List ℕ) → OnOk result (stack src frames.new
+        ≡ step (stack src frames.old) (lexeme_as (Kind.Fixed terminal) leaf)) }
+{
+    match terminal {
+        Terminal::Open => put(frames, Frame::First)?,
+        Terminal::Close => take_close(alloc, frames)?,
+        Terminal::Not => put(frames, Frame::Negated)?,
+        Terminal::Inv => put(frames, Frame::Inverted)?,
+        Terminal::If => take_if(frames)?,
+        Terminal::Truth(truth) => take_formula(alloc, frames, FormulaText::Truth(truth))?,
+        other => take_between(frames, other)?,
+    }
+    Ok(())
+}
+
+/// Takes a name, which is an expression, declares a word or sets one.
+fn take_name(alloc: Global, frames: &mut Vec<Frame>, token: Token) -> Result<(), AllocError>
+    ensures { (src : List ℕ) → OnOk result (stack src frames.new
+        ≡ on_name (stack src frames.old) (leaf_of src token)) }
+{
+    match frames.pop() {
+        None => {}
+        Some(Frame::Declaring(words, fixed)) => {
+            put(frames, Frame::Declared(words, fixed, token))?;
+        }
+        Some(Frame::Settings(setter, settings)) => {
+            put(frames, Frame::SettingWord(setter, settings, token))?;
+        }
+        Some(other) => {
+            put(frames, other)?;
+            take_expression(alloc, frames, ExpressionText::Word(token))?;
+        }
+    }
+    Ok(())
+}
+
+/// Takes a number, which is an expression, counts the bits of a shift, is the width or the value of
+/// a word, or numbers a move.
+fn take_number(alloc: Global, frames: &mut Vec<Frame>, token: Token) -> Result<(), AllocError>
+    ensures { (src : List ℕ) → OnOk result (stack src frames.new
+        ≡ on_number (stack src frames.old) (leaf_of src token)) }
+{
+    match frames.pop() {
+        None => {}
+        Some(Frame::Counted(shift, value)) => {
+            let whole = ExpressionText::Shifted(shift, Box::new(alloc, value)?, token);
+            put(frames, Frame::Closing(Item::Expression(whole)))?;
+        }
+        Some(Frame::Declared(words, fixed, name)) => {
+            let mut words = words;
+            words.push(Declaration {
+                fixed,
+                name,
+                width: token,
+            })?;
+            put(frames, Frame::Declaring(words, false))?;
+        }
+        Some(Frame::SettingWord(setter, settings, word)) => {
+            let mut settings = settings;
+            settings.push(Setting { word, value: token })?;
+            put(frames, Frame::Settings(setter, settings))?;
+        }
+        Some(Frame::Moves(moves)) => {
+            put(
+                frames,
+                Frame::Settings(Setter::Move(moves, token), Vec::new(alloc)),
+            )?;
+        }
+        Some(other) => {
+            put(frames, other)?;
+            take_expression(alloc, frames, ExpressionText::Number(token))?;
+        }
+    }
+    Ok(())
+}
+
+/// Takes one token.
+pub fn take_token(alloc: Global, frames: &mut Vec<Frame>, token: Token) -> Result<(), AllocError>
+    ensures { (src : List ℕ) → OnOk result (stack src frames.new
+        ≡ step (stack src frames.old) (lexeme_of src token)) }
+{
+    match token.kind {
+        Kind::Name => take_name(alloc, frames, token)?,
+        Kind::Primed => take_expression(alloc, frames, ExpressionText::NextWord(token))?,
+        Kind::Number => take_number(alloc, frames, token)?,
+        Kind::Fixed(terminal) => take_terminal(alloc, frames, terminal)?,
+    }
+    Ok(())
+}
+
+/// The open parts of a text after all its tokens, where this one stands before them.
+fn read(alloc: Global, first: Frame, tokens: &[Token]) -> Result<Vec<Frame>, AllocError>
+    ensures { (src : List ℕ) → IfOk result (λ frames. (stack src frames)
+        ≡ steps (open_of src first ∷ []) (map (lexeme_of src) tokens.now)) }
+{
+    let mut frames = Vec::new(alloc);
+    put(&mut frames, first)?;
+    for token in tokens {
+        take_token(alloc, &mut frames, *token)?;
+    }
+    Ok(frames)
+}
+
+/// The tree of a formula, where the tokens spell one.
+pub fn build_formula(alloc: Global, tokens: &[Token]) -> Result<Option<FormulaText>, AllocError>
+    ensures { (src : List ℕ) (f : FormulaSpelling) → map (lexeme_of src) tokens.now ≡ formula f []
+        → IfOk result (λ built. IsSomeAnd built (λ r. claim src r ≡ claim_of f)) }
+{
+    let mut frames = read(alloc, Frame::Whole, tokens)?;
+    Ok(take_whole(&mut frames))
+}
+
+/// The words and the tree of a text to show, where the tokens spell one.
+pub fn build_show(alloc: Global, tokens: &[Token]) -> Result<Option<ShowText>, AllocError>
+    ensures { (src : List ℕ) (s : ShowSpelling) → map (lexeme_of src) tokens.now ≡ show s []
+        → IfOk result (λ built. IsSomeAnd built (λ r. show_text src r ≡ shown_claim s)) }
+{
+    let mut frames = read(alloc, Frame::Declaring(Vec::new(alloc), false), tokens)?;
+    Ok(take_show(&mut frames))
+}
+
+/// The words that a start sets, where the tokens spell one.
+pub fn build_start(alloc: Global, tokens: &[Token]) -> Result<Option<Vec<Setting>>, AllocError>
+    ensures { (src : List ℕ) (s : SettingsSpelling) → map (lexeme_of src) tokens.now ≡ settings s []
+        → IfOk result (λ built. IsSomeAnd built (λ r. map (setting src) r.items ≡ settings_of s)) }
+{
+    let mut frames = read(
+        alloc,
+        Frame::Settings(Setter::Start, Vec::new(alloc)),
+        tokens,
+    )?;
+    Ok(take_start(&mut frames))
+}
+
+/// The moves, where the tokens spell some or none.
+pub fn build_moves(alloc: Global, tokens: &[Token]) -> Result<Option<Vec<MoveText>>, AllocError>
+    ensures { (src : List ℕ) (s : MovesSpelling) → map (lexeme_of src) tokens.now ≡ moves s []
+        → IfOk result (λ built. IsSomeAnd built (λ r. map (move_text src) r.items ≡ moves_of s)) }
+{
+    let mut frames = read(alloc, Frame::Moves(Vec::new(alloc)), tokens)?;
+    let built = take_moves(&mut frames)?;
+    Ok(built)
+}
+
+/// The formula, where nothing else is open.
+pub fn take_whole(frames: &mut Vec<Frame>) -> Option<FormulaText>
+    ensures { (src : List ℕ) → option_map (claim src) result
+        ≡ whole_of (stack src frames.old) }
+{
+    match frames.pop() {
+        None => None,
+        Some(Frame::End(formula)) => Some(formula),
+        Some(other) => {
+            discard(other);
+            None
+        }
+    }
+}
+
+/// The words and the formula, where nothing else is open.
+fn take_show(frames: &mut Vec<Frame>) -> Option<ShowText>
+    ensures { (src : List ℕ) → option_map (show_text src) result
+        ≡ whole_show_of (stack src frames.old) }
+{
+    match frames.pop() {
+        None => None,
+        Some(Frame::ShowEnd(words, formula)) => Some(ShowText { words, formula }),
+        Some(other) => {
+            discard(other);
+            None
+        }
+    }
+}
+
+/// The words that a start sets.
+fn take_start(frames: &mut Vec<Frame>) -> Option<Vec<Setting>>
+    ensures { (src : List ℕ) → option_map (λ r. map (setting src) r.items) result
+        ≡ whole_start_of (stack src frames.old) }
+{
+    match frames.pop() {
+        None => None,
+        Some(Frame::Settings(Setter::Start, settings)) => Some(settings),
+        Some(other) => {
+            discard(other);
+            None
+        }
+    }
+}
+
+/// All moves, with the last.
+fn take_moves(frames: &mut Vec<Frame>) -> Result<Option<Vec<MoveText>>, AllocError>
+    ensures { (src : List ℕ) → IfOk result (λ built. option_map (λ r. map (move_text src) r.items) built
+        ≡ whole_moves_of (stack src frames.old)) }
+{
+    match frames.pop() {
+        None => Ok(None),
+        Some(Frame::Moves(moves)) => Ok(Some(moves)),
+        Some(Frame::Settings(setter, settings)) => {
+            let moves = with_last(setter, settings)?;
+            Ok(moves)
+        }
+        Some(other) => {
+            discard(other);
+            Ok(None)
+        }
+    }
+}
+
+/// The moves up to the one that sets these words, where a move does.
+fn with_last(setter: Setter, settings: Vec<Setting>) -> Result<Option<Vec<MoveText>>, AllocError>
+    ensures { (src : List ℕ) → IfOk result (λ built. option_map (λ r. map (move_text src) r.items) built
+        ≡ with_last (setter_of src setter) (map (setting src) settings.items)) }
+{
+    match setter {
+        Setter::Start => Ok(None),
+        Setter::Move(moves, number) => {
+            let mut moves = moves;
+            moves.push(MoveText { number, settings })?;
+            Ok(Some(moves))
+        }
+    }
+}
+
+/// Lets a part go.
+fn discard(_frame: Frame) {}

@@ -1,9 +1,0 @@
-use Rattle.std.proofs.Common.{◌≡◌, ℕ, List, [], ◌∷◌, map, take, reverse}
-use Rattle.rg_parse.specs.Grammar.{lexeme_of}
-use Rattle.rg_parse.specs.Frames.{open_of}
-use Rattle.rg_parse.specs.Build.{steps}
-use Rattle.rg_parse.proofs.build.read.Given as goal
-
-abbrev pub invariant-loop-token : goal.invariant-loop-token
-invariant-loop-token l =
-    (src : List ℕ) → steps (open_of src l.fn.first ∷ []) (map (lexeme_of src) (take l.token-index l.tokens)) ≡ map (open_of src) (reverse l.frames.items)

@@ -1,0 +1,4 @@
+-- What only contracts of private functions, ghost fields and proofs speak of: no public contract reaches it.
+pub mod OneProof
+pub mod Sizes
+pub mod View

@@ -1,0 +1,94 @@
+//! The gates of a circuit, read back from its clauses.
+
+use crate::code::{Code, code_of, negated, variable_of};
+use crate::given::Given;
+use crate::table::at;
+use std::alloc::{AllocError, Global};
+
+/// The operands of an AND gate.
+#[derive(Clone, Copy)]
+pub struct Operands {
+    pub first: Code,
+    pub second: Code,
+}
+
+pub const NO_OPERANDS: Operands = Operands {
+    first: 0,
+    second: 0,
+};
+
+/// Gates in order; their variables follow the inputs.
+#[derive(Drop)]
+pub struct Circuit {
+    pub inputs: usize,
+    pub gates: Vec<Operands>,
+    /// The literal that the last clause asserts alone, or 0.
+    pub assertion: Code,
+}
+
+fn code_at(given: Given<'_>, index: usize, place: usize) -> Code {
+    code_of(at(given.clause(index), place, 0))
+}
+
+/// The operands of the gate with this variable, where the three clauses from this place on are a gate's.
+fn operands_at(given: Given<'_>, start: usize, variable: usize) -> Option<Operands> {
+    let second_place = start.saturating_add(1);
+    let third_place = start.saturating_add(2);
+    let first = code_at(given, start, 1);
+    let second = code_at(given, second_place, 1);
+    let gate = code_at(given, third_place, 0);
+    let is_gate = variable_of(gate) == variable
+        && gate & 1 == 0
+        && code_at(given, start, 0) == negated(gate)
+        && code_at(given, second_place, 0) == negated(gate)
+        && code_at(given, third_place, 1) == negated(first)
+        && code_at(given, third_place, 2) == negated(second);
+    let is_earlier = 2 <= first.min(second) && variable_of(first.max(second)) < variable;
+    if is_gate && is_earlier {
+        Some(Operands { first, second })
+    } else {
+        None
+    }
+}
+
+/// The literal of the last clause, where it has one alone.
+fn assertion_of(given: Given<'_>) -> Code {
+    let literals = given.clause(given.len().saturating_sub(1));
+    if literals.len() == 1 {
+        return code_of(at(literals, 0, 0));
+    }
+    0
+}
+
+impl Circuit {
+    /// The gates that the clauses begin with, three clauses for each.
+    pub fn read(alloc: Global, given: Given<'_>) -> Result<Circuit, AllocError> {
+        let inputs = given.inputs as usize;
+        let mut gates = Vec::new(alloc);
+        let mut variable = inputs;
+        for index in 0..given.len() / 3 {
+            variable = variable.saturating_add(1);
+            let Some(gate) = operands_at(given, index.saturating_mul(3), variable) else {
+                break;
+            };
+            gates.push(gate)?;
+        }
+        let assertion = assertion_of(given);
+        Ok(Circuit {
+            inputs,
+            gates,
+            assertion,
+        })
+    }
+
+    /// The count of inputs and gates.
+    pub fn variables(&self) -> usize {
+        self.inputs.saturating_add(self.gates.len())
+    }
+
+    /// The operands of a variable, where it is a gate.
+    pub fn operands(&self, variable: usize) -> Option<Operands> {
+        let place = variable.checked_sub(self.inputs)?.checked_sub(1)?;
+        self.gates.get(place).copied()
+    }
+}

@@ -1,0 +1,9 @@
+pub mod Advance
+pub mod Finish
+pub mod OneFault
+pub mod Outcome
+pub mod Spellings
+pub mod Steps
+pub mod Tokens
+pub mod Within
+pub mod Zipper

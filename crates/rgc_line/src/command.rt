@@ -1,0 +1,106 @@
+//! What the program is asked to do.
+
+ghost use Rattle.std.specs.Prelude.{◌≡◌};
+ghost use Rattle.rgc_line.specs.Named.{named};
+
+/// The condition of a program that a command is about.
+#[derive(Clone, Copy)]
+pub struct Chosen<'a> {
+    /// The derivation's file, by its path as given.
+    pub derivation: &'a str,
+    /// The condition's number, from 1.
+    pub condition: u64,
+}
+
+/// A command with its files, each by its path as given.
+#[derive(Clone, Copy)]
+pub enum Command<'a> {
+    /// The statements of a program with their numbers.
+    Number {
+        text: &'a str,
+    },
+    /// Whether the written rules accept a derivation and proofs for a program.
+    Check {
+        text: &'a str,
+        derivation: &'a str,
+        proofs: &'a str,
+    },
+    /// The names of the conditions of a program's derivation.
+    Conditions {
+        text: &'a str,
+        derivation: &'a str,
+    },
+    /// A proofs file for all conditions of a program's derivation, with at most so many decisions for each.
+    Prove {
+        text: &'a str,
+        derivation: &'a str,
+        steps: u64,
+    },
+    /// The listing of the code of an accepted program.
+    Emit {
+        text: &'a str,
+        derivation: &'a str,
+        proofs: &'a str,
+    },
+    /// Whether the hint lines prove the `show` formula of a text.
+    Valid {
+        text: &'a str,
+        proofs: &'a str,
+    },
+    /// The clauses of the `show` formula of a text, or of a condition of a program.
+    Clauses {
+        text: &'a str,
+        chosen: Option<Chosen<'a>>,
+    },
+    /// Hint lines for the `show` formula of a text or for a condition of a program, or states at which it fails, with at most so many
+    /// decisions.
+    Find {
+        text: &'a str,
+        steps: u64,
+        chosen: Option<Chosen<'a>>,
+    },
+}
+
+/// The files of a command, each by its path as given; none where it has none.
+#[derive(Clone, Copy)]
+pub struct Named<'a> {
+    pub text: &'a str,
+    pub derivation: Option<&'a str>,
+    pub proofs: Option<&'a str>,
+}
+
+impl<'a> Command<'a> {
+    /// The files of the command.
+    pub fn named(&self) -> Named<'a>
+        ensures { result ≡ named self.now }
+    {
+        let (text, derivation, proofs) = match *self {
+            Command::Number { text } => (text, None, None),
+            Command::Check {
+                text,
+                derivation,
+                proofs,
+            }
+            | Command::Emit {
+                text,
+                derivation,
+                proofs,
+            } => (text, Some(derivation), Some(proofs)),
+            Command::Conditions { text, derivation }
+            | Command::Prove {
+                text,
+                derivation,
+                ..
+            } => (text, Some(derivation), None),
+            Command::Valid { text, proofs } => (text, None, Some(proofs)),
+            Command::Clauses { text, chosen } | Command::Find { text, chosen, .. } => {
+                (text, chosen.map(|chosen| chosen.derivation), None)
+            }
+        };
+        Named {
+            text,
+            derivation,
+            proofs,
+        }
+    }
+}

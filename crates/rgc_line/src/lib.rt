@@ -1,0 +1,11 @@
+//! The command line of `rgc`: from its words to a command and the files that it names.
+#![tactic(auto)]
+
+mod app;
+mod command;
+mod fields;
+mod line;
+
+pub use command::{Chosen, Command, Named};
+pub use fields::FieldFault;
+pub use line::{Line, LineFault};

@@ -1,0 +1,4 @@
+pub mod PartNames
+pub mod Found
+pub mod ConditionLines
+pub mod Listings

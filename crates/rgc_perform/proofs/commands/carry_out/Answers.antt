@@ -1,0 +1,25 @@
+use Rattle.rgc_perform.proofs.commands.carry_out.Goals as goal
+
+pub returns-in-Number-clause-done : goal.returns-in-Number-clause-done
+returns-in-Number-clause-done g c = rw c.in-Number.is (c.number.ensures.done c.in-Number.text)
+
+pub returns-in-Check-clause-done : goal.returns-in-Check-clause-done
+returns-in-Check-clause-done g c = rw c.in-Check.is (c.check.ensures.done c.in-Check.text c.in-Check.derivation c.in-Check.proofs)
+
+pub returns-in-Conditions-clause-done : goal.returns-in-Conditions-clause-done
+returns-in-Conditions-clause-done g c = rw c.in-Conditions.is (c.conditions.ensures.done c.in-Conditions.text c.in-Conditions.derivation)
+
+pub returns-in-Prove-clause-done : goal.returns-in-Prove-clause-done
+returns-in-Prove-clause-done g c = rw c.in-Prove.is (c.prove.ensures.done c.in-Prove.text c.in-Prove.derivation)
+
+pub returns-in-Emit-clause-done : goal.returns-in-Emit-clause-done
+returns-in-Emit-clause-done g c = rw c.in-Emit.is (c.emit.ensures.done c.in-Emit.text c.in-Emit.derivation c.in-Emit.proofs)
+
+pub returns-in-Valid-clause-done : goal.returns-in-Valid-clause-done
+returns-in-Valid-clause-done g c = rw c.in-Valid.is (c.valid.ensures.done c.in-Valid.text c.in-Valid.proofs)
+
+pub returns-in-Clauses-clause-done : goal.returns-in-Clauses-clause-done
+returns-in-Clauses-clause-done g c = rw c.in-Clauses.is (c.clauses.ensures.done c.in-Clauses.text)
+
+pub returns-in-Find-clause-done : goal.returns-in-Find-clause-done
+returns-in-Find-clause-done g c = rw c.in-Find.is (c.find.ensures.done c.in-Find.text)

@@ -1,0 +1,4 @@
+pub mod Done
+pub mod Numbers
+pub mod Conditions
+pub mod Inner

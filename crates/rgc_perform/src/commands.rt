@@ -1,0 +1,271 @@
+//! One command over files in memory, with writers for its output and its faults.
+
+ghost use Rattle.std.specs.Prelude.{◌≡◌, ◌≤◌, ℕ, List, IsTrue, Some, IfOk, OnOk};
+ghost use Rattle.std.specs.Borrow.{Bor};
+ghost use Rattle.rg_words.specs.Written.{CanCount};
+ghost use Rattle.rgc_line.specs.declared.command.Command.TheVariants.{Number, Check, Conditions, Prove, Emit, Valid, Clauses, Find};
+ghost use Rattle.rgc_perform.specs.Done.{IsDone};
+
+use crate::printed::{
+    print_accepted, print_clauses, print_condition_clauses, print_condition_found,
+    print_conditions, print_found, print_listing, print_numbers, print_proofs, print_valid,
+};
+use rg_find::Watcher;
+use rg_words::{Out, Refusal, RefusalNumber, write_all};
+use rgc_line::{Chosen, Command, Line};
+use std::alloc::Global;
+
+/// The bytes of the files that a command names; none where it isn't named or can't be read.
+#[derive(Clone, Copy)]
+pub struct Files<'a> {
+    pub text: Option<&'a [u8]>,
+    pub derivation: Option<&'a [u8]>,
+    pub proofs: Option<&'a [u8]>,
+}
+
+/// Why a command isn't done.
+enum Stop {
+    /// A file can't be read; the line that says so.
+    Device(&'static str),
+    Refused(Refusal),
+    /// The output says that no proof was found.
+    Told,
+}
+
+impl From<Refusal> for Stop {
+    fn from(refusal: Refusal) -> Stop {
+        Stop::Refused(refusal)
+    }
+}
+
+/// A file's bytes, where it can be read.
+fn needed<'a>(file: Option<&'a [u8]>, fault: &'static str) -> Result<&'a [u8], Stop>
+    ensures { IfOk result (λ bytes. file.entry ≡ Some bytes) }
+{
+    match file {
+        Some(bytes) => Ok(bytes),
+        None => Err(Stop::Device(fault)),
+    }
+}
+
+fn text_of<'a>(files: &Files<'a>) -> Result<&'a [u8], Stop>
+    ensures { IfOk result (λ bytes. files.now.text ≡ Some bytes) }
+{
+    needed(files.text, "device text\n")
+}
+
+fn derivation_of<'a>(files: &Files<'a>) -> Result<&'a [u8], Stop>
+    ensures { IfOk result (λ bytes. files.now.derivation ≡ Some bytes) }
+{
+    needed(files.derivation, "device derivation\n")
+}
+
+fn proofs_of<'a>(files: &Files<'a>) -> Result<&'a [u8], Stop>
+    ensures { IfOk result (λ bytes. files.now.proofs ≡ Some bytes) }
+{
+    needed(files.proofs, "device proofs\n")
+}
+
+/// Done only where a proof was found.
+fn proved(is_found: bool) -> Result<(), Stop>
+    ensures { OnOk result (IsTrue is_found) }
+{
+    if is_found {
+        return Ok(());
+    }
+    Err(Stop::Told)
+}
+
+/// Prints the statements of a program with their numbers.
+fn number<W: Out>(alloc: Global, files: &Files<'_>, out: &mut W) -> Result<(), Stop>
+    requires { CanCount (W.failures out.old) }
+    ensures done { (t : Bor (List ℕ)) → OnOk result (IsDone (Number t) files.now.text files.now.derivation files.now.proofs (W.contents out.old) (W.contents out.new)) }
+    ensures failures { OnOk result (W.failures out.new ≡ W.failures out.old) }
+{
+    print_numbers(alloc, text_of(files)?, out)?;
+    Ok(())
+}
+
+/// Prints `accepted` for a program.
+fn check<W: Out>(alloc: Global, files: &Files<'_>, out: &mut W) -> Result<(), Stop>
+    requires { CanCount (W.failures out.old) }
+    ensures done { (t d p : Bor (List ℕ)) → OnOk result (IsDone (Check t d p) files.now.text files.now.derivation files.now.proofs (W.contents out.old) (W.contents out.new)) }
+    ensures failures { OnOk result (W.failures out.new ≡ W.failures out.old) }
+{
+    let text = text_of(files)?;
+    let derivation = derivation_of(files)?;
+    print_accepted(alloc, text, derivation, proofs_of(files)?, out)?;
+    Ok(())
+}
+
+/// Prints the names of the conditions of a derivation.
+fn conditions<W: Out>(alloc: Global, files: &Files<'_>, out: &mut W) -> Result<(), Stop>
+    requires { CanCount (W.failures out.old) }
+    ensures done { (t d : Bor (List ℕ)) → OnOk result (IsDone (Conditions t d) files.now.text files.now.derivation files.now.proofs (W.contents out.old) (W.contents out.new)) }
+    ensures failures { OnOk result (W.failures out.new ≡ W.failures out.old) }
+{
+    let text = text_of(files)?;
+    print_conditions(alloc, text, derivation_of(files)?, out)?;
+    Ok(())
+}
+
+/// Prints proofs of all conditions of a derivation.
+fn prove<W: Out, P: Watcher>(
+    alloc: Global,
+    steps: u64,
+    files: &Files<'_>,
+    out: &mut W,
+    watcher: &mut P,
+) -> Result<(), Stop>
+    requires { CanCount (W.failures out.old) }
+    ensures done { (t d : Bor (List ℕ)) → OnOk result (IsDone (Prove t d steps) files.now.text files.now.derivation files.now.proofs (W.contents out.old) (W.contents out.new)) }
+    ensures failures { OnOk result (W.failures out.new ≡ W.failures out.old) }
+{
+    let text = text_of(files)?;
+    let derivation = derivation_of(files)?;
+    proved(print_proofs(alloc, text, derivation, steps, out, watcher)?)
+}
+
+/// Prints the listing of the code of an accepted program.
+fn emit<W: Out>(alloc: Global, files: &Files<'_>, out: &mut W) -> Result<(), Stop>
+    requires { CanCount (W.failures out.old) }
+    ensures done { (t d p : Bor (List ℕ)) → OnOk result (IsDone (Emit t d p) files.now.text files.now.derivation files.now.proofs (W.contents out.old) (W.contents out.new)) }
+    ensures failures { OnOk result (W.failures out.new ≡ W.failures out.old) }
+{
+    let text = text_of(files)?;
+    let derivation = derivation_of(files)?;
+    print_listing(alloc, text, derivation, proofs_of(files)?, out)?;
+    Ok(())
+}
+
+/// Prints `holds` for a formula.
+fn valid<W: Out>(alloc: Global, files: &Files<'_>, out: &mut W) -> Result<(), Stop>
+    requires { CanCount (W.failures out.old) }
+    ensures done { (t p : Bor (List ℕ)) → OnOk result (IsDone (Valid t p) files.now.text files.now.derivation files.now.proofs (W.contents out.old) (W.contents out.new)) }
+    ensures failures { OnOk result (W.failures out.new ≡ W.failures out.old) }
+{
+    let text = text_of(files)?;
+    print_valid(alloc, text, proofs_of(files)?, out)?;
+    Ok(())
+}
+
+/// Prints the clauses of the formula, or of the chosen condition.
+fn clauses<W: Out>(
+    alloc: Global,
+    chosen: Option<Chosen<'_>>,
+    files: &Files<'_>,
+    out: &mut W,
+) -> Result<(), Stop>
+    requires { CanCount (W.failures out.old) }
+    ensures done { (t : Bor (List ℕ)) → OnOk result (IsDone (Clauses t chosen.entry) files.now.text files.now.derivation files.now.proofs (W.contents out.old) (W.contents out.new)) }
+    ensures failures { OnOk result (W.failures out.new ≡ W.failures out.old) }
+{
+    let text = text_of(files)?;
+    match chosen {
+        None => print_clauses(alloc, text, out)?,
+        Some(chosen) => {
+            let derivation = derivation_of(files)?;
+            print_condition_clauses(alloc, text, derivation, chosen.condition, out)?;
+        }
+    }
+    Ok(())
+}
+
+/// Prints lines that prove the formula, or the chosen condition.
+fn find<W: Out, P: Watcher>(
+    alloc: Global,
+    steps: u64,
+    chosen: Option<Chosen<'_>>,
+    files: &Files<'_>,
+    out: &mut W,
+    watcher: &mut P,
+) -> Result<(), Stop>
+    requires { CanCount (W.failures out.old) }
+    ensures done { (t : Bor (List ℕ)) → OnOk result (IsDone (Find t steps chosen.entry) files.now.text files.now.derivation files.now.proofs (W.contents out.old) (W.contents out.new)) }
+    ensures failures { OnOk result (W.failures out.new ≡ W.failures out.old) }
+{
+    let text = text_of(files)?;
+    match chosen {
+        None => proved(print_found(alloc, text, steps, out, watcher)?),
+        Some(chosen) => {
+            let derivation = derivation_of(files)?;
+            let number = chosen.condition;
+            proved(print_condition_found(alloc, text, derivation, number, steps, out, watcher)?)
+        }
+    }
+}
+
+/// Does the command, or says why not.
+fn carry_out<W: Out, P: Watcher>(
+    alloc: Global,
+    command: Command<'_>,
+    files: &Files<'_>,
+    out: &mut W,
+    watcher: &mut P,
+) -> Result<(), Stop>
+    requires { CanCount (W.failures out.old) }
+    ensures done { OnOk result (IsDone command.entry files.now.text files.now.derivation files.now.proofs (W.contents out.old) (W.contents out.new)) }
+    ensures failures { OnOk result (W.failures out.new ≡ W.failures out.old) }
+{
+    match command {
+        Command::Number { .. } => number(alloc, files, out),
+        Command::Check { .. } => check(alloc, files, out),
+        Command::Conditions { .. } => conditions(alloc, files, out),
+        Command::Prove { steps, .. } => prove(alloc, steps, files, out, watcher),
+        Command::Emit { .. } => emit(alloc, files, out),
+        Command::Valid { .. } => valid(alloc, files, out),
+        Command::Clauses { chosen, .. } => clauses(alloc, chosen, files, out),
+        Command::Find { steps, chosen, .. } => find(alloc, steps, chosen, files, out, watcher),
+    }
+}
+
+/// Tells a refusal in a line of its own; the status. A failing write is passed over.
+fn tell_refusal<F: Out>(alloc: Global, refusal: Refusal, faults: &mut F) -> u8
+    requires { CanCount (F.failures faults.old) }
+    ensures low { 1 ≤ result }
+    ensures high { result ≤ 3 }
+{
+    let Ok(text) = format!(in alloc; "{refusal}\n") else {
+        let _ = write_all(faults, b"refused 99\n");
+        return 3;
+    };
+    let _ = write_all(faults, text.as_bytes());
+    match refusal.number {
+        RefusalNumber::Write | RefusalNumber::Memory => 3,
+        _ => 1,
+    }
+}
+
+/// Tells by this line that a file can't be read; the status. It takes no memory. A failing write is passed over.
+fn tell_device<F: Out>(line: &str, faults: &mut F) -> u8
+    requires { CanCount (F.failures faults.old) }
+    ensures { result ≡ 3 }
+{
+    let _ = write_all(faults, line.as_bytes());
+    3
+}
+
+/// Does the command over the bytes of its files, and answers the program's status: 0 done, 1 refused or no proof found, 3 where a file can't be read,
+/// where the output can't be written, or where memory is refused. A refusal is one line on `faults`. The watcher is told
+/// of a long search.
+pub fn perform<W: Out, F: Out, P: Watcher>(
+    alloc: Global,
+    line: &Line<'_>,
+    files: &Files<'_>,
+    out: &mut W,
+    faults: &mut F,
+    watcher: &mut P,
+) -> u8
+    requires out { CanCount (W.failures out.old) }
+    requires faults { CanCount (F.failures faults.old) }
+    ensures status { result ≤ 3 }
+    ensures failures { result ≡ 0 → W.failures out.new ≡ W.failures out.old }
+    ensures done { result ≡ 0 → IsDone line.now.command files.now.text files.now.derivation files.now.proofs (W.contents out.old) (W.contents out.new) }
+{
+    match carry_out(alloc, line.command, files, out, watcher) {
+        Ok(()) => 0,
+        Err(Stop::Device(line)) => tell_device(line, faults),
+        Err(Stop::Told) => 1,
+        Err(Stop::Refused(refusal)) => tell_refusal(alloc, refusal, faults),
+    }
+}
