@@ -6,12 +6,11 @@ use Rattle.std.specs.List.{zip}
 use Rattle.std.proofs.lemmas.List.{length-map}
 use Rattle.rg_gates.specs.declared.Lit.{Lit}
 use Rattle.rg_gates.specs.Circuit.{Circuit, variable_count}
-use Rattle.rg_gates.specs.Extends.{IsRowIn}
 use Rattle.rg_tree.specs.Trees.{Proposition, Assignment}
 use Rattle.rg_tree.specs.Fits.{FormulaFits, ExpressionFits}
 use Rattle.rg_tree.specs.ConditionTrees.{ConditionTree, SecondState, AllFit, AssignmentsFit}
 use Rattle.rg_bits.specs.Build.{◌>>=◌, fold_of}
-use Rattle.rg_bits.specs.Inner.Within.{AreRowsIn, rows_of}
+use Rattle.rg_bits.specs.Inner.Within.{AreRowsIn, rows_of, IsRowIn}
 use Rattle.rg_bits.specs.Conditions.{hypothesis_of, assign_of, same_word_of, goal_of, conclusion_of, reached_rows}
 use Rattle.rg_bits.proofs.Means.{grows-means}
 use Rattle.rg_bits.proofs.LiteralsMean.{and-grows, or-grows, implies-grows}

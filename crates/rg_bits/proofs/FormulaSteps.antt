@@ -2,7 +2,7 @@
 use Rattle.std.proofs.Common.{◌≤◌, List}
 use Rattle.rg_gates.specs.declared.Lit.{Lit}
 use Rattle.rg_gates.specs.Circuit.{Circuit, variable_count}
-use Rattle.rg_gates.proofs.Growth.{Extends-refl, Extends-trans, IsIn-extends, IsIn-negation, IsRowIn-extends}
+use Rattle.rg_gates.proofs.Growth.{Extends-refl, Extends-trans, IsIn-extends, IsIn-negation}
 use Rattle.rg_words.specs.declared.operators.Operator.{Operator}
 use Rattle.rg_words.specs.declared.operators.Comparison.{Comparison}
 use Rattle.rg_words.specs.declared.operators.Connective.{Connective}
@@ -10,7 +10,7 @@ use Rattle.rg_tree.specs.Trees.{Expression, Proposition}
 use Rattle.rg_bits.specs.Formulas.{operated_of, less_of, compared_of, connected_of, row_of, literal_of}
 use Rattle.rg_bits.proofs.Means.{grows-means}
 use Rattle.rg_bits.proofs.RowsMean.{test-grows, bits-grows, sum-grows}
-use Rattle.rg_bits.proofs.RowsIn.{IsRowIn-inverted, IsRowIn-number, IsRowIn-moved, IsIn-constant}
+use Rattle.rg_bits.proofs.RowsIn.{IsRowIn-inverted, IsRowIn-number, IsRowIn-moved, IsIn-constant, IsRowIn-extends}
 use Rattle.rg_bits.proofs.FormulasMean.{operated-means, less-means, compared-means, connected-means, row-means, literal-means}
 
 pub operated-grows : (o : Operator) (p q : List Lit) (c : Circuit) → variable_count c ≤ variable_count (operated_of o p q c).1

@@ -8,10 +8,9 @@ use Rattle.std.proofs.lemmas.List.Elements.{All-head, All-tail}
 use Rattle.rg_gates.specs.declared.Lit.{Lit}
 use Rattle.rg_gates.specs.declared.Lit.TheVariants.{Variable}
 use Rattle.rg_gates.specs.Circuit.{Circuit, variable_count}
-use Rattle.rg_gates.specs.Extends.{IsRowIn}
 use Rattle.rg_words.specs.Layout.{Word, widths_of, fixed_of, IsWidth, IsLayout}
 use Rattle.rg_bits.proofs.RowsIn.{cons_in}
-use Rattle.rg_bits.specs.Inner.Within.{AreRowsIn, rows_of}
+use Rattle.rg_bits.specs.Inner.Within.{AreRowsIn, rows_of, IsRowIn}
 use Rattle.rg_bits.specs.Inputs.{variables, first_rows, free_rows, total_width, free_width}
 
 -- one variable more

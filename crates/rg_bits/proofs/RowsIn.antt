@@ -1,5 +1,5 @@
 -- rows of the circuit's literals
-use Rattle.std.proofs.Common.{◌≡◌, ℕ, zero, suc, ◌+◌, ◌-◌, ◌/◌, ◌%◌, ◌<◌, min, Bool, true, false, cond, nat_eq, List, ◌∷◌, ◌++◌, length, get_or, drop, replicate, sym, ap, ⊎_elim, arith, subst}
+use Rattle.std.proofs.Common.{◌≡◌, ℕ, zero, suc, ◌+◌, ◌-◌, ◌/◌, ◌%◌, ◌<◌, min, Bool, true, false, cond, nat_eq, List, [], ◌∷◌, ◌++◌, length, get_or, drop, replicate, sym, ap, ⊎_elim, arith, subst}
 use Rattle.std.specs.List.{All}
 use Rattle.std.proofs.lemmas.Bool.{cases_lt}
 use Rattle.std.proofs.lemmas.List.{get_or_past}
@@ -7,12 +7,19 @@ use Rattle.std.proofs.lemmas.List.Elements.{All-append, All-take, All-drop, All-
 use Rattle.rg_gates.specs.declared.Lit.{Lit}
 use Rattle.rg_gates.specs.declared.Lit.TheVariants.{True, False}
 use Rattle.rg_gates.specs.Circuit.{Circuit, negation}
-use Rattle.rg_gates.specs.Extends.{IsIn, IsRowIn}
-use Rattle.rg_gates.proofs.Growth.{IsIn-negation}
+use Rattle.rg_gates.specs.Extends.{Extends, IsIn}
+use Rattle.rg_gates.proofs.Growth.{IsIn-extends, IsIn-negation}
 use Rattle.rg_words.specs.declared.operators.Shift.{Shift}
 use Rattle.rg_words.specs.declared.operators.Shift.TheVariants.{Left, Right}
 use Rattle.rg_bits.specs.Rows.{inverted, number_row, shifted_left, shifted_right}
 use Rattle.rg_bits.specs.Formulas.{moved_row}
+use Rattle.rg_bits.specs.Inner.Within.{IsRowIn}
+
+pub IsRowIn-extends : {a b : Circuit} {row : List Lit} → Extends a b → IsRowIn a row → IsRowIn b row
+IsRowIn-extends e h = record { bits = λ k. IsIn-extends e (h.bits k) }
+
+pub IsRowIn-nil : {c : Circuit} → IsRowIn c []
+IsRowIn-nil = record { bits = λ k. record { bound = tt } }
 
 pub IsIn-constant : {c : Circuit} (b : Bool) → IsIn c (cond b True False)
 IsIn-constant true = record { bound = tt }

@@ -24,6 +24,7 @@ assign_of a rows = do
   r ← row_of a.value rows rows
   give (slice_set rows a.target r)
 
+-- the rows of the second state's words: these, changed by the assignments where the condition has some
 unfoldable pub reached_rows : SecondState → List (List Lit) → Build (List (List Lit))
 reached_rows (after as_) t = fold_of assign_of as_ t
 reached_rows same t = give t
@@ -35,6 +36,7 @@ same_word_of words so_far = do
   e ← compared_of Equal words.0 words.1
   and_of so_far e
 
+-- the goal, or where a step that changes nothing will do, the goal or that no word changed
 unfoldable pub goal_of : Bool → Lit → List (List Lit) → List (List Lit) → Build Lit
 goal_of false g u s = give g
 goal_of true g u s = do

@@ -19,6 +19,7 @@ use Rattle.rg_bits.specs.Build.{Build, ◌>>=◌, give}
 use Rattle.rg_bits.specs.Literals.{or_of, implies_of, iff_of}
 use Rattle.rg_bits.specs.Rows.{sum_of, bits_of, test_of, inverted, number_row, shifted_left, shifted_right}
 
+-- the row of an operation on two rows
 unfoldable pub operated_of : Operator → List Lit → List Lit → Build (List Lit)
 operated_of Add p q = sum_of p q False
 operated_of Subtract p q = sum_of p (inverted q) True
@@ -26,15 +27,18 @@ operated_of BitAnd p q = bits_of bit.And p q
 operated_of BitOr p q = bits_of bit.Or p q
 operated_of BitXor p q = bits_of bit.Xor p q
 
+-- the row shifted by k places
 abbrev pub moved_row : Shift → ℕ → List Lit → List Lit
 moved_row Left k row = shifted_left k row
 moved_row Right k row = shifted_right k row
 
+-- the first row's number is below the second's
 unfoldable pub less_of : List Lit → List Lit → Build Lit
 less_of p q = do
   c ← test_of test.AtLeast p q True
   give (circuit.negation c)
 
+-- a comparison of the numbers of two rows
 unfoldable pub compared_of : Comparison → List Lit → List Lit → Build Lit
 compared_of Equal p q = test_of test.Equal p q True
 compared_of NotEqual p q = do
@@ -49,6 +53,7 @@ compared_of GreaterOrEqual p q = do
   l ← less_of p q
   give (circuit.negation l)
 
+-- a connective of two literals
 unfoldable pub connected_of : Connective → Lit → Lit → Build Lit
 connected_of And p q = and_of p q
 connected_of Or p q = or_of p q

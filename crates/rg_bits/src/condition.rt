@@ -3,12 +3,12 @@
 ghost use Rattle.std.specs.Prelude.{◌≡◌, ◌<◌, IfOk, length, map, cond, List, Bool, ℕ, ◌++◌};
 ghost use Rattle.rg_gates.specs.declared.Lit.TheVariants.{True};
 ghost use Rattle.rg_gates.specs.Circuit.{lit_value};
-ghost use Rattle.rg_gates.specs.Extends.{IsIn, IsRowIn, GatesHold};
+ghost use Rattle.rg_gates.specs.Extends.{IsIn, GatesHold};
 ghost use Rattle.std.specs.List.{zip};
 ghost use Rattle.rg_tree.specs.Fits.{FormulaFits, ExpressionFits};
 ghost use Rattle.rg_tree.specs.View.{expression, formula};
 ghost use Rattle.rg_tree.specs.Conditions.{assignment, second_state, condition_tree, AllFit, AssignmentsFit, SecondFits, ConditionFits, ConditionTyped, condition_holds};
-ghost use Rattle.rg_bits.specs.Inner.Within.{AreRowsIn, rows_of};
+ghost use Rattle.rg_bits.specs.Inner.Within.{AreRowsIn, rows_of, IsRowIn};
 ghost use Rattle.rg_bits.specs.Build.{Builds, fold_of};
 ghost use Rattle.rg_bits.specs.Formulas.{row_of};
 ghost use Rattle.rg_bits.specs.Inputs.{first_rows, before_rows, inputs_of, first_of, second_of, input_bits};

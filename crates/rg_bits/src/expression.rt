@@ -2,14 +2,14 @@
 
 ghost use Rattle.std.specs.Prelude.{◌≡◌, length};
 ghost use Rattle.std.specs.Cow.{cow_slice_items};
-ghost use Rattle.rg_gates.specs.Extends.{IsIn, IsRowIn};
+ghost use Rattle.rg_gates.specs.Extends.{IsIn};
 ghost use Rattle.rg_tree.specs.Fits.{ExpressionFits, FormulaFits};
 ghost use Rattle.rg_tree.specs.View.{expression, formula};
 ghost use Rattle.rg_bits.specs.declared.rows.BitOperation.TheVariants.{Pick};
 ghost use Rattle.rg_bits.specs.Build.{Builds};
 ghost use Rattle.rg_bits.specs.Rows.{bits_of};
 ghost use Rattle.rg_bits.specs.Formulas.{operated_of, row_of, literal_of};
-ghost use Rattle.rg_bits.specs.Inner.Within.{AreRowsIn, rows_of};
+ghost use Rattle.rg_bits.specs.Inner.Within.{AreRowsIn, rows_of, IsRowIn};
 
 use crate::operations::{compare, connect, constant, invert, move_row, number, operate};
 use crate::rows::{BitOperation, bits};

@@ -1,9 +1,10 @@
 //! The operations, comparisons and connectives of formulas.
 
 ghost use Rattle.std.specs.Prelude.{◌≡◌, IfOk, if◌then◌else◌};
+ghost use Rattle.rg_bits.specs.Inner.Within.{IsRowIn};
 ghost use Rattle.rg_gates.specs.declared.Lit.TheVariants.{True, False};
 ghost use Rattle.rg_words.specs.declared.operators.Comparison.TheVariants.{NotEqual, GreaterOrEqual};
-ghost use Rattle.rg_gates.specs.Extends.{IsIn, IsRowIn};
+ghost use Rattle.rg_gates.specs.Extends.{IsIn};
 ghost use Rattle.rg_bits.specs.Build.{Builds};
 ghost use Rattle.rg_bits.specs.Rows.{inverted, number_row, sum_of};
 ghost use Rattle.rg_bits.specs.Formulas.{operated_of, moved_row, less_of, compared_of, connected_of};

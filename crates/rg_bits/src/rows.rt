@@ -1,8 +1,8 @@
 //! Operations on rows of literals, the low bit first.
 
-ghost use Rattle.rg_gates.specs.Extends.{IsIn, IsRowIn};
+ghost use Rattle.rg_gates.specs.Extends.{IsIn};
 ghost use Rattle.rg_bits.specs.Build.{Builds};
-ghost use Rattle.rg_bits.specs.Inner.Within.{AreIn, IsOperationIn};
+ghost use Rattle.rg_bits.specs.Inner.Within.{AreIn, IsOperationIn, IsRowIn};
 ghost use Rattle.rg_bits.specs.Rows.{carry_of, next_of, sum_bit_of, sum_of, bit_of, bits_of, test_bit_of, test_of};
 
 use crate::literals::{and, or, pick, xor};

@@ -16,13 +16,14 @@ use Rattle.rg_build.specs.Inner.Frames as frames
 use Rattle.rg_build.specs.Inner.Frames.{whole, whole_value, negated, inverted, first, another, second, comparing, operating, chosen, condition, consequent, alternative, after_next}
 use Rattle.rg_build.specs.Inner.Building as build
 use Rattle.rg_build.specs.Inner.Building.{is_apart, with_name, with_number}
-use Rattle.rg_syntax.specs.Texts.{claim_of, chain_of, term_of, declared_words, assignments_of, statement_of, block_of, part_of, parts_of}
+use Rattle.rg_syntax.specs.Texts.{claim_of, chain_of, term_of, declared_words, assignments_of, statement_of, block_of, part_of, parts_of, program_of}
 use Rattle.rg_build.specs.Inner.Drafts as draft
 use Rattle.rg_build.specs.Inner.Drafts.{ReadFor, a_program_clause, a_part_clause, a_guard, an_act, a_branch_test, a_loop_test, BodyOf, a_then, an_else, a_loop, BlockSoFar, between_acts, between_statements, reading, Drafted, opened, with_claim, with_term, settled, rest_of, program_step, program_steps, no_token}
-use Rattle.rg_build.specs.Inner.DraftLines.{own_lines, joined_line, item_lines, block_lines, part_lines, around_lines, open_lines, begun_lines, lines_begun}
-use Rattle.rg_syntax.specs.Begun.{block_line, before_first, before_second, before_loop, before_body, statement_begun, items_begun, block_begun, part_begun, parts_begun, program_begun, OneBeginning}
+use Rattle.rg_build.specs.Inner.DraftLines.{own_lines, joined_line, item_lines, block_lines, part_lines, around_lines, open_lines, begun_lines}
+use Rattle.rg_syntax.specs.Begun.{block_line, before_first, before_second, before_loop, before_body, statement_begun, items_begun, block_begun, part_begun, parts_begun, program_begun, OneBeginning, AllBegun}
 use Rattle.rg_build.proofs.BegunLemmas.{statement_none, block_none, part_none, parts_none, met_all, block_head, joined_behind, items_all, block_all, block_more, block_then, block_early, part_size, parts_more, parts_all, both, more_own, statement_some, second_size, branch_size, loop_size}
-use Rattle.rg_build.proofs.BuildsPrograms.{at, within, with_words, clauses_of, with_clauses, in_part, settled_part, acting, is_several, inside}
+use Rattle.rg_build.proofs.BuildsPrograms.{at, within, with_words, clauses_of, with_clauses, in_part, settled_part, acting, is_several, inside, builds_program}
+use Rattle.rg_build.proofs.Counts.{part_length}
 
 -- after the first k of these tokens, F k is begun
 record Goes (d : Drafted) (r : List Lexeme) (F : ℕ → List ℕ) : Type 0 where
@@ -435,6 +436,10 @@ program_goes p =
     (at_end (with_clauses ws cs (parts_of p.parts)) (λ k. F (n + (length (parts p.parts []) + k)))
     (λ k. append-nil (part_lines (parts_of p.parts)) ∙ sym (parts_all p.parts (n + (length (parts p.parts []) + k) - n) (omega arith))))))))
 
+-- the statements that are begun in what is read of these tokens
+abbrev pub lines_begun : List Lexeme → List ℕ
+lines_begun tokens = begun_lines (program_steps no_token tokens)
+
 -- the tokens that a program goes on from
 pub begun_is : (p : ProgramSpelling) (tokens rest : List Lexeme) → program p [] ≡ tokens ++ rest → lines_begun tokens ≡ program_begun p (length tokens)
 begun_is p tokens rest e =
@@ -443,3 +448,11 @@ begun_is p tokens rest e =
 pub one_beginning : OneBeginning
 one_beginning tokens a b p q =
     p.are ∙ sym (begun_is p.spelling tokens p.rest p.goes_on) ∙ begun_is q.spelling tokens q.rest q.goes_on ∙ sym q.are
+
+-- a whole program begins as many statements as it has
+pub all_begun : AllBegun
+all_begun p =
+    ap length (sym (begun_is p (program p []) [] (sym (append-nil (program p [])))))
+    ∙ ap (λ d. length (begun_lines d)) (builds_program p)
+    ∙ ap length (append-nil (part_lines (program_of p).parts))
+    ∙ part_length (program_of p).parts

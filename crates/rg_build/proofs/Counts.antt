@@ -11,7 +11,7 @@ use Rattle.rg_syntax.specs.declared.written.FormulaText.{FormulaText}
 use Rattle.rg_syntax.specs.declared.written.StatementText.{StatementText, If, While}
 use Rattle.rg_syntax.specs.Written as written
 use Rattle.rg_syntax.specs.Written.{StatementTree, skip, assign, await, branch, loop, StatementTrees, no_more, also, listed, WrittenPart}
-use Rattle.rg_syntax.specs.ProgramLimits.{statement_count, item_count, own_count, part_count}
+use Rattle.rg_syntax.specs.ProgramLimits.{statement_count, item_count, own_count, count_in_parts}
 use Rattle.rg_syntax.proofs.Rows.{statement-If, statement-While}
 use Rattle.rg_syntax.proofs.Sizes.{statement_size, block_size, size_within}
 use Rattle.rg_build.specs.Inner.DraftLines.{first_line, statement_lines, item_lines, own_lines, joined_line, block_lines, part_lines}
@@ -45,7 +45,7 @@ mutual
       ∙ sums (own_length (also s ss)) (length-append (statement_lines s) (item_lines ss) ∙ sums (statement_length s) (item_length ss))
 
 -- whole parts begin as many statements as they have
-pub part_length : (ps : List WrittenPart) → length (part_lines ps) ≡ part_count ps
+pub part_length : (ps : List WrittenPart) → length (part_lines ps) ≡ count_in_parts ps
 part_length [] = refl
 part_length (p ∷ ps) = length-append (block_lines p.body) (part_lines ps) ∙ sums (block_length p.body) (part_length ps)
 

@@ -3,12 +3,13 @@
 ghost use Rattle.std.specs.Prelude.{◌≡◌, ℕ, List, [], ◌∷◌, map, option_map, IfOk};
 ghost use Rattle.rg_text.specs.Text.{leaf_of};
 ghost use Rattle.rg_syntax.specs.Written.{claim, line_text};
+ghost use Rattle.rg_build.specs.Inner.Building.{whole_of};
 ghost use Rattle.rg_build.specs.Inner.Frames.{stack, whole};
 ghost use Rattle.rg_syntax.specs.Grammar.{DerivationSpelling, derivation, lexeme_as, lexeme_of};
 ghost use Rattle.rg_syntax.specs.Texts.{derivation_of};
 ghost use Rattle.rg_build.specs.Inner.BuildingLines.{sign, said, line_start, earlier, head, open_line, drafted, in_claim, one_premise_more, on_head, next_claim, end_line, on_claim, line_step, line_steps, whole_lines, nothing_read};
 
-use crate::formulas::{Frame, take_token, take_whole};
+use crate::formulas::{Frame, put, take_token, take_whole};
 use rg_syntax::written::{FormulaText, LineText, SpecText};
 use rg_text::kind::{Keyword, Kind, Terminal};
 use rg_text::token::Token;
@@ -118,19 +119,19 @@ fn sign_of_keyword(keyword: Keyword, token: Token) -> LineSign
 
 /// The place before the formula behind these.
 fn claim_wanted(alloc: Global, line: LineHead, claims: Claims) -> Result<LinePlace, AllocError>
-    ensures { (src : List ℕ) → IfOk result (λ p. open_line src p ≡ in_claim (line_start src line) (earlier src claims) (whole ∷ [])) }
+    ensures { IfOk result (λ p. (src : List ℕ) → open_line src p ≡ in_claim (line_start src line) (earlier src claims) (whole ∷ [])) }
 {
     let mut frames = Vec::new(alloc);
-    frames.push(Frame::Whole)?;
+    put(&mut frames, Frame::Whole)?;
     Ok(LinePlace::Claim(line, claims, frames))
 }
 
 /// The line with one premise more.
 fn with_premise(line: LineHead, premise: Token) -> Result<LineHead, AllocError>
-    ensures { (src : List ℕ) → IfOk result (λ h. line_start src h ≡ one_premise_more (line_start src line) (leaf_of src premise)) }
+    ensures { IfOk result (λ h. (src : List ℕ) → line_start src h ≡ one_premise_more (line_start src line) (leaf_of src premise)) }
 {
     let mut premises = line.premises;
-    premises.push(premise)?;
+    put(&mut premises, premise)?;
     Ok(LineHead {
         begin: line.begin,
         number: line.number,
@@ -142,7 +143,7 @@ fn with_premise(line: LineHead, premise: Token) -> Result<LineHead, AllocError>
 
 /// Takes a token before the specification of a line.
 fn on_head(alloc: Global, begun: HeadSoFar, next: LineSign) -> Result<LinePlace, AllocError>
-    ensures { (src : List ℕ) → IfOk result (λ p. open_line src p ≡ on_head (head src begun) (sign src next)) }
+    ensures { IfOk result (λ p. (src : List ℕ) → open_line src p ≡ on_head (head src begun) (sign src next)) }
 {
     match (begun, next) {
         (HeadSoFar::Unread, LineSign::Line(begin)) => Ok(LinePlace::Head(HeadSoFar::Begun(begin))),
@@ -165,10 +166,7 @@ fn on_head(alloc: Global, begun: HeadSoFar, next: LineSign) -> Result<LinePlace,
             let line = with_premise(line, premise)?;
             Ok(LinePlace::Head(HeadSoFar::Premises(line)))
         }
-        (HeadSoFar::Premises(line), LineSign::Pre) => {
-            let place = claim_wanted(alloc, line, Claims::None)?;
-            Ok(place)
-        }
+        (HeadSoFar::Premises(line), LineSign::Pre) => claim_wanted(alloc, line, Claims::None),
         (other, _) => Ok(LinePlace::Head(other)),
     }
 }
@@ -180,19 +178,20 @@ fn next_claim(
     claims: Claims,
     formula: Option<FormulaText>,
 ) -> Result<LinePlace, AllocError>
-    ensures { (src : List ℕ) → IfOk result (λ p. open_line src p ≡ next_claim (line_start src line) (earlier src claims) (option_map (claim src) formula)) }
+    ensures { IfOk result (λ p. (src : List ℕ) → open_line src p ≡ next_claim (line_start src line) (earlier src claims) (option_map (claim src) formula)) }
 {
-    let claims = match (claims, formula) {
-        (Claims::None, Some(pre)) => Claims::Pre(pre),
-        (Claims::Pre(pre), Some(rely)) => Claims::Rely(pre, rely),
-        (Claims::Rely(pre, rely), Some(guar)) => Claims::Guar(pre, rely, guar),
-        (claims, formula) => {
-            discard(claims, formula);
-            return Ok(LinePlace::Head(HeadSoFar::Unread));
+    match (claims, formula) {
+        (Claims::None, Some(pre)) => claim_wanted(alloc, line, Claims::Pre(pre)),
+        (Claims::Pre(pre), Some(rely)) => claim_wanted(alloc, line, Claims::Rely(pre, rely)),
+        (Claims::Rely(pre, rely), Some(guar)) => {
+            claim_wanted(alloc, line, Claims::Guar(pre, rely, guar))
         }
-    };
-    let place = claim_wanted(alloc, line, claims)?;
-    Ok(place)
+        (claims, formula) => {
+            drop(claims);
+            drop(formula);
+            Ok(LinePlace::Head(HeadSoFar::Unread))
+        }
+    }
 }
 
 /// The lines with one that ends behind this formula.
@@ -202,32 +201,43 @@ fn end_line(
     claims: Claims,
     formula: Option<FormulaText>,
 ) -> Result<Vec<LineText>, AllocError>
-    ensures { (src : List ℕ) → IfOk result (λ ls. map (line_text src) ls.items
+    ensures { IfOk result (λ ls. (src : List ℕ) → map (line_text src) ls.items
         ≡ end_line (map (line_text src) lines.items) (line_start src line) (earlier src claims) (option_map (claim src) formula)) }
 {
     match (claims, formula) {
         (Claims::Guar(pre, rely, guar), Some(post)) => {
-            let mut lines = lines;
-            lines.push(LineText {
+            let spec = SpecText {
+                pre,
+                rely,
+                guar,
+                post,
+            };
+            let line = LineText {
                 begin: line.begin,
                 number: line.number,
                 rule: line.rule,
                 statement: line.statement,
                 premises: line.premises,
-                spec: SpecText {
-                    pre,
-                    rely,
-                    guar,
-                    post,
-                },
-            })?;
+                spec,
+            };
+            let mut lines = lines;
+            put(&mut lines, line)?;
             Ok(lines)
         }
         (claims, formula) => {
-            discard(claims, formula);
+            drop(claims);
+            drop(formula);
             Ok(lines)
         }
     }
+}
+
+/// The formula, where nothing else is open.
+fn whole_claim(frames: Vec<Frame>) -> Option<FormulaText>
+    ensures { (src : List ℕ) → option_map (claim src) result ≡ whole_of (stack src frames) }
+{
+    let mut frames = frames;
+    take_whole(&mut frames)
 }
 
 /// Takes a token in a formula of a line.
@@ -239,21 +249,21 @@ fn on_claim(
     frames: Vec<Frame>,
     token: Token,
 ) -> Result<DerivationDraft, AllocError>
-    ensures { (src : List ℕ) → IfOk result (λ d. drafted src d
+    ensures { IfOk result (λ d. (src : List ℕ) → drafted src d
         ≡ on_claim (map (line_text src) lines.items) (line_start src line) (earlier src claims) (stack src frames) (said (lexeme_of src token)) (lexeme_of src token)) }
 {
-    let mut frames = frames;
     match sign_of(token) {
         LineSign::Line(begin) => {
-            let lines = end_line(lines, line, claims, take_whole(&mut frames))?;
+            let lines = end_line(lines, line, claims, whole_claim(frames))?;
             let place = LinePlace::Head(HeadSoFar::Begun(begin));
             Ok(DerivationDraft { lines, place })
         }
         LineSign::Next => {
-            let place = next_claim(alloc, line, claims, take_whole(&mut frames))?;
+            let place = next_claim(alloc, line, claims, whole_claim(frames))?;
             Ok(DerivationDraft { lines, place })
         }
         _ => {
+            let mut frames = frames;
             take_token(alloc, &mut frames, token)?;
             let place = LinePlace::Claim(line, claims, frames);
             Ok(DerivationDraft { lines, place })
@@ -263,7 +273,7 @@ fn on_claim(
 
 /// Takes one token.
 fn take(alloc: Global, draft: DerivationDraft, token: Token) -> Result<DerivationDraft, AllocError>
-    ensures { (src : List ℕ) → IfOk result (λ d. drafted src d ≡ line_step (drafted src draft) (lexeme_of src token)) }
+    ensures { IfOk result (λ d. (src : List ℕ) → drafted src d ≡ line_step (drafted src draft) (lexeme_of src token)) }
 {
     let DerivationDraft { lines, place } = draft;
     match place {
@@ -272,15 +282,14 @@ fn take(alloc: Global, draft: DerivationDraft, token: Token) -> Result<Derivatio
             Ok(DerivationDraft { lines, place })
         }
         LinePlace::Claim(line, claims, frames) => {
-            let draft = on_claim(alloc, lines, line, claims, frames, token)?;
-            Ok(draft)
+            on_claim(alloc, lines, line, claims, frames, token)
         }
     }
 }
 
 /// What is read of a derivation after all its tokens.
 fn read(alloc: Global, tokens: &[Token]) -> Result<DerivationDraft, AllocError>
-    ensures { (src : List ℕ) → IfOk result (λ d. drafted src d ≡ line_steps nothing_read (map (lexeme_of src) tokens.now)) }
+    ensures { IfOk result (λ d. (src : List ℕ) → drafted src d ≡ line_steps nothing_read (map (lexeme_of src) tokens.now)) }
 {
     let mut draft = DerivationDraft {
         lines: Vec::new(alloc),
@@ -294,15 +303,13 @@ fn read(alloc: Global, tokens: &[Token]) -> Result<DerivationDraft, AllocError>
 
 /// All lines, with the one that ends with the text.
 fn finish(draft: DerivationDraft) -> Result<Vec<LineText>, AllocError>
-    ensures { (src : List ℕ) → IfOk result (λ ls. map (line_text src) ls.items ≡ whole_lines (map (line_text src) draft.lines.items) (open_line src draft.place)) }
+    ensures { IfOk result (λ ls. (src : List ℕ) → map (line_text src) ls.items ≡ whole_lines (map (line_text src) draft.lines.items) (open_line src draft.place)) }
 {
     let DerivationDraft { lines, place } = draft;
     match place {
         LinePlace::Head(_) => Ok(lines),
         LinePlace::Claim(line, claims, frames) => {
-            let mut frames = frames;
-            let lines = end_line(lines, line, claims, take_whole(&mut frames))?;
-            Ok(lines)
+            end_line(lines, line, claims, whole_claim(frames))
         }
     }
 }
@@ -313,9 +320,5 @@ pub fn build_derivation(alloc: Global, tokens: &[Token]) -> Result<Vec<LineText>
         → IfOk result (λ r. map (line_text src) r.items ≡ derivation_of d) }
 {
     let draft = read(alloc, tokens)?;
-    let lines = finish(draft)?;
-    Ok(lines)
+    finish(draft)
 }
-
-/// Lets formulas go.
-fn discard(_claims: Claims, _formula: Option<FormulaText>) {}

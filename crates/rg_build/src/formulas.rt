@@ -1,12 +1,12 @@
 //! The trees of texts, built token by token.
 
 ghost use Rattle.std.specs.Prelude.{◌≡◌, ℕ, List, [], ◌∷◌, ◌++◌, map, OnOk, IfOk, IsSomeAnd, option_map};
-ghost use Rattle.rg_syntax.specs.Written.{claim, term, show_text, setting, move_text};
-ghost use Rattle.rg_build.specs.Inner.Frames.{stack, open_of, piece, setter_of};
+ghost use Rattle.rg_syntax.specs.Written.{claim, term, show_text, setting, move_text, choice};
+ghost use Rattle.rg_build.specs.Inner.Frames.{stack, open_of, piece, setter_of, setting_words};
 ghost use Rattle.rg_text.specs.Text.{Leaf, leaf_of};
 ghost use Rattle.rg_syntax.specs.Grammar.{FormulaSpelling, ShowSpelling, SettingsSpelling, MovesSpelling, formula, show, settings, moves, lexeme_as, lexeme_of};
 ghost use Rattle.rg_syntax.specs.Texts.{claim_of, shown_claim, settings_of, moves_of};
-ghost use Rattle.rg_build.specs.Inner.Building.{with_claim, with_term, with_piece, close, on_if, between, on_fixed, on_name, on_number, step, steps, whole_of, whole_show_of, after_at, whole_start_of, whole_moves_of, with_last};
+ghost use Rattle.rg_build.specs.Inner.Building.{with_claim, with_term, with_piece, close, on_if, between, after_between, on_fixed, on_name, on_number, step, steps, whole_of, whole_show_of, after_at, whole_start_of, whole_moves_of, with_last};
 
 use rg_syntax::written::{Declaration, ExpressionText, FormulaText, MoveText, Setting, ShowText};
 use rg_text::kind::{Conditional, Junction, Keyword, Kind, Terminal};
@@ -70,12 +70,23 @@ pub enum Frame {
     Valued(ExpressionText),
 }
 
-/// Opens a part. It stands apart so that each call that fails drops no part in place: the checker would spell that out, kind by kind.
-fn put(frames: &mut Vec<Frame>, frame: Frame) -> Result<(), AllocError>
-    ensures { OnOk result (frames.new.items ≡ frames.old.items ++ frame ∷ []) }
+/// Adds an item at the end of a list. It stands apart, as `boxes` does, so that a call that is refused memory drops no item in place:
+/// the checker would spell that out, kind by kind.
+pub fn put<T: Drop>(items: &mut Vec<T>, item: T) -> Result<(), AllocError>
+    ensures { OnOk result (items.new.items ≡ items.old.items ++ item ∷ []) }
 {
-    frames.push(frame)?;
+    items.push(item)?;
     Ok(())
+}
+
+/// A box of each.
+fn boxes<T: Drop>(alloc: Global, first: T, second: T) -> Result<(Box<T>, Box<T>), AllocError>
+    ensures first { IfOk result (λ both. both.0.value ≡ first) }
+    ensures second { IfOk result (λ both. both.1.value ≡ second) }
+{
+    let first = Box::new(alloc, first)?;
+    let second = Box::new(alloc, second)?;
+    Ok((first, second))
 }
 
 /// Takes a whole formula into the parts around it.
@@ -84,32 +95,45 @@ fn take_formula(
     frames: &mut Vec<Frame>,
     formula: FormulaText,
 ) -> Result<(), AllocError>
-    ensures { (src : List ℕ) → OnOk result (stack src frames.new
+    ensures { OnOk result ((src : List ℕ) → stack src frames.new
         ≡ with_claim (stack src frames.old) (claim src formula)) }
 {
     match frames.pop() {
-        None => {}
-        Some(Frame::Whole) => put(frames, Frame::End(formula))?,
+        None => Ok(()),
+        Some(Frame::Whole) => put(frames, Frame::End(formula)),
         Some(Frame::Negated) => {
             let negation = FormulaText::Not(Box::new(alloc, formula)?);
-            take_formula(alloc, frames, negation)?;
+            take_formula(alloc, frames, negation)
         }
-        Some(Frame::First) => put(frames, Frame::AfterFormula(formula))?,
+        Some(Frame::First) => put(frames, Frame::AfterFormula(formula)),
         Some(Frame::Next(junction, left)) => {
-            let left = Box::new(alloc, left)?;
-            let chain = FormulaText::Joined(junction, left, Box::new(alloc, formula)?);
-            put(frames, Frame::AfterNext(junction, chain))?;
+            let (left, right) = boxes(alloc, left, formula)?;
+            let chain = FormulaText::Joined(junction, left, right);
+            put(frames, Frame::AfterNext(junction, chain))
         }
         Some(Frame::Second(conditional, left)) => {
-            let left = Box::new(alloc, left)?;
-            let whole = FormulaText::Implied(conditional, left, Box::new(alloc, formula)?);
-            put(frames, Frame::Closing(Item::Formula(whole)))?;
+            let (left, right) = boxes(alloc, left, formula)?;
+            let whole = FormulaText::Implied(conditional, left, right);
+            put(frames, Frame::Closing(Item::Formula(whole)))
         }
-        Some(Frame::Condition) => put(frames, Frame::AfterCondition(formula))?,
-        Some(Frame::Showing(words)) => put(frames, Frame::ShowEnd(words, formula))?,
-        Some(other) => put(frames, other)?,
+        Some(Frame::Condition) => put(frames, Frame::AfterCondition(formula)),
+        Some(Frame::Showing(words)) => put(frames, Frame::ShowEnd(words, formula)),
+        Some(other) => put(frames, other),
     }
-    Ok(())
+}
+
+/// The expression that is the first where the formula holds, and else the second.
+fn choice_of(
+    alloc: Global,
+    formula: FormulaText,
+    first: ExpressionText,
+    second: ExpressionText,
+) -> Result<ExpressionText, AllocError>
+    ensures { (src : List ℕ) → IfOk result (λ e. term src e ≡ choice (claim src formula) (term src first) (term src second)) }
+{
+    let (first, second) = boxes(alloc, first, second)?;
+    let formula = Box::new(alloc, formula)?;
+    Ok(ExpressionText::If(formula, first, second))
 }
 
 /// Takes a whole expression into the parts around it.
@@ -118,133 +142,155 @@ fn take_expression(
     frames: &mut Vec<Frame>,
     expression: ExpressionText,
 ) -> Result<(), AllocError>
-    ensures { (src : List ℕ) → OnOk result (stack src frames.new
+    ensures { OnOk result ((src : List ℕ) → stack src frames.new
         ≡ with_term (stack src frames.old) (term src expression)) }
 {
     match frames.pop() {
-        None => {}
+        None => {
+            drop(expression);
+            Ok(())
+        }
         Some(Frame::Inverted) => {
             let inverse = ExpressionText::Inverse(Box::new(alloc, expression)?);
-            take_expression(alloc, frames, inverse)?;
+            take_expression(alloc, frames, inverse)
         }
-        Some(Frame::First) => put(frames, Frame::AfterExpression(expression))?,
+        Some(Frame::First) => put(frames, Frame::AfterExpression(expression)),
         Some(Frame::Compared(comparison, left)) => {
             let whole = FormulaText::Compared(comparison, left, expression);
-            put(frames, Frame::Closing(Item::Formula(whole)))?;
+            put(frames, Frame::Closing(Item::Formula(whole)))
         }
         Some(Frame::Operated(operator, left)) => {
-            let left = Box::new(alloc, left)?;
-            let whole = ExpressionText::Binary(operator, left, Box::new(alloc, expression)?);
-            put(frames, Frame::Closing(Item::Expression(whole)))?;
+            let (left, right) = boxes(alloc, left, expression)?;
+            let whole = ExpressionText::Binary(operator, left, right);
+            put(frames, Frame::Closing(Item::Expression(whole)))
         }
-        Some(Frame::Chosen) => put(frames, Frame::Closing(Item::Expression(expression)))?,
+        Some(Frame::Chosen) => put(frames, Frame::Closing(Item::Expression(expression))),
         Some(Frame::Consequent(formula)) => {
-            put(frames, Frame::AfterConsequent(formula, expression))?;
+            put(frames, Frame::AfterConsequent(formula, expression))
         }
         Some(Frame::Alternative(formula, first)) => {
-            let formula = Box::new(alloc, formula)?;
-            let first = Box::new(alloc, first)?;
-            let choice = ExpressionText::If(formula, first, Box::new(alloc, expression)?);
-            take_expression(alloc, frames, choice)?;
+            let choice = choice_of(alloc, formula, first, expression)?;
+            take_expression(alloc, frames, choice)
         }
-        Some(Frame::WholeValue) => put(frames, Frame::Valued(expression))?,
-        Some(other) => put(frames, other)?,
+        Some(Frame::WholeValue) => put(frames, Frame::Valued(expression)),
+        Some(other) => {
+            drop(expression);
+            put(frames, other)
+        }
     }
-    Ok(())
 }
 
 /// Takes a closing parenthesis.
 fn take_close(alloc: Global, frames: &mut Vec<Frame>) -> Result<(), AllocError>
-    ensures { (src : List ℕ) → OnOk result (stack src frames.new
+    ensures { OnOk result ((src : List ℕ) → stack src frames.new
         ≡ close (stack src frames.old)) }
 {
     match frames.pop() {
-        None => {}
-        Some(Frame::AfterNext(_, formula)) => take_formula(alloc, frames, formula)?,
-        Some(Frame::Closing(Item::Formula(formula))) => take_formula(alloc, frames, formula)?,
+        None => Ok(()),
+        Some(Frame::AfterNext(_, formula)) => take_formula(alloc, frames, formula),
+        Some(Frame::Closing(Item::Formula(formula))) => take_formula(alloc, frames, formula),
         Some(Frame::Closing(Item::Expression(expression))) => {
-            take_expression(alloc, frames, expression)?;
+            take_expression(alloc, frames, expression)
         }
-        Some(other) => put(frames, other)?,
+        Some(other) => put(frames, other),
     }
-    Ok(())
 }
 
 /// Takes the `if` of an expression.
 fn take_if(frames: &mut Vec<Frame>) -> Result<(), AllocError>
-    ensures { (src : List ℕ) → OnOk result (stack src frames.new
+    ensures { OnOk result ((src : List ℕ) → stack src frames.new
         ≡ on_if (stack src frames.old)) }
 {
     match frames.pop() {
-        None => {}
+        None => Ok(()),
         Some(Frame::First) => {
             put(frames, Frame::Chosen)?;
-            put(frames, Frame::Condition)?;
+            put(frames, Frame::Condition)
         }
-        Some(other) => put(frames, other)?,
+        Some(other) => put(frames, other),
     }
-    Ok(())
 }
 
 /// Takes a token that stands after a part of an item, other than a parenthesis or an `if`.
 fn take_between(frames: &mut Vec<Frame>, terminal: Terminal) -> Result<(), AllocError>
-    ensures { (src : List ℕ) → OnOk result (stack src frames.new
+    ensures { OnOk result ((src : List ℕ) → stack src frames.new
         ≡ between terminal (stack src frames.old)) }
 {
-    match (frames.pop(), terminal) {
-        (None, _) => {}
-        (Some(Frame::AfterFormula(f)), Terminal::Join(junction)) => {
-            put(frames, Frame::Next(junction, f))?;
+    match frames.pop() {
+        None => Ok(()),
+        Some(frame) => {
+            let next = after_between(terminal, frame)?;
+            put(frames, next)
         }
-        (Some(Frame::AfterNext(junction, f)), Terminal::Join(_)) => {
-            put(frames, Frame::Next(junction, f))?;
-        }
-        (Some(Frame::AfterFormula(f)), Terminal::Imply(conditional)) => {
-            put(frames, Frame::Second(conditional, f))?;
-        }
-        (Some(Frame::AfterExpression(a)), Terminal::Compare(comparison)) => {
-            put(frames, Frame::Compared(comparison, a))?;
-        }
-        (Some(Frame::AfterExpression(a)), Terminal::Operate(operator)) => {
-            put(frames, Frame::Operated(operator, a))?;
-        }
-        (Some(Frame::AfterExpression(a)), Terminal::ShiftBy(shift)) => {
-            put(frames, Frame::Counted(shift, a))?;
-        }
-        (Some(Frame::AfterCondition(f)), Terminal::Then) => put(frames, Frame::Consequent(f))?,
-        (Some(Frame::AfterConsequent(f, a)), Terminal::Else) => {
-            put(frames, Frame::Alternative(f, a))?;
-        }
-        (Some(Frame::Declaring(words, _)), Terminal::Section(Keyword::Fixed)) => {
-            put(frames, Frame::Declaring(words, true))?;
-        }
-        (Some(Frame::Declaring(words, _)), Terminal::Show) => put(frames, Frame::Showing(words))?,
-        (Some(Frame::Settings(setter, settings)), Terminal::Section(Keyword::At)) => {
-            take_at(frames, setter, settings)?;
-        }
-        (Some(other), _) => put(frames, other)?,
     }
-    Ok(())
 }
 
-/// Takes the `at` after words that are set, which ends a move.
-fn take_at(
-    frames: &mut Vec<Frame>,
-    setter: Setter,
-    settings: Vec<Setting>,
-) -> Result<(), AllocError>
-    ensures { (src : List ℕ) → OnOk result (stack src frames.new
-        ≡ after_at (setter_of src setter) (map (setting src) settings.items) ∷ (stack src frames.old)) }
+/// The part that this one is after the token.
+fn after_between(terminal: Terminal, frame: Frame) -> Result<Frame, AllocError>
+    ensures { IfOk result (λ next. (src : List ℕ) → open_of src next ≡ after_between terminal (open_of src frame)) }
+{
+    match frame {
+        Frame::AfterFormula(formula) => match terminal {
+            Terminal::Join(junction) => Ok(Frame::Next(junction, formula)),
+            Terminal::Imply(conditional) => Ok(Frame::Second(conditional, formula)),
+            _ => Ok(Frame::AfterFormula(formula)),
+        },
+        Frame::AfterExpression(left) => match terminal {
+            Terminal::Compare(comparison) => Ok(Frame::Compared(comparison, left)),
+            Terminal::Operate(operator) => Ok(Frame::Operated(operator, left)),
+            Terminal::ShiftBy(shift) => Ok(Frame::Counted(shift, left)),
+            _ => Ok(Frame::AfterExpression(left)),
+        },
+        Frame::AfterNext(junction, chain) => match terminal {
+            Terminal::Join(_) => Ok(Frame::Next(junction, chain)),
+            _ => Ok(Frame::AfterNext(junction, chain)),
+        },
+        Frame::AfterCondition(formula) => match terminal {
+            Terminal::Then => Ok(Frame::Consequent(formula)),
+            _ => Ok(Frame::AfterCondition(formula)),
+        },
+        Frame::AfterConsequent(formula, first) => match terminal {
+            Terminal::Else => Ok(Frame::Alternative(formula, first)),
+            _ => Ok(Frame::AfterConsequent(formula, first)),
+        },
+        Frame::Declaring(words, fixed) => match terminal {
+            Terminal::Section(Keyword::Fixed) => Ok(Frame::Declaring(words, true)),
+            Terminal::Show => Ok(Frame::Showing(words)),
+            _ => Ok(Frame::Declaring(words, fixed)),
+        },
+        Frame::Settings(setter, settings) => match terminal {
+            Terminal::Section(Keyword::At) => after_at(setter, settings),
+            _ => Ok(Frame::Settings(setter, settings)),
+        },
+        other => Ok(other),
+    }
+}
+
+/// The part that words which are set are after an `at`, which ends a move.
+fn after_at(setter: Setter, settings: Vec<Setting>) -> Result<Frame, AllocError>
+    ensures { IfOk result (λ next. (src : List ℕ) → open_of src next ≡ after_at (setter_of src setter) (map (setting src) settings.items)) }
 {
     match setter {
-        Setter::Start => put(frames, Frame::Settings(Setter::Start, settings))?,
+        Setter::Start => Ok(Frame::Settings(Setter::Start, settings)),
         Setter::Move(moves, number) => {
-            let mut moves = moves;
-            moves.push(MoveText { number, settings })?;
-            put(frames, Frame::Moves(moves))?;
+            let moves = and_move(moves, number, settings)?;
+            Ok(Frame::Moves(moves))
         }
     }
-    Ok(())
+}
+
+/// The moves with one more.
+fn and_move(
+    moves: Vec<MoveText>,
+    number: Token,
+    settings: Vec<Setting>,
+) -> Result<Vec<MoveText>, AllocError>
+    ensures { (src : List ℕ) → IfOk result (λ ms. map (move_text src) ms.items
+        ≡ map (move_text src) moves.items ++ record { number = leaf_of src number; settings = map (setting src) settings.items } ∷ []) }
+{
+    let mut moves = moves;
+    moves.push(MoveText { number, settings })?;
+    Ok(moves)
 }
 
 /// Takes a keyword or a symbol.
@@ -253,94 +299,97 @@ fn take_terminal(
     frames: &mut Vec<Frame>,
     terminal: Terminal,
 ) -> Result<(), AllocError>
-    ensures { (leaf : Leaf) (src : List ℕ) → OnOk result (stack src frames.new
+    ensures { OnOk result ((leaf : Leaf) (src : List ℕ) → stack src frames.new
         ≡ step (stack src frames.old) (lexeme_as (Kind.Fixed terminal) leaf)) }
 {
     match terminal {
-        Terminal::Open => put(frames, Frame::First)?,
-        Terminal::Close => take_close(alloc, frames)?,
-        Terminal::Not => put(frames, Frame::Negated)?,
-        Terminal::Inv => put(frames, Frame::Inverted)?,
-        Terminal::If => take_if(frames)?,
-        Terminal::Truth(truth) => take_formula(alloc, frames, FormulaText::Truth(truth))?,
-        other => take_between(frames, other)?,
+        Terminal::Open => put(frames, Frame::First),
+        Terminal::Close => take_close(alloc, frames),
+        Terminal::Not => put(frames, Frame::Negated),
+        Terminal::Inv => put(frames, Frame::Inverted),
+        Terminal::If => take_if(frames),
+        Terminal::Truth(truth) => take_formula(alloc, frames, FormulaText::Truth(truth)),
+        other => take_between(frames, other),
     }
-    Ok(())
 }
 
 /// Takes a name, which is an expression, declares a word or sets one.
 fn take_name(alloc: Global, frames: &mut Vec<Frame>, token: Token) -> Result<(), AllocError>
-    ensures { (src : List ℕ) → OnOk result (stack src frames.new
+    ensures { OnOk result ((src : List ℕ) → stack src frames.new
         ≡ on_name (stack src frames.old) (leaf_of src token)) }
 {
     match frames.pop() {
-        None => {}
-        Some(Frame::Declaring(words, fixed)) => {
-            put(frames, Frame::Declared(words, fixed, token))?;
-        }
+        None => Ok(()),
+        Some(Frame::Declaring(words, fixed)) => put(frames, Frame::Declared(words, fixed, token)),
         Some(Frame::Settings(setter, settings)) => {
-            put(frames, Frame::SettingWord(setter, settings, token))?;
+            put(frames, Frame::SettingWord(setter, settings, token))
         }
         Some(other) => {
             put(frames, other)?;
-            take_expression(alloc, frames, ExpressionText::Word(token))?;
+            take_expression(alloc, frames, ExpressionText::Word(token))
         }
     }
-    Ok(())
+}
+
+/// Takes the value of a word that is set.
+fn take_value(
+    frames: &mut Vec<Frame>,
+    setter: Setter,
+    settings: Vec<Setting>,
+    one: Setting,
+) -> Result<(), AllocError>
+    ensures { OnOk result ((src : List ℕ) → stack src frames.new
+        ≡ setting_words (setter_of src setter) (map (setting src) settings.items ++ setting src one ∷ []) ∷ stack src frames.old) }
+{
+    let mut settings = settings;
+    settings.push(one)?;
+    put(frames, Frame::Settings(setter, settings))
 }
 
 /// Takes a number, which is an expression, counts the bits of a shift, is the width or the value of
 /// a word, or numbers a move.
 fn take_number(alloc: Global, frames: &mut Vec<Frame>, token: Token) -> Result<(), AllocError>
-    ensures { (src : List ℕ) → OnOk result (stack src frames.new
+    ensures { OnOk result ((src : List ℕ) → stack src frames.new
         ≡ on_number (stack src frames.old) (leaf_of src token)) }
 {
     match frames.pop() {
-        None => {}
+        None => Ok(()),
         Some(Frame::Counted(shift, value)) => {
-            let whole = ExpressionText::Shifted(shift, Box::new(alloc, value)?, token);
-            put(frames, Frame::Closing(Item::Expression(whole)))?;
+            let value = Box::new(alloc, value)?;
+            let whole = ExpressionText::Shifted(shift, value, token);
+            put(frames, Frame::Closing(Item::Expression(whole)))
         }
         Some(Frame::Declared(words, fixed, name)) => {
+            let width = token;
             let mut words = words;
-            words.push(Declaration {
-                fixed,
-                name,
-                width: token,
-            })?;
-            put(frames, Frame::Declaring(words, false))?;
+            put(&mut words, Declaration { fixed, name, width })?;
+            put(frames, Frame::Declaring(words, false))
         }
         Some(Frame::SettingWord(setter, settings, word)) => {
-            let mut settings = settings;
-            settings.push(Setting { word, value: token })?;
-            put(frames, Frame::Settings(setter, settings))?;
+            take_value(frames, setter, settings, Setting { word, value: token })
         }
-        Some(Frame::Moves(moves)) => {
-            put(
-                frames,
-                Frame::Settings(Setter::Move(moves, token), Vec::new(alloc)),
-            )?;
-        }
+        Some(Frame::Moves(moves)) => put(
+            frames,
+            Frame::Settings(Setter::Move(moves, token), Vec::new(alloc)),
+        ),
         Some(other) => {
             put(frames, other)?;
-            take_expression(alloc, frames, ExpressionText::Number(token))?;
+            take_expression(alloc, frames, ExpressionText::Number(token))
         }
     }
-    Ok(())
 }
 
 /// Takes one token.
 pub fn take_token(alloc: Global, frames: &mut Vec<Frame>, token: Token) -> Result<(), AllocError>
-    ensures { (src : List ℕ) → OnOk result (stack src frames.new
+    ensures { OnOk result ((src : List ℕ) → stack src frames.new
         ≡ step (stack src frames.old) (lexeme_of src token)) }
 {
     match token.kind {
-        Kind::Name => take_name(alloc, frames, token)?,
-        Kind::Primed => take_expression(alloc, frames, ExpressionText::NextWord(token))?,
-        Kind::Number => take_number(alloc, frames, token)?,
-        Kind::Fixed(terminal) => take_terminal(alloc, frames, terminal)?,
+        Kind::Name => take_name(alloc, frames, token),
+        Kind::Primed => take_expression(alloc, frames, ExpressionText::NextWord(token)),
+        Kind::Number => take_number(alloc, frames, token),
+        Kind::Fixed(terminal) => take_terminal(alloc, frames, terminal),
     }
-    Ok(())
 }
 
 /// The open parts of a text after all its tokens, where this one stands before them.
@@ -393,8 +442,7 @@ pub fn build_moves(alloc: Global, tokens: &[Token]) -> Result<Option<Vec<MoveTex
         → IfOk result (λ built. IsSomeAnd built (λ r. map (move_text src) r.items ≡ moves_of s)) }
 {
     let mut frames = read(alloc, Frame::Moves(Vec::new(alloc)), tokens)?;
-    let built = take_moves(&mut frames)?;
-    Ok(built)
+    take_moves(&mut frames)
 }
 
 /// The formula, where nothing else is open.
@@ -406,7 +454,7 @@ pub fn take_whole(frames: &mut Vec<Frame>) -> Option<FormulaText>
         None => None,
         Some(Frame::End(formula)) => Some(formula),
         Some(other) => {
-            discard(other);
+            drop(other);
             None
         }
     }
@@ -421,7 +469,7 @@ fn take_show(frames: &mut Vec<Frame>) -> Option<ShowText>
         None => None,
         Some(Frame::ShowEnd(words, formula)) => Some(ShowText { words, formula }),
         Some(other) => {
-            discard(other);
+            drop(other);
             None
         }
     }
@@ -436,7 +484,7 @@ fn take_start(frames: &mut Vec<Frame>) -> Option<Vec<Setting>>
         None => None,
         Some(Frame::Settings(Setter::Start, settings)) => Some(settings),
         Some(other) => {
-            discard(other);
+            drop(other);
             None
         }
     }
@@ -450,12 +498,9 @@ fn take_moves(frames: &mut Vec<Frame>) -> Result<Option<Vec<MoveText>>, AllocErr
     match frames.pop() {
         None => Ok(None),
         Some(Frame::Moves(moves)) => Ok(Some(moves)),
-        Some(Frame::Settings(setter, settings)) => {
-            let moves = with_last(setter, settings)?;
-            Ok(moves)
-        }
+        Some(Frame::Settings(setter, settings)) => with_last(setter, settings),
         Some(other) => {
-            discard(other);
+            drop(other);
             Ok(None)
         }
     }
@@ -469,12 +514,8 @@ fn with_last(setter: Setter, settings: Vec<Setting>) -> Result<Option<Vec<MoveTe
     match setter {
         Setter::Start => Ok(None),
         Setter::Move(moves, number) => {
-            let mut moves = moves;
-            moves.push(MoveText { number, settings })?;
+            let moves = and_move(moves, number, settings)?;
             Ok(Some(moves))
         }
     }
 }
-
-/// Lets a part go.
-fn discard(_frame: Frame) {}

@@ -1,14 +1,15 @@
 //! A program, built token by token.
 
-ghost use Rattle.std.specs.Prelude.{◌≡◌, ℕ, ◌<◌, List, [], ◌∷◌, ◌++◌, map, IfOk, OnOk, option_map, nat_lt, length, Option};
+ghost use Rattle.std.specs.Prelude.{◌≡◌, ℕ, ◌<◌, List, [], ◌∷◌, ◌++◌, map, IfOk, OnOk, IsSomeAnd, option_map, nat_lt, length, Option};
 ghost use Rattle.rg_text.specs.Text.{leaf_of};
 ghost use Rattle.rg_syntax.specs.Written.{claim, term, assigned, declared_word, statement, branch, loop, listed, spec_text, part_text, program_text};
 ghost use Rattle.rg_build.specs.Inner.Building.{step};
 ghost use Rattle.rg_build.specs.Inner.Frames.{stack, piece};
-ghost use Rattle.rg_syntax.specs.Grammar.{lexeme_as, lexeme_of};
+ghost use Rattle.rg_syntax.specs.Grammar.{ProgramSpelling, program, lexeme_as, lexeme_of};
+ghost use Rattle.rg_syntax.specs.Texts.{program_of};
 ghost use Rattle.rg_build.specs.Inner.Drafts.{sign, said, body_of, open_blocks, ReadFor, read_for, Drafted, drafted, and_statement, and_more, opened, on_else, claim_wanted, term_wanted, with_statement, spec_from, and_part, end_of, on_end, end_acts, on_words, on_word, on_parts, on_statements, on_acts, with_claim, with_term, with_item, settled, rest_of, program_step, program_steps, no_token, whole_program};
 
-use crate::formulas::{Frame, Item, take_token};
+use crate::formulas::{Frame, Item, put, take_token};
 use rg_syntax::written::{
     AssignmentText, Declaration, ExpressionText, FormulaText, PartText, ProgramText, SpecText,
     StatementText,
@@ -153,69 +154,82 @@ fn sign_of_keyword(keyword: Keyword, token: Token) -> ProgramSign
 
 /// Adds a statement to the innermost list.
 fn and_statement(blocks: &mut Vec<OpenBlock>, one: StatementText) -> Result<(), AllocError>
-    ensures { (src : List ℕ) → OnOk result (open_blocks src blocks.new
+    ensures { OnOk result ((src : List ℕ) → open_blocks src blocks.new
         ≡ and_statement (statement src one) (open_blocks src blocks.old)) }
 {
-    if let Some(block) = blocks.pop() {
-        let mut block = block;
-        block.statements.push(one)?;
-        blocks.push(block)?;
+    match blocks.pop() {
+        None => {
+            drop(one);
+            Ok(())
+        }
+        Some(block) => {
+            let mut block = block;
+            put(&mut block.statements, one)?;
+            put(blocks, block)
+        }
     }
-    Ok(())
 }
 
 /// Takes note of a `;` in the innermost list.
 fn and_more(blocks: &mut Vec<OpenBlock>) -> Result<(), AllocError>
-    ensures { (src : List ℕ) → OnOk result (open_blocks src blocks.new
+    ensures { OnOk result ((src : List ℕ) → open_blocks src blocks.new
         ≡ and_more (open_blocks src blocks.old)) }
 {
-    if let Some(block) = blocks.pop() {
-        let mut block = block;
-        block.joined = true;
-        blocks.push(block)?;
+    match blocks.pop() {
+        None => Ok(()),
+        Some(block) => {
+            let mut block = block;
+            block.joined = true;
+            put(blocks, block)
+        }
     }
-    Ok(())
 }
 
 /// Opens a list of statements.
 fn open_list(alloc: Global, blocks: &mut Vec<OpenBlock>, around: Around) -> Result<(), AllocError>
-    ensures { (src : List ℕ) → OnOk result (open_blocks src blocks.new
+    ensures { OnOk result ((src : List ℕ) → open_blocks src blocks.new
         ≡ opened (body_of src around) (open_blocks src blocks.old)) }
 {
-    blocks.push(OpenBlock {
-        around,
-        statements: Vec::new(alloc),
-        joined: false,
-    })?;
-    Ok(())
+    let statements = Vec::new(alloc);
+    let joined = false;
+    put(
+        blocks,
+        OpenBlock {
+            around,
+            statements,
+            joined,
+        },
+    )
 }
 
 /// Takes the `else` of a branch.
 fn on_else(alloc: Global, blocks: &mut Vec<OpenBlock>) -> Result<(), AllocError>
-    ensures { (src : List ℕ) → OnOk result (open_blocks src blocks.new
+    ensures { OnOk result ((src : List ℕ) → open_blocks src blocks.new
         ≡ on_else (open_blocks src blocks.old)) }
 {
-    if let Some(block) = blocks.pop() {
-        let OpenBlock {
-            around,
-            statements,
-            joined,
-        } = block;
-        let block = match around {
-            Around::Then(begin, test) => OpenBlock {
-                around: Around::Else(begin, test, statements),
-                statements: Vec::new(alloc),
-                joined: false,
-            },
-            around => OpenBlock {
+    match blocks.pop() {
+        None => Ok(()),
+        Some(block) => {
+            let OpenBlock {
                 around,
                 statements,
                 joined,
-            },
-        };
-        blocks.push(block)?;
+            } = block;
+            match around {
+                Around::Then(begin, test) => {
+                    open_list(alloc, blocks, Around::Else(begin, test, statements))
+                }
+                around => put(
+                    blocks,
+                    OpenBlock {
+                        around,
+                        statements,
+                        joined,
+                    },
+                ),
+            }
+        }
     }
-    Ok(())
 }
 
 /// The branch that begins here.
@@ -243,20 +257,18 @@ fn loop_of(begin: Token, test: FormulaText, body: Vec<StatementText>) -> Stateme
 
 /// A formula is to be read.
 fn formula_wanted(draft: &mut ProgramDraft, purpose: Purpose) -> Result<(), AllocError>
-    ensures { (src : List ℕ) → OnOk result (drafted src draft.new ≡ claim_wanted (drafted src draft.old) (read_for src purpose)) }
+    ensures { OnOk result ((src : List ℕ) → drafted src draft.new ≡ claim_wanted (drafted src draft.old) (read_for src purpose)) }
 {
-    draft.frames.push(Frame::Whole)?;
     draft.place = ProgramPlace::Reading(purpose);
-    Ok(())
+    put(&mut draft.frames, Frame::Whole)
 }
 
 /// A value is to be read.
 fn value_wanted(draft: &mut ProgramDraft, purpose: Purpose) -> Result<(), AllocError>
-    ensures { (src : List ℕ) → OnOk result (drafted src draft.new ≡ term_wanted (drafted src draft.old) (read_for src purpose)) }
+    ensures { OnOk result ((src : List ℕ) → drafted src draft.new ≡ term_wanted (drafted src draft.old) (read_for src purpose)) }
 {
-    draft.frames.push(Frame::WholeValue)?;
     draft.place = ProgramPlace::Reading(purpose);
-    Ok(())
+    put(&mut draft.frames, Frame::WholeValue)
 }
 
 /// Takes a whole statement of the part of this name.
@@ -265,21 +277,20 @@ fn with_statement(
     name: Token,
     one: StatementText,
 ) -> Result<(), AllocError>
-    ensures { (src : List ℕ) → OnOk result (drafted src draft.new ≡ with_statement (drafted src draft.old) (leaf_of src name) (statement src one)) }
+    ensures { OnOk result ((src : List ℕ) → drafted src draft.new ≡ with_statement (drafted src draft.old) (leaf_of src name) (statement src one)) }
 {
-    and_statement(&mut draft.blocks, one)?;
     draft.place = ProgramPlace::Statements(name);
-    Ok(())
+    and_statement(&mut draft.blocks, one)
 }
 
 /// Takes a token among the declared words.
 fn on_words(draft: &mut ProgramDraft, fixed: bool, next: ProgramSign) -> Result<(), AllocError>
-    ensures { (src : List ℕ) → OnOk result (drafted src draft.new ≡ on_words (drafted src draft.old) fixed (sign src next)) }
+    ensures { OnOk result ((src : List ℕ) → drafted src draft.new ≡ on_words (drafted src draft.old) fixed (sign src next)) }
 {
     match next {
         ProgramSign::Name(name) => draft.place = ProgramPlace::Word(fixed, name),
         ProgramSign::Fixed => draft.place = ProgramPlace::Words(true),
-        ProgramSign::Pre => formula_wanted(draft, Purpose::ProgramClause)?,
+        ProgramSign::Pre => return formula_wanted(draft, Purpose::ProgramClause),
         _ => draft.place = ProgramPlace::Words(fixed),
     }
     Ok(())
@@ -292,27 +303,31 @@ fn on_word(
     name: Token,
     next: ProgramSign,
 ) -> Result<(), AllocError>
-    ensures { (src : List ℕ) → OnOk result (drafted src draft.new ≡ on_word (drafted src draft.old) fixed (leaf_of src name) (sign src next)) }
+    ensures { OnOk result ((src : List ℕ) → drafted src draft.new ≡ on_word (drafted src draft.old) fixed (leaf_of src name) (sign src next)) }
 {
     match next {
         ProgramSign::Number(width) => {
-            draft.words.push(Declaration { fixed, name, width })?;
             draft.place = ProgramPlace::Words(false);
+            put(&mut draft.words, Declaration { fixed, name, width })
         }
-        _ => draft.place = ProgramPlace::Word(fixed, name),
+        _ => {
+            draft.place = ProgramPlace::Word(fixed, name);
+            Ok(())
+        }
     }
-    Ok(())
 }
 
 /// Takes a token behind the clauses of the program, or behind a part.
 fn on_parts(draft: &mut ProgramDraft, next: ProgramSign) -> Result<(), AllocError>
-    ensures { (src : List ℕ) → OnOk result (drafted src draft.new ≡ on_parts (drafted src draft.old) (sign src next)) }
+    ensures { OnOk result ((src : List ℕ) → drafted src draft.new ≡ on_parts (drafted src draft.old) (sign src next)) }
 {
     match next {
-        ProgramSign::Name(name) => formula_wanted(draft, Purpose::PartClause(name))?,
-        _ => draft.place = ProgramPlace::Parts,
+        ProgramSign::Name(name) => formula_wanted(draft, Purpose::PartClause(name)),
+        _ => {
+            draft.place = ProgramPlace::Parts;
+            Ok(())
+        }
     }
-    Ok(())
 }
 
 /// The specification of four clauses.
@@ -343,13 +358,13 @@ fn and_part(
     clauses: Vec<FormulaText>,
     body: Vec<StatementText>,
 ) -> Result<(), AllocError>
-    ensures { (src : List ℕ) → OnOk result (map (part_text src) parts.new.items
+    ensures { OnOk result ((src : List ℕ) → map (part_text src) parts.new.items
         ≡ and_part (map (part_text src) parts.old.items) (leaf_of src name) (spec_from (map (claim src) clauses.items)) (map (statement src) body.items)) }
 {
-    if let Some(spec) = spec_from(clauses) {
-        parts.push(PartText { name, spec, body })?;
+    match spec_from(clauses) {
+        None => Ok(()),
+        Some(spec) => put(parts, PartText { name, spec, body }),
     }
-    Ok(())
 }
 
 /// Takes the whole body of the part of this name.
@@ -359,13 +374,12 @@ fn end_part(
     name: Token,
     body: Vec<StatementText>,
 ) -> Result<(), AllocError>
-    ensures { (src : List ℕ) → OnOk result (drafted src draft.new
+    ensures { OnOk result ((src : List ℕ) → drafted src draft.new
         ≡ end_of (drafted src draft.old) (leaf_of src name) (body_of src Around.Part) (map (statement src) body.items) (drafted src draft.old).blocks) }
 {
     let clauses = std::mem::replace(&mut draft.part_clauses, Vec::new(alloc));
-    and_part(&mut draft.parts, name, clauses, body)?;
     draft.place = ProgramPlace::Parts;
-    Ok(())
+    and_part(&mut draft.parts, name, clauses, body)
 }
 
 /// Ends a list of statements inside the open ones.
@@ -376,40 +390,42 @@ fn end_of(
     around: Around,
     body: Vec<StatementText>,
 ) -> Result<(), AllocError>
-    ensures { (src : List ℕ) → OnOk result (drafted src draft.new
+    ensures { OnOk result ((src : List ℕ) → drafted src draft.new
         ≡ end_of (drafted src draft.old) (leaf_of src name) (body_of src around) (map (statement src) body.items) (drafted src draft.old).blocks) }
 {
     match around {
-        Around::Part => end_part(alloc, draft, name, body)?,
+        Around::Part => end_part(alloc, draft, name, body),
         Around::Then(_, test) => {
             drop(test);
             draft.place = ProgramPlace::Statements(name);
+            Ok(())
         }
         Around::Else(begin, test, first) => {
-            with_statement(draft, name, branch_of(begin, test, first, body))?;
+            with_statement(draft, name, branch_of(begin, test, first, body))
         }
-        Around::Loop(begin, test) => with_statement(draft, name, loop_of(begin, test, body))?,
+        Around::Loop(begin, test) => with_statement(draft, name, loop_of(begin, test, body)),
     }
-    Ok(())
 }
 
 /// Takes the `end` of a list of statements.
 fn on_end(alloc: Global, draft: &mut ProgramDraft, name: Token) -> Result<(), AllocError>
-    ensures { (src : List ℕ) → OnOk result (drafted src draft.new
+    ensures { OnOk result ((src : List ℕ) → drafted src draft.new
         ≡ on_end (drafted src draft.old) (leaf_of src name) (drafted src draft.old).blocks) }
 {
     match draft.blocks.pop() {
-        None => draft.place = ProgramPlace::Statements(name),
+        None => {
+            draft.place = ProgramPlace::Statements(name);
+            Ok(())
+        }
         Some(block) => {
             let OpenBlock {
                 around,
                 statements,
                 ..
             } = block;
-            end_of(alloc, draft, name, around, statements)?;
+            end_of(alloc, draft, name, around, statements)
         }
     }
-    Ok(())
 }
 
 /// Takes a token before or behind a statement of the part of this name.
@@ -419,26 +435,28 @@ fn on_statements(
     name: Token,
     next: ProgramSign,
 ) -> Result<(), AllocError>
-    ensures { (src : List ℕ) → OnOk result (drafted src draft.new ≡ on_statements (drafted src draft.old) (leaf_of src name) (sign src next)) }
+    ensures { OnOk result ((src : List ℕ) → drafted src draft.new ≡ on_statements (drafted src draft.old) (leaf_of src name) (sign src next)) }
 {
     match next {
-        ProgramSign::Name(target) => value_wanted(draft, Purpose::Assign(name, target))?,
-        ProgramSign::Skip(begin) => with_statement(draft, name, StatementText::Skip(begin))?,
-        ProgramSign::Await(begin) => formula_wanted(draft, Purpose::Guard(name, begin))?,
-        ProgramSign::If(begin) => formula_wanted(draft, Purpose::Branch(name, begin))?,
-        ProgramSign::While(begin) => formula_wanted(draft, Purpose::Loop(name, begin))?,
+        ProgramSign::Name(target) => value_wanted(draft, Purpose::Assign(name, target)),
+        ProgramSign::Skip(begin) => with_statement(draft, name, StatementText::Skip(begin)),
+        ProgramSign::Await(begin) => formula_wanted(draft, Purpose::Guard(name, begin)),
+        ProgramSign::If(begin) => formula_wanted(draft, Purpose::Branch(name, begin)),
+        ProgramSign::While(begin) => formula_wanted(draft, Purpose::Loop(name, begin)),
         ProgramSign::Semicolon => {
-            and_more(&mut draft.blocks)?;
             draft.place = ProgramPlace::Statements(name);
+            and_more(&mut draft.blocks)
         }
         ProgramSign::Else => {
-            on_else(alloc, &mut draft.blocks)?;
             draft.place = ProgramPlace::Statements(name);
+            on_else(alloc, &mut draft.blocks)
         }
-        ProgramSign::End => on_end(alloc, draft, name)?,
-        _ => draft.place = ProgramPlace::Statements(name),
+        ProgramSign::End => on_end(alloc, draft, name),
+        _ => {
+            draft.place = ProgramPlace::Statements(name);
+            Ok(())
+        }
     }
-    Ok(())
 }
 
 /// Takes the `end` of the await that begins here.
@@ -448,17 +466,19 @@ fn end_acts(
     name: Token,
     begin: Token,
 ) -> Result<(), AllocError>
-    ensures { (src : List ℕ) → OnOk result (drafted src draft.new
+    ensures { OnOk result ((src : List ℕ) → drafted src draft.new
         ≡ end_acts (drafted src draft.old) (leaf_of src name) (leaf_of src begin) (drafted src draft.old).guards) }
 {
     match draft.guards.pop() {
-        None => draft.place = ProgramPlace::Statements(name),
+        None => {
+            draft.place = ProgramPlace::Statements(name);
+            Ok(())
+        }
         Some(guard) => {
             let acts = std::mem::replace(&mut draft.acts, Vec::new(alloc));
-            with_statement(draft, name, StatementText::Await(begin, guard, acts))?;
+            with_statement(draft, name, StatementText::Await(begin, guard, acts))
         }
     }
-    Ok(())
 }
 
 /// Takes a token before or behind an assignment of the await that begins here.
@@ -469,27 +489,29 @@ fn on_acts(
     begin: Token,
     next: ProgramSign,
 ) -> Result<(), AllocError>
-    ensures { (src : List ℕ) → OnOk result (drafted src draft.new ≡ on_acts (drafted src draft.old) (leaf_of src name) (leaf_of src begin) (sign src next)) }
+    ensures { OnOk result ((src : List ℕ) → drafted src draft.new ≡ on_acts (drafted src draft.old) (leaf_of src name) (leaf_of src begin) (sign src next)) }
 {
     match next {
-        ProgramSign::Name(target) => value_wanted(draft, Purpose::Act(name, begin, target))?,
-        ProgramSign::End => end_acts(alloc, draft, name, begin)?,
-        _ => draft.place = ProgramPlace::Acts(name, begin),
+        ProgramSign::Name(target) => value_wanted(draft, Purpose::Act(name, begin, target)),
+        ProgramSign::End => end_acts(alloc, draft, name, begin),
+        _ => {
+            draft.place = ProgramPlace::Acts(name, begin);
+            Ok(())
+        }
     }
-    Ok(())
 }
 
 /// Takes a clause of the program.
 fn program_clause(draft: &mut ProgramDraft, formula: FormulaText) -> Result<(), AllocError>
-    ensures { (src : List ℕ) → OnOk result (drafted src draft.new ≡ with_claim (drafted src draft.old) (read_for src Purpose.ProgramClause) (claim src formula)) }
+    ensures { OnOk result ((src : List ℕ) → drafted src draft.new ≡ with_claim (drafted src draft.old) (read_for src Purpose.ProgramClause) (claim src formula)) }
 {
-    draft.clauses.push(formula)?;
+    put(&mut draft.clauses, formula)?;
     if draft.clauses.len() < 4 {
-        formula_wanted(draft, Purpose::ProgramClause)?;
+        formula_wanted(draft, Purpose::ProgramClause)
     } else {
         draft.place = ProgramPlace::Parts;
+        Ok(())
     }
-    Ok(())
 }
 
 /// Takes a clause of the part of this name.
@@ -499,16 +521,15 @@ fn part_clause(
     name: Token,
     formula: FormulaText,
 ) -> Result<(), AllocError>
-    ensures { (src : List ℕ) → OnOk result (drafted src draft.new ≡ with_claim (drafted src draft.old) (read_for src (Purpose.PartClause name)) (claim src formula)) }
+    ensures { OnOk result ((src : List ℕ) → drafted src draft.new ≡ with_claim (drafted src draft.old) (read_for src (Purpose.PartClause name)) (claim src formula)) }
 {
-    draft.part_clauses.push(formula)?;
+    put(&mut draft.part_clauses, formula)?;
     if draft.part_clauses.len() < 4 {
-        formula_wanted(draft, Purpose::PartClause(name))?;
+        formula_wanted(draft, Purpose::PartClause(name))
     } else {
-        open_list(alloc, &mut draft.blocks, Around::Part)?;
         draft.place = ProgramPlace::Statements(name);
+        open_list(alloc, &mut draft.blocks, Around::Part)
     }
-    Ok(())
 }
 
 /// Takes a whole formula.
@@ -518,27 +539,32 @@ fn with_claim(
     purpose: Purpose,
     formula: FormulaText,
 ) -> Result<(), AllocError>
-    ensures { (src : List ℕ) → OnOk result (drafted src draft.new ≡ with_claim (drafted src draft.old) (read_for src purpose) (claim src formula)) }
+    ensures { OnOk result ((src : List ℕ) → drafted src draft.new ≡ with_claim (drafted src draft.old) (read_for src purpose) (claim src formula)) }
 {
     match purpose {
-        Purpose::ProgramClause => program_clause(draft, formula)?,
-        Purpose::PartClause(name) => part_clause(alloc, draft, name, formula)?,
+        Purpose::ProgramClause => program_clause(draft, formula),
+        Purpose::PartClause(name) => part_clause(alloc, draft, name, formula),
         Purpose::Guard(name, begin) => {
-            draft.guards.push(formula)?;
             draft.place = ProgramPlace::Acts(name, begin);
+            put(&mut draft.guards, formula)
         }
         Purpose::Branch(name, begin) => {
-            open_list(alloc, &mut draft.blocks, Around::Then(begin, formula))?;
             draft.place = ProgramPlace::Statements(name);
+            open_list(alloc, &mut draft.blocks, Around::Then(begin, formula))
         }
         Purpose::Loop(name, begin) => {
-            open_list(alloc, &mut draft.blocks, Around::Loop(begin, formula))?;
             draft.place = ProgramPlace::Statements(name);
+            open_list(alloc, &mut draft.blocks, Around::Loop(begin, formula))
         }
-        Purpose::Assign(name, _) => draft.place = ProgramPlace::Statements(name),
-        Purpose::Act(name, begin, _) => draft.place = ProgramPlace::Acts(name, begin),
+        Purpose::Assign(name, _) => {
+            draft.place = ProgramPlace::Statements(name);
+            Ok(())
+        }
+        Purpose::Act(name, begin, _) => {
+            draft.place = ProgramPlace::Acts(name, begin);
+            Ok(())
+        }
     }
-    Ok(())
 }
 
 /// Takes a whole value.
@@ -547,26 +573,28 @@ fn with_term(
     purpose: Purpose,
     value: ExpressionText,
 ) -> Result<(), AllocError>
-    ensures { (src : List ℕ) → OnOk result (drafted src draft.new ≡ with_term (drafted src draft.old) (read_for src purpose) (term src value)) }
+    ensures { OnOk result ((src : List ℕ) → drafted src draft.new ≡ with_term (drafted src draft.old) (read_for src purpose) (term src value)) }
 {
     match purpose {
         Purpose::Assign(name, target) => {
-            with_statement(
-                draft,
-                name,
-                StatementText::Assign(AssignmentText { target, value }),
-            )?;
+            let assigned = AssignmentText { target, value };
+            with_statement(draft, name, StatementText::Assign(assigned))
         }
         Purpose::Act(name, begin, target) => {
-            draft.acts.push(AssignmentText { target, value })?;
             draft.place = ProgramPlace::Acts(name, begin);
+            put(&mut draft.acts, AssignmentText { target, value })
         }
         Purpose::Guard(name, _) | Purpose::Branch(name, _) | Purpose::Loop(name, _) => {
+            drop(value);
             draft.place = ProgramPlace::Statements(name);
+            Ok(())
         }
-        Purpose::ProgramClause | Purpose::PartClause(_) => draft.place = ProgramPlace::Parts,
+        Purpose::ProgramClause | Purpose::PartClause(_) => {
+            drop(value);
+            draft.place = ProgramPlace::Parts;
+            Ok(())
+        }
     }
-    Ok(())
 }
 
 /// The formula or the value that is whole, where one is.
@@ -579,7 +607,7 @@ fn take_item(frames: &mut Vec<Frame>) -> Result<Option<Item>, AllocError>
         Some(Frame::End(formula)) => Ok(Some(Item::Formula(formula))),
         Some(Frame::Valued(value)) => Ok(Some(Item::Expression(value))),
         Some(other) => {
-            frames.push(other)?;
+            put(frames, other)?;
             Ok(None)
         }
     }
@@ -592,31 +620,32 @@ fn on_reading(
     purpose: Purpose,
     token: Token,
 ) -> Result<(), AllocError>
-    ensures { (src : List ℕ) → OnOk result (drafted src draft.new
+    ensures { OnOk result ((src : List ℕ) → drafted src draft.new
         ≡ settled (rest_of (drafted src draft.old)) (read_for src purpose) (step (drafted src draft.old).within (lexeme_of src token))) }
 {
     take_token(alloc, &mut draft.frames, token)?;
     match take_item(&mut draft.frames)? {
-        None => draft.place = ProgramPlace::Reading(purpose),
-        Some(Item::Formula(formula)) => with_claim(alloc, draft, purpose, formula)?,
-        Some(Item::Expression(value)) => with_term(draft, purpose, value)?,
+        None => {
+            draft.place = ProgramPlace::Reading(purpose);
+            Ok(())
+        }
+        Some(Item::Formula(formula)) => with_claim(alloc, draft, purpose, formula),
+        Some(Item::Expression(value)) => with_term(draft, purpose, value),
     }
-    Ok(())
 }
 
 /// Takes one token.
 fn take(alloc: Global, draft: &mut ProgramDraft, token: Token) -> Result<(), AllocError>
-    ensures { (src : List ℕ) → OnOk result (drafted src draft.new ≡ program_step (drafted src draft.old) (lexeme_of src token)) }
+    ensures { OnOk result ((src : List ℕ) → drafted src draft.new ≡ program_step (drafted src draft.old) (lexeme_of src token)) }
 {
     match draft.place {
-        ProgramPlace::Words(fixed) => on_words(draft, fixed, sign_of(token))?,
-        ProgramPlace::Word(fixed, name) => on_word(draft, fixed, name, sign_of(token))?,
-        ProgramPlace::Parts => on_parts(draft, sign_of(token))?,
-        ProgramPlace::Statements(name) => on_statements(alloc, draft, name, sign_of(token))?,
-        ProgramPlace::Acts(name, begin) => on_acts(alloc, draft, name, begin, sign_of(token))?,
-        ProgramPlace::Reading(purpose) => on_reading(alloc, draft, purpose, token)?,
+        ProgramPlace::Words(fixed) => on_words(draft, fixed, sign_of(token)),
+        ProgramPlace::Word(fixed, name) => on_word(draft, fixed, name, sign_of(token)),
+        ProgramPlace::Parts => on_parts(draft, sign_of(token)),
+        ProgramPlace::Statements(name) => on_statements(alloc, draft, name, sign_of(token)),
+        ProgramPlace::Acts(name, begin) => on_acts(alloc, draft, name, begin, sign_of(token)),
+        ProgramPlace::Reading(purpose) => on_reading(alloc, draft, purpose, token),
     }
-    Ok(())
 }
 
 /// What is read of a program after these tokens.
@@ -641,7 +670,7 @@ pub fn draft_of(alloc: Global, tokens: &[Token]) -> Result<ProgramDraft, AllocEr
 }
 
 /// The program, where its clauses are a specification.
-pub fn whole_program(draft: ProgramDraft) -> Option<ProgramText>
+fn whole_program(draft: ProgramDraft) -> Option<ProgramText>
     ensures { (src : List ℕ) → option_map (program_text src) result ≡ whole_program (drafted src draft) }
 {
     let ProgramDraft {
@@ -654,4 +683,13 @@ pub fn whole_program(draft: ProgramDraft) -> Option<ProgramText>
         Some(spec) => Some(ProgramText { words, spec, parts }),
         None => None,
     }
+}
+
+/// The program, where the tokens spell one.
+pub fn build_program(alloc: Global, tokens: &[Token]) -> Result<Option<ProgramText>, AllocError>
+    ensures { (src : List ℕ) (p : ProgramSpelling) → map (lexeme_of src) tokens.now ≡ program p []
+        → IfOk result (λ built. IsSomeAnd built (λ r. program_text src r ≡ program_of p)) }
+{
+    let draft = draft_of(alloc, tokens)?;
+    Ok(whole_program(draft))
 }

@@ -2,7 +2,7 @@
 use Rattle.std.proofs.Common.{◌≡◌, ◌↔◌, ℕ, Bool, true, false, not, List, ◌++◌, refl, sym, ap, ◌∙◌, subst}
 use Rattle.std.proofs.lemmas.Bool.{false≢true}
 use Rattle.rg_gates.specs.declared.Lit.{Lit}
-use Rattle.rg_gates.specs.Circuit.{Circuit, IsCircuit, AreValues, lit_value, negation}
+use Rattle.rg_gates.specs.Circuit.{Circuit, IsCircuit, AreGateValues, lit_value, negation}
 use Rattle.rg_gates.specs.Extends.{GatesHold}
 use Rattle.rg_gates.proofs.Evaluated.{values_exist}
 use Rattle.rg_words.specs.States.{IsState, AgreeOnFixed}
@@ -22,7 +22,7 @@ not_true false e = refl
 module _ (c : ConditionTree) (g : Circuit) (l : Lit)
     (meaning : (values : List Bool) → GatesHold g values → lit_value values l ≡ condition_holds c (first_of c values) (second_of c values))
   where
-    pub fails_at : (values : List Bool) → AreValues g values → lit_value values (negation l) ≡ true → condition_holds c (first_of c values) (second_of c values) ≡ false
+    pub fails_at : (values : List Bool) → AreGateValues g values → lit_value values (negation l) ≡ true → condition_holds c (first_of c values) (second_of c values) ≡ false
     fails_at values are e = sym (meaning values (record { gates = are.gates })) ∙ not_true (lit_value values l) (sym (negation_value values l) ∙ e)
 
     module _ (circuit : IsCircuit g) (inputs : g.inputs ≡ inputs_of c)

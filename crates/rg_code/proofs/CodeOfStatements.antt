@@ -5,14 +5,20 @@ use Rattle.std.proofs.lemmas.List.{append-nil}
 use Rattle.rg_tree.specs.Trees.{Proposition, Assignment}
 use Rattle.rg_tree.specs.Statements.{Statement, skip, assign, await, sequence, branch, loop, Items, one, more}
 use Rattle.rg_tree.specs.ConditionTrees.{assigned}
-use Rattle.rg_tree.specs.Traces.{State, holds_at, Move, Own, Env, last}
+use Rattle.rg_tree.specs.Traces.{State, holds_at, ViewStep, Own, Env, last}
 use Rattle.rg_tree.specs.Runs.{Behavior, AllEnv, Atomic, Then, Within, Past, Yes, No, Choice, Loop, Idle, Wait, Leave, Inner, Again, runs, runs_of_items, always}
 use Rattle.rg_tree.proofs.Guards.{last-append}
 use Rattle.rg_tree.proofs.Stands.{Stands, stands_get, stands_tail, stands_front, stands_back}
 use Rattle.rg_tree.proofs.Joins.{runs_tails, Below, then_map, then_assoc_left, then_assoc_right, then_env, then_own}
 use Rattle.rg_code.specs.Operations.{formula_operations, told_by}
 use Rattle.rg_code.proofs.Operations.{told_formula, stored_assigned}
-use Rattle.rg_code.specs.Code.{stored, store_of, BlockTree, do_block, await_block, test_block, end_block, Makes_step, is_end, CodeRuns, count_of, count_of_items, code_of, code_of_items, part_code}
+use Rattle.rg_code.specs.Code.{stored, store_of, BlockTree, do_block, await_block, test_block, end_block, Makes_step, is_end, count_of, count_of_items, code_of, code_of_items, part_code}
+
+-- the runs of one part's code from a place, as the part sees them
+abbrev pub CodeRuns : List BlockTree → ℕ → State → List ViewStep → Bool → Type 0
+CodeRuns code at s [] ended = ended ≡ is_end (slice_get code at)
+CodeRuns code at s (Env t ∷ ms) ended = CodeRuns code at t ms ended
+CodeRuns code at s (Own t ∷ ms) ended = (to : ℕ) × Makes_step (slice_get code at) s t to × CodeRuns code to t ms ended
 
 abbrev pick : Bool → ℕ → ℕ → ℕ
 pick v yes_place no_place = if v then yes_place else no_place
@@ -22,7 +28,7 @@ module _ (code : List BlockTree) where
   abbrev pub From : ℕ → Behavior
   From k = CodeRuns code k
 
-  env_then : (k : ℕ) (s : State) (before rest : List Move) (ended : Bool) → AllEnv before → From k (last s before) rest ended → From k s (before ++ rest) ended
+  env_then : (k : ℕ) (s : State) (before rest : List ViewStep) (ended : Bool) → AllEnv before → From k (last s before) rest ended → From k s (before ++ rest) ended
   env_then k s [] rest ended a c = c
   env_then k s (Own t ∷ before) rest ended a c = absurd a
   env_then k s (Env t ∷ before) rest ended a c = env_then k t before rest ended a c
@@ -36,12 +42,12 @@ module _ (code : List BlockTree) where
         let h = acts s t c.0 c.1 in
         Past (Own t ∷ []) ms refl (record { test = h.0; result = h.1; rest = tt; over = refl }) (subst (λ k. From k t ms ended) h.2 c.2)
 
-    atomic_within : (s : State) (ms : List Move) (ended : Bool) → Atomic b f s ms ended → ended ≡ false → From first s ms ended
+    atomic_within : (s : State) (ms : List ViewStep) (ended : Bool) → Atomic b f s ms ended → ended ≡ false → From first s ms ended
     atomic_within s [] ended a z = z ∙ sym not_end
     atomic_within s (Env t ∷ ms) ended a z = atomic_within t ms ended a z
     atomic_within s (Own t ∷ ms) ended a z = let w = a.over in cc (w, z)
 
-    atomic_past : ((s : State) → b s ≡ true → Makes_step (slice_get code first) s (f s) next) → (s : State) (before : List Move) (e : Bool) → Atomic b f s before e → e ≡ true → (rest : List Move) (ended : Bool) → From next (last s before) rest ended → From first s (before ++ rest) ended
+    atomic_past : ((s : State) → b s ≡ true → Makes_step (slice_get code first) s (f s) next) → (s : State) (before : List ViewStep) (e : Bool) → Atomic b f s before e → e ≡ true → (rest : List ViewStep) (ended : Bool) → From next (last s before) rest ended → From first s (before ++ rest) ended
     atomic_past made s [] e a z rest ended c = cc (a, z)
     atomic_past made s (Env t ∷ before) e a z rest ended c = atomic_past made t before e a z rest ended c
     atomic_past made s (Own t ∷ before) e a z rest ended c =
@@ -60,7 +66,7 @@ module _ (code : List BlockTree) where
     step_no s t e h = subst (λ k. Makes_step (slice_get code first) s t k) (ap (λ v. pick v yes_place no_place) h) (made s t e)
 
     module _ (next : ℕ) (A B : Behavior) where
-      choice_own : Below (From yes_place) (Then A (From next)) → Below (From no_place) (Then B (From next)) → (s t : State) (ms : List Move) (ended : Bool) (to : ℕ) → t ≡ s → (v : Bool) → b s ≡ v → to ≡ pick v yes_place no_place → From to t ms ended → Then (Choice b A B) (From next) s (Own t ∷ ms) ended
+      choice_own : Below (From yes_place) (Then A (From next)) → Below (From no_place) (Then B (From next)) → (s t : State) (ms : List ViewStep) (ended : Bool) (to : ℕ) → t ≡ s → (v : Bool) → b s ≡ v → to ≡ pick v yes_place no_place → From to t ms ended → Then (Choice b A B) (From next) s (Own t ∷ ms) ended
       choice_own on_yes on_no s t ms ended to e true h k c = then_own A (Choice b A B) (From next) s t (λ ms' e' a. Yes e h a) ms ended (on_yes t ms ended (subst (λ x. From x t ms ended) k c))
       choice_own on_yes on_no s t ms ended to e false h k c = then_own B (Choice b A B) (From next) s t (λ ms' e' a. No e h a) ms ended (on_no t ms ended (subst (λ x. From x t ms ended) k c))
 
@@ -71,7 +77,7 @@ module _ (code : List BlockTree) where
           let h = goes s t c.0 c.1 in
           choice_own on_yes on_no s t ms ended c.0 h.0 (b s) refl h.1 c.2
 
-      choice_within : Below (Then A (From next)) (From yes_place) → Below (Then B (From next)) (From no_place) → (s : State) (ms : List Move) (ended : Bool) → Choice b A B s ms ended → ended ≡ false → From first s ms ended
+      choice_within : Below (Then A (From next)) (From yes_place) → Below (Then B (From next)) (From no_place) → (s : State) (ms : List ViewStep) (ended : Bool) → Choice b A B s ms ended → ended ≡ false → From first s ms ended
       choice_within on_yes on_no s [] ended a z = z ∙ sym not_end
       choice_within on_yes on_no s (Env t ∷ ms) ended a z = choice_within on_yes on_no t ms ended a z
       choice_within on_yes on_no s (Own t ∷ ms) ended (Yes e h a) z =
@@ -79,7 +85,7 @@ module _ (code : List BlockTree) where
       choice_within on_yes on_no s (Own t ∷ ms) ended (No e h a) z =
           (no_place, step_no s t e h, subst (λ x. From no_place t ms x) (sym z) (on_no t ms false (Within (subst (λ x. B t ms x) z a))))
 
-      choice_past : Below (Then A (From next)) (From yes_place) → Below (Then B (From next)) (From no_place) → (s : State) (before : List Move) (e : Bool) → Choice b A B s before e → e ≡ true → (rest : List Move) (ended : Bool) → From next (last s before) rest ended → From first s (before ++ rest) ended
+      choice_past : Below (Then A (From next)) (From yes_place) → Below (Then B (From next)) (From no_place) → (s : State) (before : List ViewStep) (e : Bool) → Choice b A B s before e → e ≡ true → (rest : List ViewStep) (ended : Bool) → From next (last s before) rest ended → From first s (before ++ rest) ended
       choice_past on_yes on_no s [] e a z rest ended c = cc (a, z)
       choice_past on_yes on_no s (Env t ∷ before) e a z rest ended c = choice_past on_yes on_no t before e a z rest ended c
       choice_past on_yes on_no s (Own t ∷ before) e (Yes q h a) z rest ended c =
@@ -93,22 +99,22 @@ module _ (code : List BlockTree) where
 
     -- the test of a loop, whose body leads back to it
     module _ (A : Behavior) where
-      loop_join : (s t : State) (ms before rest : List Move) (ended : Bool) → t ≡ s → b s ≡ true → ms ≡ before ++ rest → A t before true → Then (Loop b A) (From no_place) (last t before) rest ended → Then (Loop b A) (From no_place) s (Own t ∷ ms) ended
+      loop_join : (s t : State) (ms before rest : List ViewStep) (ended : Bool) → t ≡ s → b s ≡ true → ms ≡ before ++ rest → A t before true → Then (Loop b A) (From no_place) (last t before) rest ended → Then (Loop b A) (From no_place) s (Own t ∷ ms) ended
       loop_join s t ms before rest ended e h q a (Within l) = Within (Again before rest e h q a l)
       loop_join s t ms before rest ended e h q a (Past before2 rest2 q2 l c) =
           Past (Own t ∷ (before ++ before2)) rest2 (ap (λ l'. Own t ∷ l') (q ∙ ap (λ l'. before ++ l') q2 ∙ sym (append_assoc before before2 rest2))) (Again before before2 e h refl a l) (subst (λ x. From no_place x rest2 ended) (sym (last-append t before before2)) c)
 
-      loop_body : (n : ℕ) (s t : State) (ms : List Move) (ended : Bool) → length ms ≤ n → t ≡ s → b s ≡ true → ((s' : State) (rest : List Move) → length rest ≤ n → From first s' rest ended → Then (Loop b A) (From no_place) s' rest ended) → Then A (From first) t ms ended → Then (Loop b A) (From no_place) s (Own t ∷ ms) ended
+      loop_body : (n : ℕ) (s t : State) (ms : List ViewStep) (ended : Bool) → length ms ≤ n → t ≡ s → b s ≡ true → ((s' : State) (rest : List ViewStep) → length rest ≤ n → From first s' rest ended → Then (Loop b A) (From no_place) s' rest ended) → Then A (From first) t ms ended → Then (Loop b A) (From no_place) s (Own t ∷ ms) ended
       loop_body n s t ms ended le e h rec (Within a) = Within (Inner e h a)
       loop_body n s t ms ended le e h rec (Past before rest q a c) =
           let shorter : length rest ≤ n = omega (arith, ap length q, length-append before rest) in
           loop_join s t ms before rest ended e h q a (rec (last t before) rest shorter c)
 
-      loop_own : (n : ℕ) (s t : State) (ms : List Move) (ended : Bool) (to : ℕ) → length ms ≤ n → Below (From yes_place) (Then A (From first)) → t ≡ s → ((s' : State) (rest : List Move) → length rest ≤ n → From first s' rest ended → Then (Loop b A) (From no_place) s' rest ended) → (v : Bool) → b s ≡ v → to ≡ pick v yes_place no_place → From to t ms ended → Then (Loop b A) (From no_place) s (Own t ∷ ms) ended
+      loop_own : (n : ℕ) (s t : State) (ms : List ViewStep) (ended : Bool) (to : ℕ) → length ms ≤ n → Below (From yes_place) (Then A (From first)) → t ≡ s → ((s' : State) (rest : List ViewStep) → length rest ≤ n → From first s' rest ended → Then (Loop b A) (From no_place) s' rest ended) → (v : Bool) → b s ≡ v → to ≡ pick v yes_place no_place → From to t ms ended → Then (Loop b A) (From no_place) s (Own t ∷ ms) ended
       loop_own n s t ms ended to le body e rec true h k c = loop_body n s t ms ended le e h rec (body t ms ended (subst (λ x. From x t ms ended) k c))
       loop_own n s t ms ended to le body e rec false h k c = Past (Own t ∷ []) ms refl (Leave e h tt) (subst (λ x. From x t ms ended) k c)
 
-      loop_to : Below (From yes_place) (Then A (From first)) → (n : ℕ) (s : State) (ms : List Move) (ended : Bool) → length ms ≤ n → From first s ms ended → Then (Loop b A) (From no_place) s ms ended
+      loop_to : Below (From yes_place) (Then A (From first)) → (n : ℕ) (s : State) (ms : List ViewStep) (ended : Bool) → length ms ≤ n → From first s ms ended → Then (Loop b A) (From no_place) s ms ended
       loop_to body n s [] ended le c = subst (λ x. Then (Loop b A) (From no_place) s [] x) (sym (c ∙ not_end)) (Within Idle)
       loop_to body zero s (Env t ∷ ms) ended le c = absurd (omega arith)
       loop_to body zero s (Own t ∷ ms) ended le c = absurd (omega arith)
@@ -117,7 +123,7 @@ module _ (code : List BlockTree) where
           let h = goes s t c.0 c.1 in
           loop_own n s t ms ended c.0 (omega arith) body h.0 (λ s' rest le' c'. loop_to body n s' rest ended le' c') (b s) refl h.1 c.2
 
-      loop_within : Below (Then A (From first)) (From yes_place) → (s : State) (ms : List Move) (ended : Bool) → Loop b A s ms ended → ended ≡ false → From first s ms ended
+      loop_within : Below (Then A (From first)) (From yes_place) → (s : State) (ms : List ViewStep) (ended : Bool) → Loop b A s ms ended → ended ≡ false → From first s ms ended
       loop_within body s ms ended Idle z = sym not_end
       loop_within body s ms ended (Wait {t = t} {ms = rest} run) z = loop_within body t rest ended run z
       loop_within body s ms ended (Leave e h a) z = cc z
@@ -125,7 +131,7 @@ module _ (code : List BlockTree) where
       loop_within body s ms ended (Again {t = t} {ms = all} before rest e h q a run) z =
           (yes_place, step_yes s t e h, body t all ended (Past before rest q a (loop_within body (last t before) rest ended run z)))
 
-      loop_past : Below (Then A (From first)) (From yes_place) → (s : State) (ms : List Move) (e : Bool) → Loop b A s ms e → e ≡ true → (rest : List Move) (ended : Bool) → From no_place (last s ms) rest ended → From first s (ms ++ rest) ended
+      loop_past : Below (Then A (From first)) (From yes_place) → (s : State) (ms : List ViewStep) (e : Bool) → Loop b A s ms e → e ≡ true → (rest : List ViewStep) (ended : Bool) → From no_place (last s ms) rest ended → From first s (ms ++ rest) ended
       loop_past body s ms e Idle z rest ended c = cc z
       loop_past body s ms e (Wait {t = t} {ms = inner} run) z rest ended c = loop_past body t inner e run z rest ended c
       loop_past body s ms e (Leave {t = t} {ms = inner} q h a) z rest ended c = (no_place, step_no s t q h, env_then no_place t inner rest ended a c)
@@ -247,7 +253,7 @@ module _ (code : List BlockTree) where
         λ x ms ended c. stmt_from s first mid (stands_front code first (code_of s first mid) _ h) x ms ended (then_map (runs s) (Then (runs_of_items items) (From code next)) (From code mid) (items_from items mid next (second_stands first s mid mid _ refl h)) x ms ended (then_assoc_right (runs s) (runs_of_items items) (From code next) x ms ended c))
 
 -- at the end of a part's code only the environment goes on
-end_env : (code : List BlockTree) (k : ℕ) → slice_get code k ≡ Some end_block → (s : State) (ms : List Move) (ended : Bool) → CodeRuns code k s ms ended → AllEnv ms × (ended ≡ true)
+end_env : (code : List BlockTree) (k : ℕ) → slice_get code k ≡ Some end_block → (s : State) (ms : List ViewStep) (ended : Bool) → CodeRuns code k s ms ended → AllEnv ms × (ended ≡ true)
 end_env code k at s [] ended c = (tt, c ∙ ap is_end at)
 end_env code k at s (Env t ∷ ms) ended c = end_env code k at t ms ended c
 end_env code k at s (Own t ∷ ms) ended c = absurd (subst (λ o. Makes_step o s t c.0) at c.1)
@@ -261,13 +267,13 @@ module _ (body : Statement) where
       let all : Stands (part_code body) 0 (code_of body 0 (count_of body) ++ end_block ∷ []) = ([], sym (append-nil _)) in
       stands_get (part_code body) (count_of body) end_block [] (second_stands (part_code body) 0 body (count_of body) (count_of body) (end_block ∷ []) (omega arith) all)
 
-  drop_end : (s : State) (ms : List Move) (ended : Bool) → Then (runs body) (From (part_code body) (count_of body)) s ms ended → runs body s ms ended
+  drop_end : (s : State) (ms : List ViewStep) (ended : Bool) → Then (runs body) (From (part_code body) (count_of body)) s ms ended → runs body s ms ended
   drop_end s ms ended (Within a) = a
   drop_end s ms ended (Past before rest e a c) =
       let h = end_env (part_code body) (count_of body) end_stands (last s before) rest ended c in
       subst (λ l. runs body s l ended) (sym e) (subst (λ x. runs body s (before ++ rest) x) (sym h.1) (runs_tails body s before rest a h.0))
 
-  add_end : (s : State) (ms : List Move) (ended : Bool) → runs body s ms ended → Then (runs body) (From (part_code body) (count_of body)) s ms ended
+  add_end : (s : State) (ms : List ViewStep) (ended : Bool) → runs body s ms ended → Then (runs body) (From (part_code body) (count_of body)) s ms ended
   add_end s ms true a = Past ms [] (sym (append-nil ms)) a (sym (ap is_end end_stands))
   add_end s ms false a = Within a
 

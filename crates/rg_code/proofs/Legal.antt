@@ -14,7 +14,7 @@ use Rattle.rg_tree.specs.TypedPrograms.{IsTypedPredicate, TargetsFree, IsTypedSt
 use Rattle.rg_tree.proofs.Widths.{values_within, typed_expressions_fit, typed_formulas_fit}
 use Rattle.rg_code.specs.declared.operation.Operation.{Operation}
 use Rattle.rg_code.specs.declared.operation.Operation.TheVariants.{Inverse, Binary, Shifted, Pick, Compare, Not, Connect}
-use Rattle.rg_code.specs.Operations.{number_of, expression_operations, formula_operations}
+use Rattle.rg_code.specs.Operations.{number_of_truth, expression_operations, formula_operations}
 use Rattle.rg_code.specs.Code.{BlockTree, end_block, is_end, store_of, count_of, count_of_items, code_of, code_of_items, part_code, program_code}
 use Rattle.rg_code.specs.Legal.{OperationsFit, IsBelow, LeavesBelow, AreLegalStores, IsLegalBlock, AreLegalBlocks, EndsOnce, AreLegalParts}
 use Rattle.rg_code.proofs.Operations.{left_expression, left_formula}
@@ -50,7 +50,7 @@ mutual
   formula_fit n (compared c a b) h =
       fit_two n (expression_operations a) (expression_operations b) (Compare c) (expression_fit n a h.0) (expression_fit n b h.1) (tt, tt)
 
-number_below : (b : Bool) → number_of b < 2
+number_below : (b : Bool) → number_of_truth b < 2
 number_below true = omega arith
 number_below false = omega arith
 
@@ -65,7 +65,7 @@ module _ (words : List Word) (limits : IsLayout words) where
 
   predicate_legal : (f : Proposition) → IsTypedPredicate words f → LeavesBelow words 2 (formula_operations f)
   predicate_legal f h =
-      (formula_fit (length words) f (typed_formulas_fit words limits f h.0), λ s st. below_at 2 _ (number_of (holds_at f s)) (left_formula f s) (number_below (holds_at f s)))
+      (formula_fit (length words) f (typed_formulas_fit words limits f h.0), λ s st. below_at 2 _ (number_of_truth (holds_at f s)) (left_formula f s) (number_below (holds_at f s)))
 
   stores_legal : (act : List Assignment) → AssignmentsTyped (widths_of words) act → TargetsFree words act → AreLegalStores words (map store_of act)
   stores_legal [] typed free = tt

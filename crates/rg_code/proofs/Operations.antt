@@ -8,7 +8,7 @@ use Rattle.rg_tree.specs.Trees.{Assignment}
 use Rattle.rg_tree.specs.ConditionTrees.{assigned}
 use Rattle.rg_code.specs.declared.operation.Operation.{Operation}
 use Rattle.rg_code.specs.declared.operation.Operation.TheVariants.{Inverse, Binary, Shifted, Pick, Compare, Not, Connect}
-use Rattle.rg_code.specs.Operations.{number_of, truth_of, after_operation, after_operations, alone, left_by, told_by, expression_operations, formula_operations, OperationsLeaveValues}
+use Rattle.rg_code.specs.Operations.{number_of_truth, truth_of, after_operation, after_operations, alone, left_by, told_by, expression_operations, formula_operations, OperationsLeaveValues}
 use Rattle.rg_code.specs.Code.{stored, store_of}
 
 -- what goes on in two ways from a stack that may be missing
@@ -30,7 +30,7 @@ after-append s (x ∷ xs) ys stack =
 pub after_then : (s : State) (xs ys : List Operation) (stack next : List ℕ) → after_operations s xs stack ≡ Some next → after_operations s (xs ++ ys) stack ≡ after_operations s ys next
 after_then s xs ys stack next h = after-append s xs ys stack ∙ ap (λ o. option_and_then (λ next'. after_operations s ys next') o) h
 
-truth-number : (b : Bool) → truth_of (number_of b) ≡ b
+truth-number : (b : Bool) → truth_of (number_of_truth b) ≡ b
 truth-number true = refl
 truth-number false = refl
 
@@ -45,22 +45,22 @@ mutual
       ∙ after_then s (expression_operations b) (Binary o w ∷ []) _ _ (expression_leaves b s (value_of a s s ∷ stack))
   expression_leaves (shifted d w a k) s stack = after_then s (expression_operations a) (Shifted d w k ∷ []) stack _ (expression_leaves a s stack)
   expression_leaves (choice f a b) s stack =
-      let under = number_of (holds_at f s) ∷ stack in
+      let under = number_of_truth (holds_at f s) ∷ stack in
       after_then s (formula_operations f) (expression_operations a ++ (expression_operations b ++ Pick ∷ [])) stack _ (formula_leaves f s stack)
       ∙ after_then s (expression_operations a) (expression_operations b ++ Pick ∷ []) _ _ (expression_leaves a s under)
       ∙ after_then s (expression_operations b) (Pick ∷ []) _ _ (expression_leaves b s (value_of a s s ∷ under))
       ∙ ap (λ v. Some (cond v (value_of a s s) (value_of b s s) ∷ stack)) (truth-number (holds_at f s))
 
-  formula_leaves : (f : Proposition) (s : State) (stack : List ℕ) → after_operations s (formula_operations f) stack ≡ Some (number_of (holds_at f s) ∷ stack)
+  formula_leaves : (f : Proposition) (s : State) (stack : List ℕ) → after_operations s (formula_operations f) stack ≡ Some (number_of_truth (holds_at f s) ∷ stack)
   formula_leaves (truth b) s stack = refl
   formula_leaves (negation f) s stack =
       after_then s (formula_operations f) (Not ∷ []) stack _ (formula_leaves f s stack)
-      ∙ ap (λ v. Some (number_of (not v) ∷ stack)) (truth-number (holds_at f s))
+      ∙ ap (λ v. Some (number_of_truth (not v) ∷ stack)) (truth-number (holds_at f s))
   formula_leaves (connected c f g) s stack =
       after_then s (formula_operations f) (formula_operations g ++ Connect c ∷ []) stack _ (formula_leaves f s stack)
-      ∙ after_then s (formula_operations g) (Connect c ∷ []) _ _ (formula_leaves g s (number_of (holds_at f s) ∷ stack))
-      ∙ ap (λ v. Some (number_of (joined c v (truth_of (number_of (holds_at g s)))) ∷ stack)) (truth-number (holds_at f s))
-      ∙ ap (λ v. Some (number_of (joined c (holds_at f s) v) ∷ stack)) (truth-number (holds_at g s))
+      ∙ after_then s (formula_operations g) (Connect c ∷ []) _ _ (formula_leaves g s (number_of_truth (holds_at f s) ∷ stack))
+      ∙ ap (λ v. Some (number_of_truth (joined c v (truth_of (number_of_truth (holds_at g s)))) ∷ stack)) (truth-number (holds_at f s))
+      ∙ ap (λ v. Some (number_of_truth (joined c (holds_at f s) v) ∷ stack)) (truth-number (holds_at g s))
   formula_leaves (compared c a b) s stack =
       after_then s (expression_operations a) (expression_operations b ++ Compare c ∷ []) stack _ (expression_leaves a s stack)
       ∙ after_then s (expression_operations b) (Compare c ∷ []) _ _ (expression_leaves b s (value_of a s s ∷ stack))
@@ -71,7 +71,7 @@ operations_leave_values = record { expressions = expression_leaves; formulas = f
 pub left_expression : (e : Expression) (s : State) → left_by (expression_operations e) s ≡ Some (value_of e s s)
 left_expression e s = ap (λ o. option_and_then alone o) (expression_leaves e s [])
 
-pub left_formula : (f : Proposition) (s : State) → left_by (formula_operations f) s ≡ Some (number_of (holds_at f s))
+pub left_formula : (f : Proposition) (s : State) → left_by (formula_operations f) s ≡ Some (number_of_truth (holds_at f s))
 left_formula f s = ap (λ o. option_and_then alone o) (formula_leaves f s [])
 
 pub told_formula : (f : Proposition) (s : State) → told_by (formula_operations f) s ≡ Some (holds_at f s)

@@ -3,10 +3,10 @@ use Rattle.std.proofs.Common.{◌≡◌, ◌≢◌, ℕ, suc, Bool, true, false,
 use Rattle.std.proofs.lemmas.Bool.Decides.{eqb_tells}
 use Rattle.std.specs.Prelude.{slice_get, ◌==◌, if◌then◌else◌}
 use Rattle.rg_tree.specs.Statements.{PartTree}
-use Rattle.rg_tree.specs.Traces.{State, Move, Own, Env, Step, move_of, view, IsTraceOf}
+use Rattle.rg_tree.specs.Traces.{State, ViewStep, Own, Env, Step, view_step, view, IsTraceOf}
 use Rattle.rg_tree.specs.Programs.{ViewsRun, all_true, IsRun}
-use Rattle.rg_code.specs.Code.{BlockTree, Makes_step, is_end, CodeRuns, PlacesGo, all_at_end, AllCodeRuns, zeros, IsCodeRun, program_code, CompilerIsRight}
-use Rattle.rg_code.proofs.CodeOfStatements.{part_to, part_from}
+use Rattle.rg_code.specs.Code.{BlockTree, Makes_step, is_end, PlacesGo, all_at_end, AllCodeRuns, zeros, IsCodeRun, program_code, CompilerIsRight}
+use Rattle.rg_code.proofs.CodeOfStatements.{part_to, part_from, CodeRuns}
 
 -- the view of each part, numbered from i, is a run of its code from its place
 abbrev CodeViews : ℕ → List (List BlockTree) → List ℕ → List Bool → State → List Step → Type 0
@@ -44,7 +44,7 @@ ends_join i (c ∷ cs) (k ∷ ks) (e ∷ es) s v =
 ends_join i _ _ _ s v = absurd v
 
 -- one step in front of a view
-front_split : (i : ℕ) (c : List BlockTree) (k k' : ℕ) (e : Bool) (s : State) (x : Step) (ms : List Move) → (x.who ≡ i → Makes_step (slice_get c k) s x.after k') → (x.who ≢ i → k' ≡ k) → CodeRuns c k' x.after ms e → CodeRuns c k s (move_of i x ∷ ms) e
+front_split : (i : ℕ) (c : List BlockTree) (k k' : ℕ) (e : Bool) (s : State) (x : Step) (ms : List ViewStep) → (x.who ≡ i → Makes_step (slice_get c k) s x.after k') → (x.who ≢ i → k' ≡ k) → CodeRuns c k' x.after ms e → CodeRuns c k s (view_step i x ∷ ms) e
 front_split i c k k' e s x ms own other r = by_test (x.who == i) (eqb_tells x.who i)
   where
     by_test : (b : Bool) → ((b ≡ true) × (x.who ≡ i)) ⊎ ((b ≡ false) × (x.who ≢ i)) → CodeRuns c k s ((if b then Own x.after else Env x.after) ∷ ms) e
@@ -52,7 +52,7 @@ front_split i c k k' e s x ms own other r = by_test (x.who == i) (eqb_tells x.wh
     by_test false d = ⊎_elim (λ l. cc (l.0)) (λ o. subst (λ n. CodeRuns c n x.after ms e) (other o.1) r) d
 
 -- where the part goes at the first step of its view
-front_join : (i : ℕ) (c : List BlockTree) (k : ℕ) (e : Bool) (s : State) (x : Step) (ms : List Move) → CodeRuns c k s (move_of i x ∷ ms) e → (k' : ℕ) × (x.who ≡ i → Makes_step (slice_get c k) s x.after k') × (x.who ≢ i → k' ≡ k) × CodeRuns c k' x.after ms e
+front_join : (i : ℕ) (c : List BlockTree) (k : ℕ) (e : Bool) (s : State) (x : Step) (ms : List ViewStep) → CodeRuns c k s (view_step i x ∷ ms) e → (k' : ℕ) × (x.who ≡ i → Makes_step (slice_get c k) s x.after k') × (x.who ≢ i → k' ≡ k) × CodeRuns c k' x.after ms e
 front_join i c k e s x ms r = by_test (x.who == i) (eqb_tells x.who i) r
   where
     by_test : (b : Bool) → ((b ≡ true) × (x.who ≡ i)) ⊎ ((b ≡ false) × (x.who ≢ i)) → CodeRuns c k s ((if b then Own x.after else Env x.after) ∷ ms) e → (k' : ℕ) × (x.who ≡ i → Makes_step (slice_get c k) s x.after k') × (x.who ≢ i → k' ≡ k) × CodeRuns c k' x.after ms e

@@ -6,9 +6,11 @@ use Rattle.rg_code.specs.declared.block.Block.TheVariants.{Do, Await, Test, End}
 use Rattle.rg_code.specs.declared.code.PartCode.{PartCode}
 use Rattle.rg_code.specs.Code.{StoreTree, BlockTree, do_block, await_block, test_block, end_block}
 
+-- a store of the code, without where it lies in memory
 abbrev pub store : Store → StoreTree
 store a = record { target = a.word; value = a.value.items }
 
+-- a block of the code, without where it lies in memory
 abbrev pub block : Block → BlockTree
 block (Do row next act) = do_block row next (map store act.items)
 block (Await row next b act) = await_block row next b.items (map store act.items)

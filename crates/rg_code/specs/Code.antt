@@ -3,7 +3,7 @@ use Rattle.std.specs.Prelude.{◌≡◌, ◌≢◌, ℕ, suc, ◌+◌, Bool, tru
 use Rattle.rg_words.specs.Layout.{Word}
 use Rattle.rg_tree.specs.Trees.{Assignment}
 use Rattle.rg_tree.specs.Statements.{Statement, skip, assign, await, sequence, branch, loop, Items, one, more, PartTree, ProgramTree}
-use Rattle.rg_tree.specs.Traces.{State, Move, Own, Env, Step, IsTraceOf}
+use Rattle.rg_tree.specs.Traces.{State, Step, IsTraceOf}
 use Rattle.rg_tree.specs.Programs.{IsRun}
 use Rattle.rg_code.specs.Operations.{left_by, told_by, expression_operations, formula_operations}
 use Rattle.rg_code.specs.declared.operation.Operation.{Operation}
@@ -33,18 +33,13 @@ Makes_step (Some (await_block row next b act)) s t to = (told_by b s ≡ Some tr
 Makes_step (Some (test_block row yes_place no_place b)) s t to = (t ≡ s) × (option_map (λ v. if v then yes_place else no_place) (told_by b s) ≡ Some to)
 Makes_step (Some end_block) s t to = ⊥
 
+-- there is a block, and it is an end
 abbrev pub is_end : Option BlockTree → Bool
 is_end None = false
 is_end (Some (do_block row next act)) = false
 is_end (Some (await_block row next b act)) = false
 is_end (Some (test_block row yes_place no_place b)) = false
 is_end (Some end_block) = true
-
--- the runs of one part's code from a place, as the part sees them
-abbrev pub CodeRuns : List BlockTree → ℕ → State → List Move → Bool → Type 0
-CodeRuns code at s [] ended = ended ≡ is_end (slice_get code at)
-CodeRuns code at s (Env t ∷ ms) ended = CodeRuns code at t ms ended
-CodeRuns code at s (Own t ∷ ms) ended = (to : ℕ) × Makes_step (slice_get code at) s t to × CodeRuns code to t ms ended
 
 -- one step of the code of all parts, numbered from i: the part who makes it goes on from its place, all others stay
 abbrev pub PlacesGo : ℕ → List (List BlockTree) → List ℕ → List ℕ → State → Step → Type 0
@@ -53,6 +48,7 @@ PlacesGo i (c ∷ cs) (k ∷ ks) (k' ∷ ks') s x =
     (x.who ≡ i → Makes_step (slice_get c k) s x.after k') × (x.who ≢ i → k' ≡ k) × PlacesGo (suc i) cs ks ks' s x
 PlacesGo i _ _ _ s x = ⊥
 
+-- each part's place is an end of its code
 abbrev pub all_at_end : List (List BlockTree) → List ℕ → Bool
 all_at_end (c ∷ cs) (k ∷ ks) = is_end (slice_get c k) && all_at_end cs ks
 all_at_end _ _ = true
@@ -63,6 +59,7 @@ AllCodeRuns codes places s [] ended = ended ≡ all_at_end codes places
 AllCodeRuns codes places s (x ∷ xs) ended =
     (places' : List ℕ) × PlacesGo 1 codes places places' s x × AllCodeRuns codes places' x.after xs ended
 
+-- the first place of each part's code
 abbrev pub zeros : List (List BlockTree) → List ℕ
 zeros [] = []
 zeros (c ∷ cs) = 0 ∷ zeros cs
@@ -109,6 +106,7 @@ abbrev mutual
 abbrev pub part_code : Statement → List BlockTree
 part_code s = code_of s 0 (count_of s) ++ end_block ∷ []
 
+-- the code of each part, in their order
 abbrev pub program_code : List PartTree → List (List BlockTree)
 program_code [] = []
 program_code (p ∷ ps) = part_code p.body ∷ program_code ps
@@ -118,5 +116,6 @@ abbrev pub HasRunsOf : ProgramTree → List (List BlockTree) → Type 0
 HasRunsOf program codes =
     (s : State) (xs : List Step) (ended : Bool) → IsCodeRun program.words codes s xs ended ↔ IsRun program s xs ended
 
+-- the code of each program has exactly its runs
 abbrev pub CompilerIsRight : Type 0
 CompilerIsRight = (program : ProgramTree) → HasRunsOf program (program_code program.parts)

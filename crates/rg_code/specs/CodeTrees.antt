@@ -13,5 +13,6 @@ code_blocks c = map blocks c.parts.items
 abbrev pub names_of_code : Code → List (List ℕ)
 names_of_code c = map (λ p. string_bytes p.name) c.parts.items
 
+-- the names of a program's parts, in their order
 abbrev pub names_of_program : Program → List (List ℕ)
 names_of_program p = map (λ q. string_bytes q.name) p.parts.items

@@ -17,6 +17,7 @@ OperationFits n (variants.Binary o w) = w ≤ MOST_WIDTH
 OperationFits n (variants.Shifted d w k) = (w ≤ MOST_WIDTH) × (k ≤ MOST_SHIFT)
 OperationFits n _ = Unit {0}
 
+-- each of these operations speaks of the first n words alone
 abbrev pub OperationsFit : ℕ → List Operation → Type 0
 OperationsFit n [] = Unit {0}
 OperationsFit n (o ∷ os) = OperationFits n o × OperationsFit n os
@@ -35,6 +36,7 @@ abbrev pub IsLegalStore : List Word → StoreTree → Type 0
 IsLegalStore words a =
     (a.target < length words) × (get_or (fixed_of words) a.target false ≡ false) × LeavesBelow words (2 ^ slice_index (widths_of words) a.target) a.value
 
+-- each of these stores is legal
 abbrev pub AreLegalStores : List Word → List StoreTree → Type 0
 AreLegalStores words [] = Unit {0}
 AreLegalStores words (a ∷ act) = IsLegalStore words a × AreLegalStores words act
@@ -46,6 +48,7 @@ IsLegalBlock words n (await_block row next b act) = (next < n) × LeavesBelow wo
 IsLegalBlock words n (test_block row yes_place no_place b) = (yes_place < n) × (no_place < n) × LeavesBelow words 2 b
 IsLegalBlock words n end_block = Unit {0}
 
+-- each of these blocks is legal, in a part with n blocks
 abbrev pub AreLegalBlocks : List Word → ℕ → List BlockTree → Type 0
 AreLegalBlocks words n [] = Unit {0}
 AreLegalBlocks words n (b ∷ bs) = IsLegalBlock words n b × AreLegalBlocks words n bs

@@ -21,48 +21,52 @@ use Rattle.rg_code.specs.Code.{StoreTree, BlockTree, do_block, await_block, test
 use Rattle.rg_code.specs.BlockView.{blocks}
 
 -- an operation on two numbers of w bits
-abbrev pub operator_text : Operator → ℕ → List ℕ
-operator_text Add w = codes "add " ++ decimal w
-operator_text Subtract w = codes "sub " ++ decimal w
-operator_text BitAnd w = codes "band"
-operator_text BitOr w = codes "bor"
-operator_text BitXor w = codes "bxor"
+abbrev pub listed_operator : Operator → ℕ → List ℕ
+listed_operator Add w = codes "add " ++ decimal w
+listed_operator Subtract w = codes "sub " ++ decimal w
+listed_operator BitAnd w = codes "band"
+listed_operator BitOr w = codes "bor"
+listed_operator BitXor w = codes "bxor"
 
 -- a shift by k of a number of w bits
-abbrev pub shift_text : Shift → ℕ → ℕ → List ℕ
-shift_text Left w k = codes "shl " ++ decimal w ++ codes " " ++ decimal k
-shift_text Right w k = codes "shr " ++ decimal k
+abbrev pub listed_shift : Shift → ℕ → ℕ → List ℕ
+listed_shift Left w k = codes "shl " ++ decimal w ++ codes " " ++ decimal k
+listed_shift Right w k = codes "shr " ++ decimal k
 
-abbrev pub comparison_text : Comparison → List ℕ
-comparison_text Equal = codes "eq"
-comparison_text NotEqual = codes "ne"
-comparison_text Less = codes "lt"
-comparison_text LessOrEqual = codes "le"
-comparison_text Greater = codes "gt"
-comparison_text GreaterOrEqual = codes "ge"
+-- a comparison of two numbers
+abbrev pub listed_comparison : Comparison → List ℕ
+listed_comparison Equal = codes "eq"
+listed_comparison NotEqual = codes "ne"
+listed_comparison Less = codes "lt"
+listed_comparison LessOrEqual = codes "le"
+listed_comparison Greater = codes "gt"
+listed_comparison GreaterOrEqual = codes "ge"
 
-abbrev pub connective_text : Connective → List ℕ
-connective_text And = codes "and"
-connective_text Or = codes "or"
-connective_text Implies = codes "implies"
-connective_text Iff = codes "iff"
+-- a connective of two truth values
+abbrev pub listed_connective : Connective → List ℕ
+listed_connective And = codes "and"
+listed_connective Or = codes "or"
+listed_connective Implies = codes "implies"
+listed_connective Iff = codes "iff"
 
 -- an operation: its name, and behind it its number, its word from 0, its width where that matters, and its shift count
 abbrev pub operation_text : Operation → List ℕ
 operation_text (variants.Number n) = codes "num " ++ decimal n
 operation_text (variants.Word k) = codes "word " ++ decimal k
 operation_text (variants.Inverse w) = codes "inv " ++ decimal w
-operation_text (variants.Binary o w) = operator_text o w
-operation_text (variants.Shifted d w k) = shift_text d w k
+operation_text (variants.Binary o w) = listed_operator o w
+operation_text (variants.Shifted d w k) = listed_shift d w k
 operation_text variants.Pick = codes "pick"
-operation_text (variants.Compare c) = comparison_text c
+operation_text (variants.Compare c) = listed_comparison c
 operation_text (variants.Truth b) = if b then codes "true" else codes "false"
 operation_text variants.Not = codes "not"
-operation_text (variants.Connect c) = connective_text c
+operation_text (variants.Connect c) = listed_connective c
 
+-- a number, as a JSON value
 abbrev pub number_data : ℕ → Data
 number_data n = json.number (unsigned n)
 
+-- a list, as a JSON value
 abbrev pub list_data : List Data → Data
 list_data ds = array (items_of ds)
 
@@ -74,6 +78,7 @@ operations_data os = list_data (map (λ o. string (operation_text o)) os)
 abbrev pub store_data : StoreTree → Data
 store_data a = list_data (number_data a.target ∷ operations_data a.value ∷ [])
 
+-- stores: a list of theirs
 abbrev pub stores_data : List StoreTree → Data
 stores_data act = list_data (map store_data act)
 

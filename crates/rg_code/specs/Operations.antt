@@ -7,8 +7,8 @@ use Rattle.rg_code.specs.declared.operation.Operation.{Operation}
 use Rattle.rg_code.specs.declared.operation.Operation.TheVariants.{Number, Word, Inverse, Binary, Shifted, Pick, Compare, Truth, Not, Connect}
 
 -- a truth value as a number
-abbrev pub number_of : Bool → ℕ
-number_of b = cond b 1 0
+abbrev pub number_of_truth : Bool → ℕ
+number_of_truth b = cond b 1 0
 
 -- a number as a truth value
 abbrev pub truth_of : ℕ → Bool
@@ -40,10 +40,10 @@ after_operation s (Inverse w) stack = on_one (λ a. 2 ^ w - 1 - a) stack
 after_operation s (Binary o w) stack = on_two (operated o w) stack
 after_operation s (Shifted d w k) stack = on_one (λ a. moved d w a k) stack
 after_operation s Pick stack = on_three (λ f a b. cond (truth_of f) a b) stack
-after_operation s (Compare c) stack = on_two (λ a b. number_of (is_so c a b)) stack
-after_operation s (Truth b) stack = Some (number_of b ∷ stack)
-after_operation s Not stack = on_one (λ a. number_of (not (truth_of a))) stack
-after_operation s (Connect c) stack = on_two (λ a b. number_of (joined c (truth_of a) (truth_of b))) stack
+after_operation s (Compare c) stack = on_two (λ a b. number_of_truth (is_so c a b)) stack
+after_operation s (Truth b) stack = Some (number_of_truth b ∷ stack)
+after_operation s Not stack = on_one (λ a. number_of_truth (not (truth_of a))) stack
+after_operation s (Connect c) stack = on_two (λ a b. number_of_truth (joined c (truth_of a) (truth_of b))) stack
 
 -- the stack after operations, one after another
 abbrev pub after_operations : State → List Operation → List ℕ → Option (List ℕ)
@@ -86,4 +86,4 @@ abbrev mutual
 -- the operations of an expression leave its value on top of the stack, and those of a formula its truth value, and nothing else
 pub record OperationsLeaveValues : Type 0 where
   pub expressions : (e : Expression) (s : State) (stack : List ℕ) → after_operations s (expression_operations e) stack ≡ Some (value_of e s s ∷ stack)
-  pub formulas : (f : Proposition) (s : State) (stack : List ℕ) → after_operations s (formula_operations f) stack ≡ Some (number_of (holds_at f s) ∷ stack)
+  pub formulas : (f : Proposition) (s : State) (stack : List ℕ) → after_operations s (formula_operations f) stack ≡ Some (number_of_truth (holds_at f s) ∷ stack)

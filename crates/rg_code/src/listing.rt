@@ -6,7 +6,7 @@ ghost use Rattle.serde_json.specs.View.{view};
 ghost use Rattle.serde_json.specs.Written.{compact_text};
 ghost use Rattle.rg_code.specs.Code.{do_block, await_block, test_block, end_block};
 ghost use Rattle.rg_code.specs.BlockView.{block as block_tree, store as store_tree};
-ghost use Rattle.rg_code.specs.Listing.{operator_text, shift_text, comparison_text, connective_text, operation_text, list_data, operations_data, store_data, stores_data, block_data, part_data, word_data, listing_data};
+ghost use Rattle.rg_code.specs.Listing.{listed_operator, listed_shift, listed_comparison, listed_connective, operation_text, list_data, operations_data, store_data, stores_data, block_data, part_data, word_data, listing_data};
 
 use crate::block::{Block, Store};
 use crate::code::{Code, PartCode};
@@ -28,7 +28,7 @@ fn numbered(alloc: Global, name: &str, n: u64) -> Result<String, AllocError>
 }
 
 fn operator_text(alloc: Global, operator: Operator, width: u32) -> Result<String, AllocError>
-    ensures { IfOk result (λ text. string_bytes text ≡ operator_text operator width) }
+    ensures { IfOk result (λ text. string_bytes text ≡ listed_operator operator width) }
 {
     match operator {
         Operator::Add => numbered(alloc, "add ", u64::from(width)),
@@ -40,7 +40,7 @@ fn operator_text(alloc: Global, operator: Operator, width: u32) -> Result<String
 }
 
 fn shift_text(alloc: Global, shift: Shift, width: u32, count: u32) -> Result<String, AllocError>
-    ensures { IfOk result (λ text. string_bytes text ≡ shift_text shift width count) }
+    ensures { IfOk result (λ text. string_bytes text ≡ listed_shift shift width count) }
 {
     match shift {
         Shift::Left => {
@@ -55,7 +55,7 @@ fn shift_text(alloc: Global, shift: Shift, width: u32, count: u32) -> Result<Str
 }
 
 fn comparison_text(comparison: Comparison) -> &'static str
-    ensures { result.now ≡ comparison_text comparison }
+    ensures { result.now ≡ listed_comparison comparison }
 {
     match comparison {
         Comparison::Equal => "eq",
@@ -68,7 +68,7 @@ fn comparison_text(comparison: Comparison) -> &'static str
 }
 
 fn connective_text(connective: Connective) -> &'static str
-    ensures { result.now ≡ connective_text connective }
+    ensures { result.now ≡ listed_connective connective }
 {
     match connective {
         Connective::And => "and",

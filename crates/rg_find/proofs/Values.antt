@@ -3,7 +3,7 @@ use Rattle.std.proofs.lemmas.Bool.Decides.{nat_tests}
 use Rattle.std.proofs.lemmas.List.Elements.{All-push}
 use Rattle.std.proofs.lemmas.List.{get_or_default}
 use Rattle.std.specs.Prelude.{All, ◌++◌, ◌∷◌, []}
-use Rattle.rg_hints.specs.Lines.{Line}
+use Rattle.rg_hints.specs.Lines.{HintLine}
 use lib.Signed.{lt_z}
 use Rattle.std.specs.Int.RustNames.{unsigned_abs}
 use Rattle.rg_clauses.specs.ClauseLists.{literal_value, value_at, Satisfies}
@@ -20,9 +20,9 @@ positive_value values (pos n) b h e = e
 positive_value values (negsuc n) b h e = cc
 
 -- numbers up to the last, and one more line
-pub numbers_pushed : (lines : List Line) (line : Line) (last next : ℕ) → All (λ (l : Line). l.id ≤ last) lines → last ≤ next → line.id ≤ next → All (λ (l : Line). l.id ≤ next) (lines ++ line ∷ [])
+pub numbers_pushed : (lines : List HintLine) (line : HintLine) (last next : ℕ) → All (λ (l : HintLine). l.id ≤ last) lines → last ≤ next → line.id ≤ next → All (λ (l : HintLine). l.id ≤ next) (lines ++ line ∷ [])
 numbers_pushed lines line last next all le here =
-    All-push (λ (l : Line). l.id ≤ next) lines line (λ k d h. omega (arith, all k d h)) here
+    All-push (λ (l : HintLine). l.id ≤ next) lines line (λ k d h. omega (arith, all k d h)) here
 
 -- what holds of each place holds of all items
 pub all_of : (P : List ℤ → Type 0) (xs : List (List ℤ)) → ((k : ℕ) → k < length xs → P (get_or xs k [])) → All P xs

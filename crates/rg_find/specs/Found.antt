@@ -8,12 +8,6 @@ use Rattle.rg_hints.specs.Verdict.{IsClosed}
 use Rattle.rg_find.specs.declared.answer.Found.{Found}
 use Rattle.rg_find.specs.declared.answer.Found.TheVariants.{Lines, Values, GaveUp}
 
--- lines are over as many given clauses as the formula has
-abbrev pub IsOver : Cnf → Found → Type 0
-IsOver f (Lines lines) = lines.given ≡ length f.clauses
-IsOver f (Values values) = Unit {0}
-IsOver f GaveUp = Unit {0}
-
 -- lines are over the clauses, are closed for them, and no values satisfy the clauses; values are those of all variables, and satisfy the clauses
 abbrev pub IsFound : Cnf → Found → Type 0
 IsFound f (Lines lines) = (lines.given ≡ length f.clauses) × IsClosed f.clauses lines × IsUnsatisfiable f.clauses

@@ -1,10 +1,11 @@
 //! The answer: lines that are checked, or values that are evaluated.
 
 ghost use Rattle.std.specs.Prelude.{◌≡◌, All, IfOk, IfErr, IsTrue, false, slice_index_or};
+ghost use Rattle.rg_find.specs.Inner.Searched.{IsOver};
 ghost use Rattle.rg_words.specs.Refusals.{no_memory, IsRefusedFor};
 ghost use Rattle.rg_words.specs.declared.limits.TheConstants.{MOST_VARIABLES};
 ghost use Rattle.rg_clauses.specs.ClauseLists.{IsLiteral, Satisfies, SatisfiesClause, literal_value, value_at};
-ghost use Rattle.rg_find.specs.Found.{IsFound, IsOver, fault_of};
+ghost use Rattle.rg_find.specs.Found.{IsFound, fault_of};
 
 use crate::logged_lines::lines_of;
 use rg_clauses::Clauses;
@@ -21,7 +22,7 @@ pub enum Found {
     Lines(Lines),
     /// A value for each variable; the first is of the variable 1.
     Values(Vec<bool>),
-    /// All decisions were used up.
+    /// The steps were used up, or the lines became too many.
     GaveUp,
 }
 
@@ -118,12 +119,11 @@ fn confirmed(alloc: Global, clauses: &Clauses, found: Found) -> Result<Found, Re
     }
 }
 
-/// Looks for lines that close the clauses or for values that satisfy them, with at most so many decisions, each on an
-/// input.
+/// Looks for lines that close the clauses or for values that satisfy them, with at most so many decisions on inputs.
 ///
-/// Before the first of them comes bounded work that isn't counted: lemmas, which are searches under an assumption. Gates are
-/// proved equal to others, and then the assertion is proved false; what a lemma taught stays. Values are never given
-/// by a lemma. `GaveUp` comes after exactly so many decisions.
+/// The steps bound all other work too, by constants: the conflicts, and the values that are followed to show what is equal. With
+/// none only unit clauses are followed. `GaveUp` comes where all of that is used up, or where the lines could no longer fit into
+/// a proofs file.
 ///
 /// # Errors
 ///

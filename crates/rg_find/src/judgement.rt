@@ -23,7 +23,7 @@ pub enum Judged {
     Holds(Lines),
     /// It fails at this state, and at the second one where it speaks of any two.
     Fails(State, Option<State>),
-    /// All decisions were used up.
+    /// The steps were used up, or the lines became too many.
     GaveUp,
 }
 

@@ -1,7 +1,7 @@
 //! The values of gates under values of the inputs.
 
 ghost use Rattle.std.specs.Prelude.{◌≡◌, ◌&&◌, length, take, IfOk};
-ghost use Rattle.rg_gates.specs.Circuit.{AreValues, IsLitOf, lit_value};
+ghost use Rattle.rg_gates.specs.Circuit.{AreGateValues, IsLitOf, lit_value};
 
 use crate::{Gate, Gates, Lit, Table};
 use std::alloc::{AllocError, Global};
@@ -10,7 +10,7 @@ impl<T: Table> Gates<T> {
     /// The value of each variable, in order: first the inputs, then the gates.
     pub fn eval(&self, alloc: Global, inputs: &[bool]) -> Result<Vec<bool>, AllocError>
         requires { length inputs.now ≡ self.now.inputs }
-        ensures values { IfOk result (λ values. AreValues self.now values.items) }
+        ensures values { IfOk result (λ values. AreGateValues self.now values.items) }
         ensures inputs { IfOk result (λ values. take self.now.inputs values.items ≡ inputs.now) }
     {
         let mut values = Vec::with_capacity(alloc, self.variables() as usize)?;

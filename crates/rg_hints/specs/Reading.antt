@@ -6,7 +6,7 @@ use Rattle.rg_words.specs.declared.refusal.Refusal.{Refusal}
 use Rattle.rg_words.specs.declared.refusal.RefusalNumber.TheVariants.{Unreadable, IdOrder}
 use Rattle.rg_words.specs.declared.refusal.SourceFile.TheVariants.{Proofs}
 use Rattle.rg_words.specs.Refusals.{no_memory, refused_at}
-use Rattle.rg_hints.specs.Lines.{Line, Section}
+use Rattle.rg_hints.specs.Lines.{HintLine, Section}
 use Rattle.rg_hints.specs.Text.{fields_of, number_in, positive, literal_in}
 
 -- what a line of the text says: nothing, or a hint line with its number, literals and hints; or it has no known form
@@ -16,9 +16,11 @@ pub data Reading : Type 0 where
   unreadable : Reading
 
 infixl 10 ◌>>=◌
+-- what f gives for the value, where there is one
 abbrev pub ◌>>=◌ : {A B : Type 0} → Option A → (A → Option B) → Option B
 o >>= f = option_and_then f o
 
+-- the number is 0
 abbrev pub is_zero : ℤ → Bool
 is_zero (pos n) = n == 0
 is_zero (negsuc n) = false
@@ -29,9 +31,11 @@ up_to_zero number zero [] = None
 up_to_zero number zero (field ∷ fields) =
     number field >>= λ x. if zero x then Some ([], fields) else (up_to_zero number zero fields >>= λ r. Some (x ∷ r.0, r.1))
 
+-- the literals before the first 0, and the fields behind it
 abbrev pub literals_of : List (List ℕ) → Option (List ℤ × List (List ℕ))
 literals_of fields = up_to_zero literal_in is_zero fields
 
+-- the hints before the first 0, and the fields behind it
 abbrev pub hints_of : List (List ℕ) → Option (List ℕ × List (List ℕ))
 hints_of fields = up_to_zero number_in (λ n. n == 0) fields
 
@@ -58,17 +62,18 @@ hint_line_of first rest = do
   hints ← hints_of literals.1
   ended (hint_line id literals.0 hints.0) hints.1
 
+-- what a line with these fields says
 abbrev pub reading_of : List (List ℕ) → Reading
 reading_of [] = passed_over
 reading_of (first ∷ rest) = if is_passed_over (first ∷ rest) then passed_over else unwrap_or (hint_line_of first rest) unreadable
 
 -- one more line in front
-abbrev pub with_first : Line → Result (List Line) Refusal → Result (List Line) Refusal
+abbrev pub with_first : HintLine → Result (List HintLine) Refusal → Result (List HintLine) Refusal
 with_first line (Ok found) = Ok (line ∷ found)
 with_first line (Err r) = Err r
 
 -- a line of the text with this number before the rest, of which the greatest number before it decides: a line that has no known form, or a number that does not rise, is a fault
-abbrev pub then_rest : Reading → ℕ → ℕ → (ℕ → Result (List Line) Refusal) → Result (List Line) Refusal
+abbrev pub then_rest : Reading → ℕ → ℕ → (ℕ → Result (List HintLine) Refusal) → Result (List HintLine) Refusal
 then_rest passed_over number last rest = rest last
 then_rest unreadable number last rest = Err (refused_at Unreadable Proofs number)
 then_rest (hint_line id literals hints) number last rest =
@@ -77,12 +82,13 @@ then_rest (hint_line id literals hints) number last rest =
     else Err (refused_at IdOrder Proofs number)
 
 -- the hint lines of lines of a text, the first of which has this number, where the greatest number before is this one; or the first fault
-abbrev pub hint_lines_of : List (List ℕ) → ℕ → ℕ → Result (List Line) Refusal
+abbrev pub hint_lines_of : List (List ℕ) → ℕ → ℕ → Result (List HintLine) Refusal
 hint_lines_of [] number last = Ok []
 hint_lines_of (line ∷ rest) number last =
     then_rest (reading_of (fields_of line)) number last (λ greatest. hint_lines_of rest (number + 1) greatest)
 
-abbrev pub section_with : ℕ → Result (List Line) Refusal → Result Section Refusal
+-- a section of these lines over so many given clauses, or the refusal
+abbrev pub section_with : ℕ → Result (List HintLine) Refusal → Result Section Refusal
 section_with given (Ok found) = Ok (record { given = given; lines = found })
 section_with given (Err r) = Err r
 

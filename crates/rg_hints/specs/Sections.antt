@@ -53,6 +53,7 @@ named_condition count last None = Err Unreadable
 named_condition count last (Some k) =
     if nat_lt 0 last && nat_le k last then Err IdOrder else (if (k == 0) || nat_lt count k then Err UnknownCondition else Ok k)
 
+-- one more section in front, or the refusal
 abbrev pub with_section : SectionText → Result (List SectionText) Refusal → Result (List SectionText) Refusal
 with_section section (Ok sections) = Ok (section ∷ sections)
 with_section section (Err r) = Err r

@@ -3,8 +3,8 @@
 ghost use Rattle.std.specs.Prelude.{◌≡◌, ◌++◌, ◌<◌, length, codes, OnOk};
 ghost use Rattle.std.specs.List.{flat_map};
 ghost use Rattle.std.specs.String.{string_bytes};
-ghost use Rattle.rg_hints.specs.Lines.{line_at};
-ghost use Rattle.rg_hints.specs.Normal.{line_text};
+ghost use Rattle.rg_hints.specs.Lines.{hint_line_at};
+ghost use Rattle.rg_hints.specs.Normal.{hint_line_text};
 
 use crate::lines::Lines;
 use itoa::{Buffer, Integer};
@@ -34,7 +34,7 @@ fn push_numbers<I: Integer>(text: &mut String, numbers: &[I]) -> Result<(), Allo
 /// Adds a line.
 fn push_line(text: &mut String, lines: &Lines, index: usize) -> Result<(), AllocError>
     requires { index < length lines.now.lines }
-    ensures { OnOk result (string_bytes text.new ≡ string_bytes text.old ++ line_text (line_at lines.now index)) }
+    ensures { OnOk result (string_bytes text.new ≡ string_bytes text.old ++ hint_line_text (hint_line_at lines.now index)) }
 {
     push_number(text, lines.id(index))?;
     push_numbers(text, lines.literals(index))?;

@@ -10,21 +10,24 @@ AreAtBlocks (c ∷ cs) (k ∷ ks) = (k < length c) × AreAtBlocks cs ks
 AreAtBlocks [] (k ∷ ks) = ⊥
 AreAtBlocks (c ∷ cs) [] = ⊥
 
--- the most operations of one store, of one list in a block, in a part, and in a code
+-- the most operations of one of these stores
 abbrev pub stores_room : List StoreTree → ℕ
 stores_room [] = 0
 stores_room (a ∷ act) = max (length a.value) (stores_room act)
 
+-- the most operations of one list in a block
 abbrev pub block_room : BlockTree → ℕ
 block_room (do_block row next act) = stores_room act
 block_room (await_block row next b act) = max (length b) (stores_room act)
 block_room (test_block row yes_place no_place b) = length b
 block_room end_block = 0
 
+-- the same in the code of a part
 abbrev pub blocks_room : List BlockTree → ℕ
 blocks_room [] = 0
 blocks_room (b ∷ bs) = max (block_room b) (blocks_room bs)
 
+-- the same in the code of all parts
 abbrev pub codes_room : List (List BlockTree) → ℕ
 codes_room [] = 0
 codes_room (c ∷ cs) = max (blocks_room c) (codes_room cs)

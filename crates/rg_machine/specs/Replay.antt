@@ -12,6 +12,7 @@ pub data Happening : Type 0 where
   by_part : ℕ → Happening
   by_environment : State → Happening
 
+-- an event of the code, without where it lies in memory
 abbrev pub happening : Event → Happening
 happening (Part i) = by_part i
 happening (Environment s) = by_environment s.values
@@ -21,6 +22,7 @@ abbrev pub EventFits : Configuration → Event → Type 0
 EventFits c (Part i) = (0 < i) × (i ≤ length c.codes)
 EventFits c (Environment s) = s.widths ≡ widths_of c.words
 
+-- each of these events fits
 abbrev pub EventsFit : Configuration → List Event → Type 0
 EventsFit c [] = Unit {0}
 EventsFit c (e ∷ es) = EventFits c e × EventsFit c es

@@ -164,4 +164,14 @@ impl<'e> Config<'e> {
         replace(&mut self.state, state);
         true
     }
+
+    /// Makes this the other configuration, of the same code. It takes no memory.
+    pub fn follow(&mut self, other: &Config<'e>)
+        requires words { other.now.words ≡ self.old.words }
+        requires codes { other.now.codes ≡ self.old.codes }
+        ensures { self.new ≡ other.now }
+    {
+        replace(&mut self.state, &other.state);
+        self.places.copy_from_slice(&other.places);
+    }
 }

@@ -5,7 +5,7 @@ pub mod config;
 pub mod event;
 pub mod laws;
 mod lead;
-mod replace;
+pub mod replace;
 mod replay;
 mod room;
 mod stack;

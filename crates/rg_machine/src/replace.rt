@@ -14,7 +14,7 @@ fn same_if(fixed: bool, before: u64, after: u64) -> bool
 }
 
 /// Whether the fixed words have the same values in both states.
-pub(crate) fn agree_on_fixed(layout: &Layout, before: &State, after: &State) -> bool
+pub fn agree_on_fixed(layout: &Layout, before: &State, after: &State) -> bool
     requires before { before.now.widths ≡ widths_of layout.now }
     requires after { after.now.widths ≡ widths_of layout.now }
     ensures { IsTrue result ↔ AgreeOnFixed layout.now before.now.values after.now.values }
@@ -29,8 +29,8 @@ pub(crate) fn agree_on_fixed(layout: &Layout, before: &State, after: &State) -> 
     true
 }
 
-/// Gives each word the value that it has in another state.
-pub(crate) fn replace(state: &mut State, by: &State)
+/// Gives each word the value that it has in another state. It takes no memory.
+pub fn replace(state: &mut State, by: &State)
     requires { state.old.widths ≡ by.now.widths }
     ensures values { state.new.values ≡ by.now.values }
     ensures widths { state.new.widths ≡ state.old.widths }

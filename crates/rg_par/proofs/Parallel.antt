@@ -8,10 +8,10 @@ use Rattle.rg_words.specs.States.{IsState, IsPair}
 use Rattle.rg_tree.specs.Trees.{Proposition}
 use Rattle.rg_tree.specs.Meaning.{holds}
 use Rattle.rg_tree.specs.Statements.{Specification, PartTree, ProgramTree}
-use Rattle.rg_tree.specs.Traces.{State, holds_at, Move, Own, Env, Step, last, last_of, move_of, view, IsTrace, IsTraceOf, Inside, EnvInside}
+use Rattle.rg_tree.specs.Traces.{State, holds_at, ViewStep, Own, Env, Step, last, last_of, view_step, view, IsTrace, IsTraceOf, Inside, EnvInside}
 use Rattle.rg_tree.specs.Runs.{runs}
 use Rattle.rg_tree.specs.Programs.{nth, ViewsRun, all_true, OthersInside, PartsInside, IsSatisfied}
-use Rattle.rg_tree.specs.RuleConditions.{reaches, allows, IsMet, AllMet, AllHold, IsInside}
+use Rattle.rg_tree.specs.RuleConditions.{reaches, allows, IsMet, AllMet, AllHold, StepsInside}
 use Rattle.rg_tree.proofs.Guards.{Guards, StatementSound}
 use Rattle.rg_tree.proofs.Asked.{inside_more, met_front, met_back}
 use Rattle.rg_tree.proofs.Beginnings.{Satisfies-Sound}
@@ -20,7 +20,7 @@ use Rattle.rg_par.specs.Parallel.{pre_conditions, rely_conditions, guar_conditio
 -- from a fact about a view at its first step
 
 -- the part's guard goes on, if a step of another part is inside its rely
-guards_on : (R G : State → State → Bool) (s : State) (i : ℕ) (x : Step) (ms : List Move) → Guards R G s (move_of i x ∷ ms) → (x.who ≢ i → Inside R s x.after) → Guards R G x.after ms
+guards_on : (R G : State → State → Bool) (s : State) (i : ℕ) (x : Step) (ms : List ViewStep) → Guards R G s (view_step i x ∷ ms) → (x.who ≢ i → Inside R s x.after) → Guards R G x.after ms
 guards_on R G s i x ms g h = by_test (x.who == i) (eqb_tells x.who i) g
   where
     by_test : (b : Bool) → ((b ≡ true) × (x.who ≡ i)) ⊎ ((b ≡ false) × (x.who ≢ i)) → Guards R G s ((if b then Own x.after else Env x.after) ∷ ms) → Guards R G x.after ms
@@ -28,12 +28,12 @@ guards_on R G s i x ms g h = by_test (x.who == i) (eqb_tells x.who i) g
     by_test false d k = ⊎_elim (λ l. cc (l.0)) (λ r. k (h r.1)) d
 
 -- its own step is inside its guarantee
-guards_own : (R G : State → State → Bool) (s : State) (x : Step) (ms : List Move) → Guards R G s (move_of x.who x ∷ ms) → Inside G s x.after
+guards_own : (R G : State → State → Bool) (s : State) (x : Step) (ms : List ViewStep) → Guards R G s (view_step x.who x ∷ ms) → Inside G s x.after
 guards_own R G s x ms g =
     let e = eq-eqb x.who x.who refl in
     (subst (λ b. Guards R G s ((if b then Own x.after else Env x.after) ∷ ms)) e g).0
 
-env_on : (R : State → State → Bool) (s : State) (i : ℕ) (x : Step) (ms : List Move) → (x.who ≢ i → Inside R s x.after) → EnvInside R x.after ms → EnvInside R s (move_of i x ∷ ms)
+env_on : (R : State → State → Bool) (s : State) (i : ℕ) (x : Step) (ms : List ViewStep) → (x.who ≢ i → Inside R s x.after) → EnvInside R x.after ms → EnvInside R s (view_step i x ∷ ms)
 env_on R s i x ms h env = by_test (x.who == i) (eqb_tells x.who i)
   where
     by_test : (b : Bool) → ((b ≡ true) × (x.who ≡ i)) ⊎ ((b ≡ false) × (x.who ≢ i)) → EnvInside R s ((if b then Own x.after else Env x.after) ∷ ms)
@@ -64,23 +64,23 @@ pre_at words pre [] k p h e = cc e
 pre_at words pre (q ∷ ps) zero p h e = let same : q ≡ p = cc e in subst (λ x. IsMet words (reaches (pre ∷ []) [] x.spec.pre)) same h.0
 pre_at words pre (q ∷ ps) (suc k) p h e = pre_at words pre ps k p h.1 e
 
-rely_at : (words : List Word) (rely : Proposition) (ps : List PartTree) (k : ℕ) (p : PartTree) → AllMet words (rely_conditions rely ps) → slice_get ps k ≡ Some p → IsInside words (holds rely) (holds p.spec.rely)
+rely_at : (words : List Word) (rely : Proposition) (ps : List PartTree) (k : ℕ) (p : PartTree) → AllMet words (rely_conditions rely ps) → slice_get ps k ≡ Some p → StepsInside words (holds rely) (holds p.spec.rely)
 rely_at words rely [] k p h e = cc e
-rely_at words rely (q ∷ ps) zero p h e = let same : q ≡ p = cc e in subst (λ x. IsInside words (holds rely) (holds x.spec.rely)) same h.0
+rely_at words rely (q ∷ ps) zero p h e = let same : q ≡ p = cc e in subst (λ x. StepsInside words (holds rely) (holds x.spec.rely)) same h.0
 rely_at words rely (q ∷ ps) (suc k) p h e = rely_at words rely ps k p h.1 e
 
-guar_at : (words : List Word) (guar : Proposition) (ps : List PartTree) (k : ℕ) (p : PartTree) → AllMet words (guar_conditions guar ps) → slice_get ps k ≡ Some p → IsInside words (holds p.spec.guar) (holds guar)
+guar_at : (words : List Word) (guar : Proposition) (ps : List PartTree) (k : ℕ) (p : PartTree) → AllMet words (guar_conditions guar ps) → slice_get ps k ≡ Some p → StepsInside words (holds p.spec.guar) (holds guar)
 guar_at words guar [] k p h e = cc e
-guar_at words guar (q ∷ ps) zero p h e = let same : q ≡ p = cc e in subst (λ x. IsInside words (holds x.spec.guar) (holds guar)) same h.0
+guar_at words guar (q ∷ ps) zero p h e = let same : q ≡ p = cc e in subst (λ x. StepsInside words (holds x.spec.guar) (holds guar)) same h.0
 guar_at words guar (q ∷ ps) (suc k) p h e = guar_at words guar ps k p h.1 e
 
-other_at : (words : List Word) (i : ℕ) (rely : Proposition) (j : ℕ) (ps : List PartTree) (k : ℕ) (p : PartTree) → AllMet words (other_conditions i rely j ps) → slice_get ps k ≡ Some p → i ≢ j + k → IsInside words (holds p.spec.guar) (holds rely)
+other_at : (words : List Word) (i : ℕ) (rely : Proposition) (j : ℕ) (ps : List PartTree) (k : ℕ) (p : PartTree) → AllMet words (other_conditions i rely j ps) → slice_get ps k ≡ Some p → i ≢ j + k → StepsInside words (holds p.spec.guar) (holds rely)
 other_at words i rely j [] k p h e ne = cc e
 other_at words i rely j (q ∷ ps) zero p h e ne =
     let same : q ≡ p = cc e in
     let away : i ≢ j = λ x. ne (omega (arith, x)) in
     let first = met_front words (if i == j then [] else allows q.spec.guar rely ∷ []) (other_conditions i rely (suc j) ps) h in
-    subst (λ x. IsInside words (holds x.spec.guar) (holds rely)) same (subst (λ b. AllMet words (if b then [] else allows q.spec.guar rely ∷ [])) (ne_eqb i j away) first).0
+    subst (λ x. StepsInside words (holds x.spec.guar) (holds rely)) same (subst (λ b. AllMet words (if b then [] else allows q.spec.guar rely ∷ [])) (ne_eqb i j away) first).0
 other_at words i rely j (q ∷ ps) (suc k) p h e ne =
     other_at words i rely (suc j) ps k p (met_back words (if i == j then [] else allows q.spec.guar rely ∷ []) (other_conditions i rely (suc j) ps) h) e (λ x. ne (omega (arith, x)))
 
@@ -117,9 +117,9 @@ view_at i (q ∷ ps) [] s xs k p n h e j = absurd h
 -- what the parallel rule asks, part by part
 record Fits (words : List Word) (spec : Specification) (parts : List PartTree) : Type 0 where
   pre : (i : ℕ) (p : PartTree) → nth parts i ≡ Some p → IsMet words (reaches (spec.pre ∷ []) [] p.spec.pre)
-  rely : (i : ℕ) (p : PartTree) → nth parts i ≡ Some p → IsInside words (holds spec.rely) (holds p.spec.rely)
-  cross : (i j : ℕ) (p q : PartTree) → nth parts i ≡ Some p → nth parts j ≡ Some q → j ≢ i → IsInside words (holds q.spec.guar) (holds p.spec.rely)
-  guar : (i : ℕ) (p : PartTree) → nth parts i ≡ Some p → IsInside words (holds p.spec.guar) (holds spec.guar)
+  rely : (i : ℕ) (p : PartTree) → nth parts i ≡ Some p → StepsInside words (holds spec.rely) (holds p.spec.rely)
+  cross : (i j : ℕ) (p q : PartTree) → nth parts i ≡ Some p → nth parts j ≡ Some q → j ≢ i → StepsInside words (holds q.spec.guar) (holds p.spec.rely)
+  guar : (i : ℕ) (p : PartTree) → nth parts i ≡ Some p → StepsInside words (holds p.spec.guar) (holds spec.guar)
   post : IsMet words (reaches (map (λ p. p.spec.post) parts) [] spec.post)
 
 fits_of : (words : List Word) (spec : Specification) (parts : List PartTree) → AllMet words (parallel_conditions spec parts) → Fits words spec parts
@@ -148,15 +148,15 @@ fits_of words spec parts h =
     pre_nth h zero p e = cc e
     pre_nth h (suc i) p e = pre_at words spec.pre parts i p h e
 
-    rely_nth : AllMet words (rely_conditions spec.rely parts) → (i : ℕ) (p : PartTree) → nth parts i ≡ Some p → IsInside words (holds spec.rely) (holds p.spec.rely)
+    rely_nth : AllMet words (rely_conditions spec.rely parts) → (i : ℕ) (p : PartTree) → nth parts i ≡ Some p → StepsInside words (holds spec.rely) (holds p.spec.rely)
     rely_nth h zero p e = cc e
     rely_nth h (suc i) p e = rely_at words spec.rely parts i p h e
 
-    guar_nth : AllMet words (guar_conditions spec.guar parts) → (i : ℕ) (p : PartTree) → nth parts i ≡ Some p → IsInside words (holds p.spec.guar) (holds spec.guar)
+    guar_nth : AllMet words (guar_conditions spec.guar parts) → (i : ℕ) (p : PartTree) → nth parts i ≡ Some p → StepsInside words (holds p.spec.guar) (holds spec.guar)
     guar_nth h zero p e = cc e
     guar_nth h (suc i) p e = guar_at words spec.guar parts i p h e
 
-    cross_nth : AllMet words (cross_conditions parts 1 parts) → (i j : ℕ) (p q : PartTree) → nth parts i ≡ Some p → nth parts j ≡ Some q → j ≢ i → IsInside words (holds q.spec.guar) (holds p.spec.rely)
+    cross_nth : AllMet words (cross_conditions parts 1 parts) → (i j : ℕ) (p q : PartTree) → nth parts i ≡ Some p → nth parts j ≡ Some q → j ≢ i → StepsInside words (holds q.spec.guar) (holds p.spec.rely)
     cross_nth h zero j p q e f ne = cc e
     cross_nth h (suc i) zero p q e f ne = cc f
     cross_nth h (suc i) (suc j) p q e f ne =

@@ -4,8 +4,8 @@ use Rattle.std.specs.Prelude.{◌==◌, if◌then◌else◌}
 use Rattle.rg_tree.specs.Trees.{Proposition}
 use Rattle.rg_tree.specs.Statements.{Specification, PartTree, ProgramTree}
 use Rattle.rg_tree.specs.Programs.{IsSatisfied, PartsSatisfy}
-use Rattle.rg_tree.specs.RuleConditions.{reaches, allows, as_condition, ArePlain, AllConditionsHold}
-use Rattle.rg_tree.proofs.Asked.{all_met, plain_append}
+use Rattle.rg_tree.specs.RuleConditions.{reaches, allows, as_condition, AllConditionsHold}
+use Rattle.rg_tree.proofs.Asked.{all_met, plain_append, ArePlain}
 use Rattle.rg_par.specs.Parallel.{pre_conditions, rely_conditions, guar_conditions, other_conditions, cross_conditions, parallel_conditions}
 use Rattle.rg_par.proofs.Parallel.{parallel_rule}
 

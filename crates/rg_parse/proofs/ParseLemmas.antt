@@ -1,5 +1,5 @@
 -- The first fault of a program's shape, and the statements before it.
-use Rattle.std.proofs.Common.{◌≡◌, ◌≢◌, ℕ, ◌<◌, ◌≤◌, List, [], map, length, get_or, slice_get, take, ◌+◌, subst, Result, Ok, Err, Option, Some, None, option_map, ◌⊎◌, inl, inr, refl, sym, ap, ◌∙◌, arith}
+use Rattle.std.proofs.Common.{◌≡◌, ◌≢◌, ℕ, ◌<◌, ◌≤◌, List, [], map, length, get_or, slice_get, take, ◌+◌, subst, Result, Ok, Err, Option, Some, None, ◌⊎◌, inl, inr, refl, sym, ap, ◌∙◌, arith}
 use Rattle.std.proofs.lemmas.List.{take-map, take_all, append-nil}
 use Rattle.std.proofs.lemmas.Option.{slice_get_within, slice_get_cases}
 use Rattle.rg_words.specs.declared.limits.TheConstants.{MOST_STATEMENTS}
@@ -11,19 +11,15 @@ use Rattle.rg_text.specs.declared.kind.Terminal.TheVariants.{Semicolon}
 use Rattle.rg_syntax.specs.Grammar.{Lexeme, fixed, name, ProgramSpelling, program, lexeme_of, BeginsText}
 use Rattle.rg_syntax.specs.Limits.{BeginsWithin}
 use Rattle.rg_parse.specs.Parse.{refusal_of}
-use Rattle.rg_syntax.specs.ProgramLimits.{part_count}
+use Rattle.rg_syntax.specs.ProgramLimits.{count_in_parts}
 use Rattle.rg_shape.specs.Shape.{ShapeIs}
 use Rattle.rg_syntax.specs.declared.text_kind.TextKind.TheVariants as texts
 use Rattle.rg_shape.specs.declared.shape.ShapeFault.{ShapeFault}
 use Rattle.rg_shape.specs.declared.shape.ShapeFault.TheVariants.{Memory, Unexpected, TooDeep, TooMany, Unfinished}
 use Rattle.rg_syntax.specs.Texts.{program_of}
-use Rattle.rg_build.specs.Inner.Drafts.{Drafted, no_token, program_steps, whole_program}
-use Rattle.rg_build.specs.Inner.DraftLines.{begun_lines, lines_begun, part_lines}
-use Rattle.rg_syntax.specs.Begun.{AreBegun, AllBegun}
+use Rattle.rg_syntax.specs.Begun.{AreBegun, program_begun}
 use Rattle.rg_parse.specs.ParseProgram.{IsProgramShapeRefusal, told_fault, told_at, met_before, met_tokens}
-use Rattle.rg_build.proofs.BuildsPrograms.{builds_program}
-use Rattle.rg_build.proofs.Counts.{part_length}
-use Rattle.rg_build.proofs.Beginnings.{begun_is}
+use Rattle.rg_build.proofs.Beginnings.{all_begun}
 
 met_map : {A B : Type 0} (f : A → B) (xs : List A) (fault : ShapeFault) → map f (met_before xs fault) ≡ met_before (map f xs) fault
 met_map f xs (Unexpected i) = sym (take-map f i xs)
@@ -49,8 +45,18 @@ none_within : {A : Type 0} (xs : List A) (n : ℕ) → None ≡ slice_get xs n �
 none_within xs n e = none_past (λ x. get_or xs n x ≡ x) xs n (slice_get_cases xs n).1 e
 
 -- what tokens begin that begin a program
-are_begun : (tokens : List Lexeme) → BeginsText texts.Program tokens → AreBegun tokens (lines_begun tokens)
-are_begun tokens b = record { spelling = b.0; rest = b.1; goes_on = b.2; are = begun_is b.0 tokens b.1 b.2 }
+abbrev begun_by : (tokens : List Lexeme) → BeginsText texts.Program tokens → List ℕ
+begun_by tokens b = program_begun b.0 (length tokens)
+
+are_begun : (tokens : List Lexeme) (b : BeginsText texts.Program tokens) → AreBegun tokens (begun_by tokens b)
+are_begun tokens b = record { spelling = b.0; rest = b.1; goes_on = b.2; are = refl }
+
+-- whatever the statements are that tokens begin, this is the line of the one too many of them, where there is one
+abbrev pub IsTooMany : List Lexeme → Option ℕ → Type 0
+IsTooMany tokens line = (ls : List ℕ) → AreBegun tokens ls → line ≡ slice_get ls MOST_STATEMENTS
+
+abbrev whole_begins : (tokens : List Lexeme) (p : ProgramSpelling) → tokens ≡ program p [] → BeginsText texts.Program tokens
+whole_begins tokens p e = (p, [], sym e ∙ sym (append-nil tokens))
 
 begins_of : (tokens : List Lexeme) → BeginsWithin texts.Program tokens → BeginsText texts.Program tokens
 begins_of tokens b = (b.0, b.1, b.4)
@@ -75,73 +81,68 @@ module _ (file : SourceFile) (src : List ℕ) (tokens met : List Token) (fault t
   met_is : map (lexeme_of src) met ≡ met_tokens (map (lexeme_of src) tokens) (Err fault)
   met_is = ap (map (lexeme_of src)) meets ∙ met_map (lexeme_of src) tokens told ∙ ap (met_before (map (lexeme_of src) tokens)) tells
 
-  met_begun : AreBegun (met_tokens (map (lexeme_of src) tokens) (Err fault)) (lines_begun (met_tokens (map (lexeme_of src) tokens) (Err fault)))
-  met_begun = are_begun (met_tokens (map (lexeme_of src) tokens) (Err fault)) (begins_met (map (lexeme_of src) tokens) fault known shape)
+  met_begins : BeginsText texts.Program (met_tokens (map (lexeme_of src) tokens) (Err fault))
+  met_begins = begins_met (map (lexeme_of src) tokens) fault known shape
 
-  pub statement_first : (line : ℕ) → Some line ≡ slice_get (lines_begun (map (lexeme_of src) met)) MOST_STATEMENTS → IsProgramShapeRefusal file src tokens (refused_at numbers.Limit file line)
-  statement_first line e = inr (inr (record {
+  abbrev met_lines : List ℕ
+  met_lines = begun_by (met_tokens (map (lexeme_of src) tokens) (Err fault)) met_begins
+
+  met_begun : AreBegun (met_tokens (map (lexeme_of src) tokens) (Err fault)) met_lines
+  met_begun = are_begun (met_tokens (map (lexeme_of src) tokens) (Err fault)) met_begins
+
+  met_line : (line : Option ℕ) → IsTooMany (map (lexeme_of src) met) line → line ≡ slice_get met_lines MOST_STATEMENTS
+  met_line line h = h met_lines (subst (λ ts. AreBegun ts met_lines) (sym met_is) met_begun)
+
+  pub statement_first : (line : ℕ) → IsTooMany (map (lexeme_of src) met) (Some line) → IsProgramShapeRefusal file src tokens (refused_at numbers.Limit file line)
+  statement_first line h = inr (inr (record {
     answer = Err fault;
     known = λ e. known (same_fault fault (Err fault) (Err Memory) refl refl e);
     shape = shape;
-    lines = lines_begun (met_tokens (map (lexeme_of src) tokens) (Err fault));
+    lines = met_lines;
     begun = met_begun;
     line = line;
-    beyond = ap (λ ls. slice_get (lines_begun ls) MOST_STATEMENTS) (sym met_is) ∙ sym e;
+    beyond = sym (met_line (Some line) h);
     is = refl;
   }))
 
-  pub fault_first : None ≡ slice_get (lines_begun (map (lexeme_of src) met)) MOST_STATEMENTS → IsProgramShapeRefusal file src tokens (refusal_of file tokens told)
-  fault_first e = inr (inl (record {
+  pub fault_first : IsTooMany (map (lexeme_of src) met) None → IsProgramShapeRefusal file src tokens (refusal_of file tokens told)
+  fault_first h = inr (inl (record {
     fault = fault;
     known = known;
     shape = shape;
-    lines = lines_begun (met_tokens (map (lexeme_of src) tokens) (Err fault));
+    lines = met_lines;
     begun = met_begun;
-    within = none_within (lines_begun (met_tokens (map (lexeme_of src) tokens) (Err fault))) MOST_STATEMENTS (e ∙ ap (λ ls. slice_get (lines_begun ls) MOST_STATEMENTS) met_is);
+    within = none_within met_lines MOST_STATEMENTS (met_line None h);
     is = ap (refusal_of file tokens) tells;
   }))
 
 -- a statement too many of a program that is whole
-pub statement_only : (file : SourceFile) (src : List ℕ) (tokens : List Token) (u : Unit {0}) → ShapeIs texts.Program (map (lexeme_of src) tokens) (Ok u) → (line : ℕ) → Some line ≡ slice_get (lines_begun (map (lexeme_of src) tokens)) MOST_STATEMENTS → IsProgramShapeRefusal file src tokens (refused_at numbers.Limit file line)
-statement_only file src tokens u shape line e = inr (inr (record {
-  answer = Ok u;
-  known = λ q. not_fault u (Ok u) (Err Memory) refl refl q;
-  shape = shape;
-  lines = lines_begun (map (lexeme_of src) tokens);
-  begun = are_begun (map (lexeme_of src) tokens) (shape.0, [], sym shape.3 ∙ sym (append-nil (map (lexeme_of src) tokens)));
-  line = line;
-  beyond = sym e;
-  is = refl;
-}))
+pub statement_only : (file : SourceFile) (src : List ℕ) (tokens : List Token) (u : Unit {0}) → ShapeIs texts.Program (map (lexeme_of src) tokens) (Ok u) → (line : ℕ) → IsTooMany (map (lexeme_of src) tokens) (Some line) → IsProgramShapeRefusal file src tokens (refused_at numbers.Limit file line)
+statement_only file src tokens u shape line h =
+    let begins = whole_begins (map (lexeme_of src) tokens) shape.0 shape.3 in
+    inr (inr (record {
+      answer = Ok u;
+      known = λ q. not_fault u (Ok u) (Err Memory) refl refl q;
+      shape = shape;
+      lines = begun_by (map (lexeme_of src) tokens) begins;
+      begun = are_begun (map (lexeme_of src) tokens) begins;
+      line = line;
+      beyond = sym (h (begun_by (map (lexeme_of src) tokens) begins) (are_begun (map (lexeme_of src) tokens) begins));
+      is = refl;
+    }))
 
 -- a program begins as many statements as it has
-program_lines : (p : ProgramSpelling) → length (lines_begun (program p [])) ≡ part_count (program_of p).parts
-program_lines p =
-    ap (λ d. length (begun_lines d)) (builds_program p) ∙ ap length (append-nil (part_lines (program_of p).parts)) ∙ part_length (program_of p).parts
+whole_lines : (tokens : List Lexeme) (p : ProgramSpelling) → tokens ≡ program p [] → length (program_begun p (length tokens)) ≡ count_in_parts (program_of p).parts
+whole_lines tokens p e = ap (λ ts. length (program_begun p (length ts))) e ∙ all_begun p
 
-pub whole_begun : AllBegun
-whole_begun p = ap length (sym (begun_is p (program p []) [] (sym (append-nil (program p []))))) ∙ program_lines p
-
-pub within_most : (ls : List Lexeme) (p : ProgramSpelling) → ls ≡ program p [] → None ≡ slice_get (lines_begun ls) MOST_STATEMENTS → part_count (program_of p).parts ≤ MOST_STATEMENTS
-within_most ls p s e =
-    let within = none_within (lines_begun ls) MOST_STATEMENTS e in
-    let count = ap (λ xs. length (lines_begun xs)) s ∙ program_lines p in
+pub within_most : (tokens : List Lexeme) (p : ProgramSpelling) → tokens ≡ program p [] → IsTooMany tokens None → count_in_parts (program_of p).parts ≤ MOST_STATEMENTS
+within_most tokens p e h =
+    let within = none_within (program_begun p (length tokens)) MOST_STATEMENTS (h (program_begun p (length tokens)) (are_begun tokens (whole_begins tokens p e))) in
+    let count = whole_lines tokens p e in
     omega (arith, within, count)
 
-pub no_line : (ls : List Lexeme) (p : ProgramSpelling) → ls ≡ program p [] → part_count (program_of p).parts ≤ MOST_STATEMENTS → (line : ℕ) → Some line ≡ slice_get (lines_begun ls) MOST_STATEMENTS → ⊥
-no_line ls p s most line e =
-    let inside = slice_get_within (lines_begun ls) MOST_STATEMENTS line (sym e) in
-    let count = ap (λ xs. length (lines_begun xs)) s ∙ program_lines p in
+pub no_line : (tokens : List Lexeme) (p : ProgramSpelling) → tokens ≡ program p [] → count_in_parts (program_of p).parts ≤ MOST_STATEMENTS → (line : ℕ) → IsTooMany tokens (Some line) → ⊥
+no_line tokens p e most line h =
+    let inside = slice_get_within (program_begun p (length tokens)) MOST_STATEMENTS line (sym (h (program_begun p (length tokens)) (are_begun tokens (whole_begins tokens p e)))) in
+    let count = whole_lines tokens p e in
     omega (arith, inside, count, most)
-
--- the tree that is built of a program
-pub whole_is : (ls : List Lexeme) (p : ProgramSpelling) → ls ≡ program p [] → (d : Drafted) → d ≡ program_steps no_token ls → whole_program d ≡ Some (program_of p)
-whole_is ls p s d e = ap whole_program (e ∙ ap (program_steps no_token) s ∙ builds_program p)
-
-pub no_tree : {A B : Type 0} (f : A → B) (r : Option A) (x : B) → option_map f r ≡ Some x → r ≡ None → ⊥
-no_tree f None x h e = cc
-no_tree f (Some a) x h e = cc
-
-pub tree_is : {A B : Type 0} (f : A → B) (r : Option A) (x : B) (a : A) → option_map f r ≡ Some x → r ≡ Some a → f a ≡ x
-tree_is f None x a h e = cc
-tree_is f (Some b) x a h e = cc

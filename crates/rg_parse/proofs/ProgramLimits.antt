@@ -16,7 +16,7 @@ use Rattle.rg_syntax.specs.Grammar.{Lexeme, fixed, FormulaSpelling, ChainSpellin
 use Rattle.rg_syntax.specs.Limits as limits
 use Rattle.rg_syntax.specs.Limits.{assignment_count, assignments_fit, statement_fits, block_fits, formula_fits, expression_fits, specification_fits, part_fits, parts_fit}
 use Rattle.rg_syntax.specs.Written.{StatementTree, listed, WrittenPart, part_text}
-use Rattle.rg_syntax.specs.ProgramLimits.{IsFullStatement, IsFullBlock, AreFull, AreFullParts, part_count, IsWithinLimits}
+use Rattle.rg_syntax.specs.ProgramLimits.{IsFullStatement, IsFullBlock, AreFull, AreFullParts, count_in_parts, IsWithinLimits}
 use Rattle.rg_parse.proofs.Shown.{NamesOk}
 use Rattle.rg_syntax.specs.Texts.{assignments_of, statement_of, block_of, part_of, parts_of, program_of}
 use Rattle.rg_syntax.proofs.Clauses.{and_both}
@@ -178,7 +178,7 @@ parts_most (and_part ps q) h =
     let less = ltb-true (limits.part_count ps) MOST_PARTS (asked (nat_lt (limits.part_count ps) MOST_PARTS) (and_both _ (part_fits true q) rest).0) in
     omega (arith, less)
 
-pub within_limits : (p : ProgramSpelling) → parts_fit true p.parts ≡ true → part_count (program_of p).parts ≤ MOST_STATEMENTS → IsWithinLimits (program_of p)
+pub within_limits : (p : ProgramSpelling) → parts_fit true p.parts ≡ true → count_in_parts (program_of p).parts ≤ MOST_STATEMENTS → IsWithinLimits (program_of p)
 within_limits p h most = record {
   full = full_parts p.parts h;
   some_part = subst (λ k. 1 ≤ k) (sym (parts_length p.parts)) (parts_some p.parts);

@@ -13,7 +13,7 @@ use Rattle.rg_syntax.specs.Grammar.{ProgramSpelling, specification, parts, progr
 use Rattle.rg_syntax.specs.Limits.{IsShort}
 use Rattle.rg_syntax.specs.Written as written
 use Rattle.rg_syntax.specs.Written.{declared_word, program_text}
-use Rattle.rg_syntax.specs.ProgramLimits.{part_count, IsWithinLimits}
+use Rattle.rg_syntax.specs.ProgramLimits.{count_in_parts, IsWithinLimits}
 use Rattle.rg_resolve.specs.ProgramTyping.{ProgramStandsFor}
 use Rattle.rg_resolve.proofs.ResolvedStands.{one_program_tree}
 use Rattle.rg_parse.proofs.Shown.{NamesOk, names_ok, words_ok, tokens_named, length-declared}
@@ -42,7 +42,7 @@ module _ (source : List ℕ) (ts : List Token) (p : ProgramSpelling) (spelled : 
       let size = sym (length-map text.words.items (declared_word source)) ∙ ap (λ t. length t.words) says ∙ length-declared p.words in
       subst (λ n. n ≤ MOST_WORDS) (sym size) short.0
 
-  pub limits_kept : part_count (program_of p).parts ≤ MOST_STATEMENTS → IsShort texts.Program p → IsWithinLimits (program_text source text)
+  pub limits_kept : count_in_parts (program_of p).parts ≤ MOST_STATEMENTS → IsShort texts.Program p → IsWithinLimits (program_text source text)
   limits_kept statements short = subst IsWithinLimits (sym says) (within_limits p short.1 statements)
 
 -- the same bytes spell one program

@@ -12,6 +12,7 @@ use Rattle.rg_parse.specs.Spelled.{Spells, IsTextRefusal}
 abbrev pub SpellsStart : List Word → List ℕ → List ℕ → Type 0
 SpellsStart words source state = Spells texts.Start (StartStandsFor words) source state
 
+-- why the bytes of a start are refused
 abbrev pub IsStartRefusal : List Word → List ℕ → Refusal → Type 0
 IsStartRefusal words source e = IsTextRefusal texts.Start (settings_faults words) Start source e
 
@@ -19,6 +20,7 @@ IsStartRefusal words source e = IsTextRefusal texts.Start (settings_faults words
 abbrev pub SpellsMoves : List Word → List ℕ → List MoveTree → Type 0
 SpellsMoves words source ms = Spells texts.Moves (MovesStandFor words) source ms
 
+-- why the bytes of moves are refused
 abbrev pub IsMovesRefusal : List Word → List ℕ → Refusal → Type 0
 IsMovesRefusal words source e = IsTextRefusal texts.Moves (moves_faults words) Moves source e
 
@@ -26,5 +28,6 @@ IsMovesRefusal words source e = IsTextRefusal texts.Moves (moves_faults words) M
 abbrev pub OneSpelledStart : Type 0
 OneSpelledStart = (words : List Word) (source s t : List ℕ) → SpellsStart words source s → SpellsStart words source t → s ≡ t
 
+-- bytes spell one list of moves at most
 abbrev pub OneSpelledMoves : Type 0
 OneSpelledMoves = (words : List Word) (source : List ℕ) (ms ns : List MoveTree) → SpellsMoves words source ms → SpellsMoves words source ns → ms ≡ ns

@@ -21,6 +21,7 @@ behind_semicolon i None = Unfinished
 behind_semicolon i (Some (name x)) = TooMany i
 behind_semicolon i (Some _) = Unexpected i
 
+-- the fault that is told of a token too many at this place: where it is a `;`, that of the token behind it
 abbrev pub told_at : ℕ → Option Lexeme → Option Lexeme → ShapeFault
 told_at i (Some (fixed Semicolon)) next = behind_semicolon (i + 1) next
 told_at i _ next = TooMany i
@@ -38,6 +39,7 @@ met_before tokens (TooMany i) = take i tokens
 met_before tokens Unfinished = tokens
 met_before tokens Memory = tokens
 
+-- the tokens that are met before the fault that is told, or all where there is none
 abbrev pub met_tokens : List Lexeme → Result (Unit {0}) ShapeFault → List Lexeme
 met_tokens tokens (Ok _) = tokens
 met_tokens tokens (Err fault) = met_before tokens (told_fault tokens fault)

@@ -33,6 +33,7 @@ SpellsFormula words source f = Spells texts.Formula (ClaimStandsFor words false)
 abbrev pub IsShowRefusal : SourceFile → List ℕ → Refusal → Type 0
 IsShowRefusal file source e = IsTextRefusal texts.Show faults_shown file source e
 
+-- why the bytes of a formula over these words are refused
 abbrev pub IsFormulaRefusal : SourceFile → List Word → List ℕ → Refusal → Type 0
 IsFormulaRefusal file words source e = IsTextRefusal texts.Formula (claim_faults words false) file source e
 
@@ -40,5 +41,6 @@ IsFormulaRefusal file words source e = IsTextRefusal texts.Formula (claim_faults
 abbrev pub OneShown : Type 0
 OneShown = (source : List ℕ) (words words' : List Word) (f f' : Proposition) → SpellsShow source words f → SpellsShow source words' f' → (words ≡ words') × (f ≡ f')
 
+-- bytes spell one formula at most over these words
 abbrev pub OneFormulaShown : Type 0
 OneFormulaShown = (words : List Word) (source : List ℕ) (f f' : Proposition) → SpellsFormula words source f → SpellsFormula words source f' → f ≡ f'

@@ -9,7 +9,7 @@ use Rattle.rg_syntax.specs.declared.text_kind.TextKind.{TextKind}
 use Rattle.rg_syntax.specs.declared.text_kind.TextKind.TheVariants as texts
 use Rattle.rg_syntax.specs.Grammar.{Lexeme, Spelling, spelled, lexeme_of}
 use Rattle.rg_syntax.specs.Limits.{IsShallow, IsShort}
-use Rattle.rg_syntax.specs.ProgramLimits.{part_count}
+use Rattle.rg_syntax.specs.ProgramLimits.{count_in_parts}
 use Rattle.rg_syntax.specs.Written as written
 use Rattle.rg_syntax.specs.Written.{Claim, ShownClaim, SettingTree, WrittenLine}
 use Rattle.rg_syntax.specs.Texts.{claim_of, shown_claim, settings_of, moves_of, program_of, derivation_of}
@@ -41,7 +41,7 @@ IsCounted texts.Formula f = Unit {0}
 IsCounted texts.Show s = Unit {0}
 IsCounted texts.Start ss = Unit {0}
 IsCounted texts.Moves ms = Unit {0}
-IsCounted texts.Program p = part_count (program_of p).parts ≤ MOST_STATEMENTS
+IsCounted texts.Program p = count_in_parts (program_of p).parts ≤ MOST_STATEMENTS
 IsCounted texts.Derivation d = Unit {0}
 
 -- why tokens are refused as a text of this kind: the first fault of their shape, or the statement too many of a program

@@ -11,8 +11,7 @@ ghost use Rattle.rg_parse.specs.Parse.{IsShapeRefusal, refusal_of, unexpected_in
 ghost use Rattle.rg_parse.specs.Spelled.{Said, said, IsParsed, IsWithin};
 ghost use Rattle.rg_syntax.specs.OneReading.{OneFormula, OneShow, OneStart, OneMoves, OneDerivation};
 
-use rg_build::derivations::build_derivation;
-use rg_build::formulas::{build_formula, build_moves, build_show, build_start};
+use rg_build::{build_derivation, build_formula, build_moves, build_show, build_start};
 use rg_shape::shape::{ShapeFault, shape};
 use rg_syntax::TextKind;
 use rg_syntax::written::{FormulaText, LineText, MoveText, Setting, ShowText};

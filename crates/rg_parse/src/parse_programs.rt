@@ -1,12 +1,10 @@
 //! The tree that the tokens of a program spell, or the refusal of the first fault of their shape.
 
-ghost use Rattle.std.specs.Prelude.{◌≡◌, ℕ, List, map, take, slice_get, Some, None, Err, IfOk, IfErr};
-ghost use Rattle.rg_words.specs.declared.limits.TheConstants.{MOST_STATEMENTS};
+ghost use Rattle.std.specs.Prelude.{◌≡◌, ℕ, List, map, take, slice_get, Some, None, Err, IfErr};
 ghost use Rattle.rg_words.specs.Refusals.{no_memory, refused_at};
 ghost use Rattle.rg_syntax.specs.Grammar.{lexeme_of};
 ghost use Rattle.rg_shape.specs.Shape.{ShapeIs};
 ghost use Rattle.rg_syntax.specs.Limits.{IsTextWithin};
-ghost use Rattle.rg_build.specs.Inner.DraftLines.{lines_begun};
 ghost use Rattle.rg_syntax.specs.Begun.{OneBeginning, AllBegun};
 ghost use Rattle.rg_syntax.specs.Written.{program_text};
 ghost use Rattle.rg_parse.specs.Spelled.{IsParsed, IsWithin};
@@ -14,15 +12,14 @@ ghost use Rattle.rg_parse.specs.ParseProgram.{IsProgramShapeRefusal, told_fault,
 ghost use Rattle.rg_syntax.specs.OneReading.{OneProgram};
 
 use crate::parse::refusal;
-use rg_build::begun::statement_too_many;
-use rg_build::programs::{draft_of, whole_program};
+use rg_build::{begun_too_many, build_program};
 use rg_shape::shape::{ShapeFault, shape};
 use rg_syntax::TextKind;
 use rg_syntax::written::ProgramText;
 use rg_text::kind::{Kind, Terminal};
 use rg_text::token::Token;
 use rg_words::{Place, Refusal, RefusalNumber, SourceFile};
-use std::alloc::{AllocError, Global};
+use std::alloc::Global;
 
 /// The fault at a place behind the `;` of an await that is full.
 fn behind_semicolon(tokens: &[Token], place: usize) -> ShapeFault
@@ -76,15 +73,6 @@ fn met_before<'a>(tokens: &'a [Token], fault: &ShapeFault) -> &'a [Token]
     }
 }
 
-/// The line of the first token of a statement too many, where these tokens begin one.
-fn begun_too_many(alloc: Global, tokens: &[Token]) -> Result<Option<u32>, AllocError>
-    ensures { (src : List ℕ) → IfOk result (λ line. line ≡ slice_get (lines_begun (map (lexeme_of src) tokens.now)) MOST_STATEMENTS) }
-{
-    let draft = draft_of(alloc, tokens)?;
-    let line = statement_too_many(alloc, &draft)?;
-    Ok(line)
-}
-
 /// The refusal of a statement too many, whose first token is on this line.
 fn limit(file: SourceFile, line: u32) -> Refusal
     ensures { result ≡ refused_at RefusalNumber.Limit file line }
@@ -118,11 +106,10 @@ fn parse_whole(alloc: Global, file: SourceFile, tokens: &[Token]) -> Result<Prog
     ensures answers { (src : List ℕ) → IsParsed TextKind.Program (program_text src) file src tokens.now result }
     ensures accepts { (src : List ℕ) → IsWithin TextKind.Program (map (lexeme_of src) tokens.now) → IfErr result (λ e. e ≡ no_memory) }
 {
-    let draft = draft_of(alloc, tokens)?;
-    if let Some(line) = statement_too_many(alloc, &draft)? {
+    if let Some(line) = begun_too_many(alloc, tokens)? {
         return Err(limit(file, line));
     }
-    match whole_program(draft) {
+    match build_program(alloc, tokens)? {
         Some(text) => Ok(text),
         None => unreachable!(),
     }

@@ -9,7 +9,7 @@ use Rattle.rg_words.specs.Layout.{Word, index_of}
 use Rattle.rg_tree.specs.Trees.{Expression}
 use Rattle.rg_syntax.specs.Written.{AssignedTree}
 use Rattle.rg_resolve.specs.Faults.{width_at, group_at, term_faults, IsRefusal}
-use Rattle.rg_resolve.specs.Trees.{place_of, IsTermTree}
+use Rattle.rg_resolve.specs.Inner.FormulaTrees.{place_of, IsTermTree}
 use Rattle.rg_resolve.specs.Programs.{is_fixed, target_faults, assigned_faults}
 use Rattle.rg_resolve.specs.declared.resolve.group.Group.{Group}
 use Rattle.rg_resolve.specs.declared.resolve.group.Group.TheVariants.{Width}

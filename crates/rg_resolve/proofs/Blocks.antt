@@ -5,7 +5,7 @@ use Rattle.std.specs.Prelude.{IsTrue}
 use Rattle.std.proofs.lemmas.List.{map-append}
 use Rattle.rg_words.specs.Layout.{Word}
 use Rattle.rg_tree.specs.Statements as tree
-use Rattle.rg_tree.specs.Numbering.{line_of}
+use Rattle.rg_tree.specs.Numbering.{line_of_statement}
 use Rattle.rg_tree.specs.ProgramView.{statement}
 use Rattle.rg_tree.specs.declared.statement.Stmt.{Stmt}
 use Rattle.rg_text.specs.Text.{leaf_of}
@@ -17,7 +17,7 @@ use Rattle.rg_syntax.specs.declared.written.FormulaText.{FormulaText}
 use Rattle.rg_syntax.specs.declared.written.StatementText.{StatementText, If, While}
 use Rattle.rg_syntax.specs.Written as written
 use Rattle.rg_resolve.specs.Faults.{claim_faults, IsRefusal}
-use Rattle.rg_resolve.specs.Trees.{IsClaimTree}
+use Rattle.rg_resolve.specs.Inner.FormulaTrees.{IsClaimTree}
 use Rattle.rg_syntax.proofs.Rows.{statement-If, statement-While}
 use Rattle.rg_syntax.proofs.Sizes.{statement_size, block_size, size_within}
 use Rattle.rg_resolve.proofs.Refusals.{of_first, of_rest, no_faults}
@@ -35,10 +35,10 @@ unfolding items_list
 items_are s (tree.one t) = refl
 items_are s (tree.more t rest) = ap (tree.more s) (items_are t rest)
 
-block_is : (s : tree.Statement) (rest : tree.Items) → block_of (s ∷ items_list rest) ≡ tree.sequence (line_of s) s rest
+block_is : (s : tree.Statement) (rest : tree.Items) → block_of (s ∷ items_list rest) ≡ tree.sequence (line_of_statement s) s rest
 unfolding items_list
 block_is s (tree.one t) = refl
-block_is s (tree.more t rest) = ap (tree.sequence (line_of s) s) (items_are t rest)
+block_is s (tree.more t rest) = ap (tree.sequence (line_of_statement s) s) (items_are t rest)
 
 -- these statements, this one, and these items are all
 pub record AreAll (all earlier : List Stmt) (before : tree.Statement) (items : tree.Items) : Type 0 where
@@ -56,7 +56,7 @@ all_step all old earlier before after items h e = record {
   whole = sym (append_assoc (map statement earlier) (statement before ∷ []) (after ∷ items_list items)) ∙ ap (λ xs. xs ++ after ∷ items_list items) (sym (ap (λ xs. map statement xs) e ∙ map-append statement earlier (before ∷ []))) ∙ h.whole;
 }
 
-pub all_block : (all earlier : List Stmt) (before : tree.Statement) (items : tree.Items) → AreAll all earlier before items → earlier ≡ [] → tree.sequence (line_of before) before items ≡ block_of (map statement all)
+pub all_block : (all earlier : List Stmt) (before : tree.Statement) (items : tree.Items) → AreAll all earlier before items → earlier ≡ [] → tree.sequence (line_of_statement before) before items ≡ block_of (map statement all)
 all_block all earlier before items h e = sym (block_is before items) ∙ ap block_of (ap (λ xs. map statement xs ++ before ∷ items_list items) (sym e) ∙ h.whole)
 
 -- the statements of a list, one by one

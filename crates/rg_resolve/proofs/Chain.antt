@@ -9,10 +9,11 @@ use Rattle.rg_tree.specs.Trees as tree
 use Rattle.rg_tree.specs.Trees.{Proposition}
 use Rattle.rg_syntax.specs.Written.{Term, Claim, claim, number, word, next_word, inverse, binary, shifted, choice, truth, negation, joined, implied, compared}
 use Rattle.rg_resolve.specs.Faults.{claim_faults, IsRefusal}
-use Rattle.rg_resolve.specs.Trees.{connective_of, IsClaimTree}
+use Rattle.rg_resolve.specs.Typing.{connective_of}
 use Rattle.rg_resolve.specs.declared.resolve.formula.Link.{Link}
 use Rattle.rg_resolve.proofs.Refusals.{of_first, of_rest}
 use Rattle.rg_resolve.proofs.Parts.{of_joined}
+use Rattle.rg_resolve.specs.Inner.FormulaTrees.{IsClaimTree}
 
 -- how much a tree has in it
 abbrev mutual

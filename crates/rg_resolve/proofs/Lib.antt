@@ -17,3 +17,4 @@ pub mod Stands
 pub mod Turns
 pub mod Typed
 pub mod Whole
+pub mod WholeTrees

@@ -15,11 +15,12 @@ use Rattle.rg_tree.specs.Trees as tree
 use Rattle.rg_tree.specs.Trees.{Expression, Proposition}
 use Rattle.rg_syntax.specs.Written.{Term, Claim, number, word, next_word, inverse, binary, shifted, choice, truth, negation, joined, implied, compared}
 use Rattle.rg_resolve.specs.Faults.{number_of, group_of, after_first, unless, word_faults, term_faults}
-use Rattle.rg_resolve.specs.Trees.{place_of, connective_of, conditional_of, width_of, typed_term, IsTermTree, IsClaimTree}
+use Rattle.rg_resolve.specs.Inner.FormulaTrees.{place_of, width_of, typed_term, IsTermTree, IsClaimTree}
 use Rattle.rg_resolve.proofs.Refusals.{no_faults, no_test}
 use Rattle.rg_resolve.proofs.Typed.{known_group}
 use Rattle.rg_resolve.specs.declared.resolve.group.Group.{Group}
 use Rattle.rg_resolve.specs.declared.resolve.group.Group.TheVariants.{Width, Unasked}
+use Rattle.rg_resolve.specs.Typing.{connective_of, conditional_of}
 
 module _ (words : List Word) (one_state : Bool) where
   pub of_word_leaf : (group : Group) (x : Leaf) (k : ℕ) → word_faults words group false x.line (index_of words x.text) ≡ [] → k ≡ place_of words x.text → IsTermTree words one_state group (word x) (tree.word k)

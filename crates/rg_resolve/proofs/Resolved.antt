@@ -9,12 +9,13 @@ use Rattle.rg_syntax.specs.Written.{WrittenProgram}
 use Rattle.rg_resolve.specs.Faults.{IsRefusal}
 use Rattle.rg_resolve.specs.Words.{words_of, declaration_faults}
 use Rattle.rg_resolve.specs.Programs.{spec_faults, parts_faults, program_faults}
-use Rattle.rg_resolve.specs.Inner.ProgramTrees.{spec_tree, part_tree, program_tree}
+use Rattle.rg_resolve.specs.Inner.ProgramTrees.{spec_tree, part_tree}
 use Rattle.rg_resolve.specs.ProgramTyping.{ProgramStandsFor}
 use Rattle.rg_syntax.specs.ProgramLimits.{IsWithinLimits}
 use Rattle.rg_resolve.proofs.Refusals.{of_first, of_rest, no_faults}
 use Rattle.rg_resolve.proofs.ResolvedTyping.{program_typed}
 use Rattle.rg_resolve.proofs.ResolvedStands.{program_stands}
+use Rattle.rg_resolve.proofs.WholeTrees.{program_tree}
 
 abbrev pub a_program : List Word → tree.Specification → List tree.PartTree → tree.ProgramTree
 a_program words spec parts = record { words = words; spec = spec; parts = parts }

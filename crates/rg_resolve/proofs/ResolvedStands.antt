@@ -14,14 +14,14 @@ use Rattle.rg_words.specs.Refusals.{no_memory}
 use Rattle.rg_words.specs.Layout.{Word, IsLayout}
 use Rattle.rg_tree.specs.Trees.{Assignment}
 use Rattle.rg_tree.specs.Statements as tree
-use Rattle.rg_tree.specs.Numbering.{line_of}
+use Rattle.rg_tree.specs.Numbering.{line_of_statement}
 use Rattle.rg_syntax.specs.Written as written
 use Rattle.rg_syntax.specs.Written.{AssignedTree, StatementTree, StatementTrees, no_more, also, SpecTree}
 use Rattle.rg_resolve.specs.Faults.{width_at, faults_in_turn, IsRefusal}
-use Rattle.rg_resolve.specs.Trees.{place_of, typed_term}
+use Rattle.rg_resolve.specs.Inner.FormulaTrees.{place_of, typed_term}
 use Rattle.rg_resolve.specs.Words.{words_of}
 use Rattle.rg_resolve.specs.Programs.{is_fixed, assigned_faults, statement_faults, block_faults, spec_faults, has_part, part_faults, parts_faults, program_faults}
-use Rattle.rg_resolve.specs.Inner.ProgramTrees.{assignment_tree, items_of, block_of, statement_tree, statement_trees, block_tree, spec_tree, part_tree, program_tree}
+use Rattle.rg_resolve.specs.Inner.ProgramTrees.{assignment_tree, items_of, block_of, statement_tree, statement_trees, block_tree, spec_tree, part_tree}
 use Rattle.rg_resolve.specs.ProgramTyping.{AssignedStandsFor, AssignmentsStandFor, StatementStandsFor, skip, assign, await, branch, loop, BlockStandsFor, single, several, ItemsStandFor, last, next, SpecStandsFor, PartStandsFor, PartsStandBehind, ProgramStandsFor, OneProgramTree}
 use Rattle.rg_syntax.specs.ProgramLimits.{IsFullStatement, IsFullBlock, AreFull, AreFullParts, IsWithinLimits}
 use Rattle.rg_resolve.proofs.Assigned.{fine_assignment}
@@ -29,6 +29,7 @@ use Rattle.rg_resolve.proofs.Refusals.{no_faults, no_test}
 use Rattle.rg_resolve.proofs.Typed.{none_left, none_right, unless-none}
 use Rattle.rg_resolve.proofs.Stands.{term_stands, term_faultless, term_tree, claim_stands, claim_faultless, claim_tree}
 use Rattle.rg_resolve.proofs.Layouts.{layout_faultless}
+use Rattle.rg_resolve.proofs.WholeTrees.{program_tree}
 
 module _ (words : List Word) where
   assigned_stands : (a : AssignedTree) → assigned_faults words a ≡ [] → AssignedStandsFor words a (assignment_tree words a)
@@ -112,7 +113,7 @@ module _ (words : List Word) where
   -- behind a statement these items are those of the list
   pub record AreItems (ts : List tree.Statement) (items : tree.Items) : Type 0 where
     pub behind : (b : tree.Statement) → items_of b ts ≡ tree.more b items
-    pub block : (b : tree.Statement) → block_of (b ∷ ts) ≡ tree.sequence (line_of b) b items
+    pub block : (b : tree.Statement) → block_of (b ∷ ts) ≡ tree.sequence (line_of_statement b) b items
 
   mutual
     statement_is : (s : StatementTree) (a : tree.Statement) → StatementStandsFor words s a → a ≡ statement_tree words s
@@ -129,10 +130,10 @@ module _ (words : List Word) where
     items_are : (ss : StatementTrees) (items : tree.Items) → ItemsStandFor words ss items → AreItems (statement_trees words ss) items
     items_are _ _ (last s a h) =
         let same = sym (statement_is s a h) in
-        record { behind = λ b. ap (λ x. tree.more b (tree.one x)) same; block = λ b. ap (λ x. tree.sequence (line_of b) b (tree.one x)) same }
+        record { behind = λ b. ap (λ x. tree.more b (tree.one x)) same; block = λ b. ap (λ x. tree.sequence (line_of_statement b) b (tree.one x)) same }
     items_are _ _ (next s a ss items h g) =
         let rest = (items_are ss items g).behind (statement_tree words s) ∙ ap (λ x. tree.more x items) (sym (statement_is s a h)) in
-        record { behind = λ b. ap (tree.more b) rest; block = λ b. ap (tree.sequence (line_of b) b) rest }
+        record { behind = λ b. ap (tree.more b) rest; block = λ b. ap (tree.sequence (line_of_statement b) b) rest }
 
   pub spec_stands : (s : SpecTree) → spec_faults words s ≡ [] → SpecStandsFor words s (spec_tree words s)
   unfolding spec_faults

@@ -9,13 +9,14 @@ use Rattle.rg_tree.specs.Numbering.{statements, statements_of_items, statements_
 use Rattle.rg_tree.specs.TypedPrograms.{IsTypedPredicate, TargetsFree, ValuesPlain, IsTypedAction, IsTypedStatement, AreTypedItems, IsTypedSpecification, AreTypedParts, IsTypedProgram}
 use Rattle.rg_syntax.specs.Written.{Claim, AssignedTree, StatementTree, skip, assign, await, branch, loop, StatementTrees, no_more, also, SpecTree, WrittenPart, WrittenProgram}
 use Rattle.rg_resolve.specs.Faults.{claim_faults, faults_in_turn}
-use Rattle.rg_resolve.specs.Trees.{typed_claim}
+use Rattle.rg_resolve.specs.Inner.FormulaTrees.{typed_claim}
 use Rattle.rg_resolve.specs.Words.{words_of}
 use Rattle.rg_resolve.specs.Programs.{assigned_faults, statement_faults, block_faults, spec_faults, part_faults, parts_faults}
-use Rattle.rg_resolve.specs.Inner.ProgramTrees.{assignment_tree, items_of, block_of, statement_tree, statement_trees, block_tree, spec_tree, part_tree, program_tree}
-use Rattle.rg_syntax.specs.ProgramLimits.{IsFullStatement, IsFullBlock, AreFull, own_count, statement_count, item_count, part_count, AreFullParts, IsWithinLimits}
+use Rattle.rg_resolve.specs.Inner.ProgramTrees.{assignment_tree, items_of, block_of, statement_tree, statement_trees, block_tree, spec_tree, part_tree}
+use Rattle.rg_syntax.specs.ProgramLimits.{IsFullStatement, IsFullBlock, AreFull, own_count, statement_count, item_count, count_in_parts, AreFullParts, IsWithinLimits}
 use Rattle.rg_resolve.proofs.Assigned.{fine_assignment}
 use Rattle.rg_resolve.proofs.Typed.{none_left, none_right, found_within, AreNarrow, layout_is_narrow, term_typed, term_plain, claim_typed, claim_plain}
+use Rattle.rg_resolve.proofs.WholeTrees.{program_tree}
 
 full_block : (ss : StatementTrees) → IsFullBlock ss → AreFull ss
 full_block no_more full = absurd full
@@ -129,7 +130,7 @@ module _ (words : List Word) where
         let more = count_trees ss full.1 in
         omega (arith, one, more)
 
-  count_parts : (ps : List WrittenPart) → AreFullParts ps → length (statements_of_parts (map (part_tree words) ps)) ≡ part_count ps
+  count_parts : (ps : List WrittenPart) → AreFullParts ps → length (statements_of_parts (map (part_tree words) ps)) ≡ count_in_parts ps
   count_parts [] full = refl
   count_parts (p ∷ ps) full =
       let one = count_block p.body full.0 (count_trees p.body (full_block p.body full.0)) in

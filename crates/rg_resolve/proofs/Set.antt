@@ -20,10 +20,11 @@ use Rattle.rg_tree.specs.Moves.{MoveTree, given, IsValueOf, OnePerWord, IsChange
 use Rattle.rg_syntax.specs.Written as written
 use Rattle.rg_syntax.specs.Written.{SettingTree}
 use Rattle.rg_resolve.specs.Faults.{number_of, width_at, group_at, number_faults, faults_in_turn, IsRefusal}
-use Rattle.rg_resolve.specs.Trees.{place_of}
-use Rattle.rg_resolve.specs.Settings.{is_named, named_faults, setting_faults, settings_faults, move_faults, moves_faults, word_value, word_values, move_tree, move_trees, SettingStandsFor, StandBehind, SettingsStandFor, StartStandsFor, MoveStandsFor, MovesStandFor, OneStart, OneListOfMoves, FaultlessStart, FaultlessMoves}
+use Rattle.rg_resolve.specs.Inner.FormulaTrees.{place_of}
+use Rattle.rg_resolve.specs.Settings.{is_named, named_faults, setting_faults, settings_faults, move_faults, moves_faults, SettingStandsFor, StandBehind, SettingsStandFor, StartStandsFor, MoveStandsFor, MovesStandFor, OneStateOfSettings, OneListOfMoves, FaultlessStart, FaultlessMoves}
 use Rattle.rg_resolve.proofs.Refusals.{no_faults, no_test}
 use Rattle.rg_resolve.proofs.Typed.{none_left, none_right, unless-none, found_within}
+use Rattle.rg_resolve.specs.Inner.SettingTrees.{word_value, word_values, move_tree, move_trees}
 
 -- two names of one word are one name
 pub one_name : (words : List Word) (n m : List ℕ) (k : ℕ) → index_of words n ≡ Some k → index_of words m ≡ Some k → n ≡ m
@@ -180,7 +181,7 @@ settings_change words ss vs h = record { each = behind_each words [] ss vs h; on
 pub start_stands : (words : List Word) (ss : List SettingTree) (vs : List WordValue) (state : List ℕ) → settings_faults words ss ≡ [] → vs ≡ word_values words ss → state ≡ given vs (replicate (length words) 0) → StartStandsFor words ss state
 start_stands words ss vs state h same is = record { values = word_values words ss; stand = settings_stand words ss h; is = rw (← same) is }
 
-pub one_start : OneStart
+pub one_start : OneStateOfSettings
 one_start words ss s t h g =
     h.is ∙ ap (λ vs. given vs (replicate (length words) 0)) (settings_values words ss h.values h.stand ∙ sym (settings_values words ss g.values g.stand)) ∙ sym g.is
 

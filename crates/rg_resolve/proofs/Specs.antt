@@ -9,7 +9,7 @@ use Rattle.rg_words.specs.Layout.{Word}
 use Rattle.rg_tree.specs.Trees.{Proposition}
 use Rattle.rg_syntax.specs.Written.{SpecTree, WrittenPart}
 use Rattle.rg_resolve.specs.Faults.{unless, claim_faults, IsRefusal}
-use Rattle.rg_resolve.specs.Trees.{IsClaimTree}
+use Rattle.rg_resolve.specs.Inner.FormulaTrees.{IsClaimTree}
 use Rattle.rg_resolve.specs.Programs.{spec_faults, has_part, part_faults, block_faults}
 use Rattle.rg_resolve.proofs.Refusals.{of_first, of_rest, of_test, no_faults, no_test}
 

@@ -14,7 +14,7 @@ use Rattle.rg_tree.specs.Primes.{has_next_word, speaks_of_two}
 use Rattle.rg_text.specs.Text.{unprimed}
 use Rattle.rg_syntax.specs.Written.{Term, Claim, number, word, next_word, inverse, binary, shifted, choice, truth, negation, joined, implied, compared}
 use Rattle.rg_resolve.specs.Faults.{Fault, width_at, first_name, group_at, group_by, group_of, after_first, unless, word_faults, term_faults, claim_faults}
-use Rattle.rg_resolve.specs.Trees.{place_of, typed_term, typed_claim}
+use Rattle.rg_resolve.specs.Inner.FormulaTrees.{place_of, typed_term, typed_claim}
 use Rattle.rg_resolve.specs.declared.resolve.group.Group.{Group}
 use Rattle.rg_resolve.specs.declared.resolve.group.Group.TheVariants.{Width, Unasked, Wordless}
 

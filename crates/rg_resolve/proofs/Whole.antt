@@ -5,7 +5,7 @@ use Rattle.rg_tree.specs.Trees.{Proposition}
 use Rattle.rg_tree.specs.Typing.{IsTyped}
 use Rattle.rg_tree.specs.Primes.{speaks_of_two}
 use Rattle.rg_syntax.specs.Written.{Claim}
-use Rattle.rg_resolve.specs.Trees.{IsClaimTree}
+use Rattle.rg_resolve.specs.Inner.FormulaTrees.{IsClaimTree}
 use Rattle.rg_resolve.specs.Typing.{ClaimStandsFor}
 use Rattle.rg_resolve.proofs.Stands.{claim_stands}
 use Rattle.rg_resolve.proofs.Typed.{claim_typed, claim_plain, layout_is_narrow}

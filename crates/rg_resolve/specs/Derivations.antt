@@ -1,5 +1,5 @@
 -- Derivations as written: their faults in the order of the text, and the lines that they stand for.
-use Rattle.std.specs.Prelude.{◌≡◌, ◌↔◌, ℕ, ◌≤◌, List, [], ◌∷◌, ◌++◌, map}
+use Rattle.std.specs.Prelude.{◌≡◌, ◌↔◌, ℕ, ◌≤◌, List, [], ◌∷◌, ◌++◌}
 use Rattle.std.specs.List.{flat_map}
 use Rattle.rg_words.specs.declared.limits.TheConstants.{MOST_PLAIN_NUMBER}
 use Rattle.rg_words.specs.Layout.{Word}
@@ -8,13 +8,13 @@ use Rattle.rg_tree.specs.Lines.{LineTree}
 use Rattle.rg_syntax.specs.Written.{WrittenLine}
 use Rattle.rg_resolve.specs.Faults.{Fault, number_of, plain_faults}
 use Rattle.rg_resolve.specs.Programs.{spec_faults}
-use Rattle.rg_resolve.specs.Inner.ProgramTrees.{spec_tree}
 use Rattle.rg_resolve.specs.ProgramTyping.{SpecStandsFor}
 
 -- the faults of a line: a number of it is too large, or its four formulas have faults, as those of a part
 unfoldable pub line_faults : List Word → WrittenLine → List Fault
 line_faults words l = plain_faults l.number ++ (plain_faults l.statement ++ (flat_map plain_faults l.premises ++ spec_faults words l.spec))
 
+-- the faults of all lines, one line after another
 abbrev pub derivation_faults : List Word → List WrittenLine → List Fault
 derivation_faults words lines = flat_map (line_faults words) lines
 
@@ -22,22 +22,12 @@ derivation_faults words lines = flat_map (line_faults words) lines
 abbrev pub leaf_number : Leaf → ℕ
 leaf_number x = number_of x.text
 
--- the line that a line without faults gives; it begins where its first token stands
-abbrev pub resolved_line : List Word → WrittenLine → LineTree
-resolved_line words l = record {
-  own_number = leaf_number l.number;
-  source_line = l.begin.line;
-  rule = l.rule;
-  number = leaf_number l.statement;
-  premises = map leaf_number l.premises;
-  spec = spec_tree words l.spec;
-}
-
 -- a leaf stands for the number that it writes, which is at most 4,294,967,295
 pub record NumberStandsFor (x : Leaf) (n : ℕ) : Type 0 where
   pub is : leaf_number x ≡ n
   pub small : n ≤ MOST_PLAIN_NUMBER
 
+-- leaves stand for numbers, one by one
 abbrev pub NumbersStandFor : List Leaf → List ℕ → Type 0
 NumbersStandFor [] [] = Unit {0}
 NumbersStandFor (x ∷ xs) (n ∷ ns) = NumberStandsFor x n × NumbersStandFor xs ns

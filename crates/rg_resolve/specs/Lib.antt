@@ -3,7 +3,6 @@ pub mod Faults
 pub mod ProgramTyping
 pub mod Programs
 pub mod Settings
-pub mod Trees
 pub mod Typing
 pub mod Words
 pub mod Inner

@@ -4,7 +4,7 @@ use Rattle.rg_words.specs.Layout.{Word, index_of, IsLayout}
 use Rattle.rg_text.specs.Text.{Leaf}
 use Rattle.rg_tree.specs.Trees.{Proposition, Assignment}
 use Rattle.rg_tree.specs.Statements as tree
-use Rattle.rg_tree.specs.Numbering.{line_of}
+use Rattle.rg_tree.specs.Numbering.{line_of_statement}
 use Rattle.rg_syntax.specs.Written as written
 use Rattle.rg_syntax.specs.Written.{Claim, AssignedTree, StatementTree, StatementTrees, no_more, also}
 use Rattle.rg_resolve.specs.Faults.{width_at}
@@ -18,6 +18,7 @@ pub record AssignedStandsFor (words : List Word) (a : AssignedTree) (t : Assignm
   pub free : is_fixed words t.target ≡ false
   pub value : TermStandsFor words true (width_at words t.target) a.value t.value
 
+-- assignments stand for assignments, one by one
 abbrev pub AssignmentsStandFor : List Word → List AssignedTree → List Assignment → Type 0
 AssignmentsStandFor words [] [] = Unit {0}
 AssignmentsStandFor words (a ∷ as_) (t ∷ ts) = AssignedStandsFor words a t × AssignmentsStandFor words as_ ts
@@ -36,7 +37,7 @@ mutual
   -- a block of one item is the item; of several, a sequence at the line of its first token
   pub data BlockStandsFor (words : List Word) : StatementTrees → tree.Statement → Type 0 where
     single : (s : StatementTree) (a : tree.Statement) → StatementStandsFor words s a → BlockStandsFor words (also s no_more) a
-    several : (s : StatementTree) (a : tree.Statement) (ss : StatementTrees) (items : tree.Items) → StatementStandsFor words s a → ItemsStandFor words ss items → BlockStandsFor words (also s ss) (tree.sequence (line_of a) a items)
+    several : (s : StatementTree) (a : tree.Statement) (ss : StatementTrees) (items : tree.Items) → StatementStandsFor words s a → ItemsStandFor words ss items → BlockStandsFor words (also s ss) (tree.sequence (line_of_statement a) a items)
 
   -- the items of a sequence after its first, one by one
   pub data ItemsStandFor (words : List Word) : StatementTrees → tree.Items → Type 0 where
@@ -50,6 +51,7 @@ pub record SpecStandsFor (words : List Word) (s : written.SpecTree) (t : tree.Sp
   pub guar : ClaimStandsFor words false s.guar t.guar
   pub post : ClaimStandsFor words true s.post t.post
 
+-- a part as written stands for a part
 pub record PartStandsFor (words : List Word) (p : written.WrittenPart) (t : tree.PartTree) : Type 0 where
   pub name : p.name.text ≡ t.name
   pub spec : SpecStandsFor words p.spec t.spec

@@ -1,5 +1,5 @@
 -- Settings of words, as a start and a move have them: their faults in the order of the text, and the values that they stand for.
-use Rattle.std.specs.Prelude.{◌≡◌, ◌≢◌, ◌↔◌, ℕ, ◌<◌, ◌≤◌, ◌^◌, Bool, not, List, [], ◌∷◌, ◌++◌, length, map, replicate, Option, Some, None, All}
+use Rattle.std.specs.Prelude.{◌≡◌, ◌≢◌, ◌↔◌, ℕ, ◌<◌, ◌≤◌, ◌^◌, Bool, not, List, [], ◌∷◌, ◌++◌, length, replicate, Option, Some, None, All}
 use Rattle.std.specs.List.{list_any, flat_map}
 use Rattle.std.specs.Str.{bytes_eq}
 use Rattle.rg_words.specs.declared.limits.TheConstants.{MOST_PLAIN_NUMBER}
@@ -11,7 +11,6 @@ use Rattle.rg_tree.specs.Moves.{MoveTree, given}
 use Rattle.rg_syntax.specs.Written as written
 use Rattle.rg_syntax.specs.Written.{SettingTree}
 use Rattle.rg_resolve.specs.Faults.{Fault, number_of, width_at, group_at, unless, number_faults, plain_faults, faults_in_turn}
-use Rattle.rg_resolve.specs.Trees.{place_of}
 
 -- one of these settings names this word
 abbrev pub is_named : List SettingTree → List ℕ → Bool
@@ -35,22 +34,9 @@ settings_faults words settings = faults_in_turn (setting_faults words) [] settin
 unfoldable pub move_faults : List Word → written.WrittenMove → List Fault
 move_faults words m = plain_faults m.number ++ settings_faults words m.settings
 
+-- the faults of all moves, one move after another
 abbrev pub moves_faults : List Word → List written.WrittenMove → List Fault
 moves_faults words moves = flat_map (move_faults words) moves
-
--- the value that a setting gives its word
-abbrev pub word_value : List Word → SettingTree → WordValue
-word_value words s = record { word = place_of words s.word.text; value = number_of s.value.text }
-
-abbrev pub word_values : List Word → List SettingTree → List WordValue
-word_values words settings = map (word_value words) settings
-
--- the move that a move as written gives
-abbrev pub move_tree : List Word → written.WrittenMove → MoveTree
-move_tree words m = record { at = number_of m.number.text; values = word_values words m.settings }
-
-abbrev pub move_trees : List Word → List written.WrittenMove → List MoveTree
-move_trees words moves = map (move_tree words) moves
 
 -- a setting stands for the value of a word: the word is declared, and the number is below 2 to the power of its width
 pub record SettingStandsFor (words : List Word) (s : SettingTree) (v : WordValue) : Type 0 where
@@ -65,6 +51,7 @@ StandBehind words before (s ∷ ss) (v ∷ vs) = SettingStandsFor words s v × A
 StandBehind words before [] (v ∷ vs) = ⊥
 StandBehind words before (s ∷ ss) [] = ⊥
 
+-- settings stand for values of words, one by one, each of a word of its own
 abbrev pub SettingsStandFor : List Word → List SettingTree → List WordValue → Type 0
 SettingsStandFor words settings values = StandBehind words [] settings values
 
@@ -88,9 +75,10 @@ MovesStandFor words [] (t ∷ ts) = ⊥
 MovesStandFor words (m ∷ ms) [] = ⊥
 
 -- settings stand for one state at most, and moves for one list of moves
-abbrev pub OneStart : Type 0
-OneStart = (words : List Word) (settings : List SettingTree) (s t : List ℕ) → StartStandsFor words settings s → StartStandsFor words settings t → s ≡ t
+abbrev pub OneStateOfSettings : Type 0
+OneStateOfSettings = (words : List Word) (settings : List SettingTree) (s t : List ℕ) → StartStandsFor words settings s → StartStandsFor words settings t → s ≡ t
 
+-- moves as written stand for one list of moves at most
 abbrev pub OneListOfMoves : Type 0
 OneListOfMoves = (words : List Word) (moves : List written.WrittenMove) (s t : List MoveTree) → MovesStandFor words moves s → MovesStandFor words moves t → s ≡ t
 
@@ -98,5 +86,6 @@ OneListOfMoves = (words : List Word) (moves : List written.WrittenMove) (s t : L
 abbrev pub FaultlessStart : Type 0
 FaultlessStart = (words : List Word) (settings : List SettingTree) → (settings_faults words settings ≡ []) ↔ ((s : List ℕ) × StartStandsFor words settings s)
 
+-- moves as written stand for moves exactly where they have no faults
 abbrev pub FaultlessMoves : Type 0
 FaultlessMoves = (words : List Word) (moves : List written.WrittenMove) → (moves_faults words moves ≡ []) ↔ ((s : List MoveTree) × MovesStandFor words moves s)

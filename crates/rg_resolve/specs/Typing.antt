@@ -5,20 +5,29 @@ use Rattle.rg_words.specs.declared.limits.TheConstants.{MOST_SHIFT}
 use Rattle.rg_words.specs.declared.operators.Operator.{Operator}
 use Rattle.rg_words.specs.declared.operators.Shift.{Shift}
 use Rattle.rg_words.specs.declared.operators.Comparison.{Comparison}
+use Rattle.rg_words.specs.declared.operators.Connective.{Connective}
+use Rattle.rg_words.specs.declared.operators.Connective.TheVariants.{And as Conjunction, Or as Disjunction, Implies as Implication, Iff as Equivalence}
 use Rattle.rg_words.specs.Layout.{Word, index_of}
 use Rattle.rg_text.specs.declared.kind.Junction.{Junction}
+use Rattle.rg_text.specs.declared.kind.Junction.TheVariants.{And, Or}
 use Rattle.rg_text.specs.declared.kind.Conditional.{Conditional}
+use Rattle.rg_text.specs.declared.kind.Conditional.TheVariants.{Implies, Iff}
 use Rattle.rg_text.specs.Text.{Leaf, unprimed}
 use Rattle.rg_tree.specs.Trees as tree
 use Rattle.rg_tree.specs.Trees.{Expression, Proposition}
 use Rattle.rg_syntax.specs.Written as written
 use Rattle.rg_syntax.specs.Written.{Term, Claim}
 use Rattle.rg_resolve.specs.Faults.{number_of, width_at, first_name, claim_faults}
-use Rattle.rg_resolve.specs.Trees.{connective_of, conditional_of}
 
--- an expression has a word, plain or primed, outside the formulas of `(if ..)`
-abbrev pub has_word : Term → Bool
-has_word t = is_some (first_name t)
+-- the connective that a word of a chain means
+abbrev pub connective_of : Junction → Connective
+connective_of And = Conjunction
+connective_of Or = Disjunction
+
+-- the connective that `implies` and `iff` mean
+abbrev pub conditional_of : Conditional → Connective
+conditional_of Implies = Implication
+conditional_of Iff = Equivalence
 
 mutual
   -- an expression at a width: its words are declared at this width and its numbers are below 2 to its power

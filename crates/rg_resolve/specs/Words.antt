@@ -11,6 +11,7 @@ use Rattle.rg_resolve.specs.Faults.{Fault, number_of, unless, claim_faults}
 abbrev pub word_of : DeclaredWord → Word
 word_of d = record { name = d.name.text; width = number_of d.width.text; fixed = d.fixed }
 
+-- the words that declarations stand for
 abbrev pub words_of : List DeclaredWord → List Word
 words_of declarations = map word_of declarations
 
@@ -31,5 +32,6 @@ faults_behind before (d ∷ ds) = (name_faults before d.name ++ width_faults d.w
 abbrev pub declaration_faults : List DeclaredWord → List Fault
 declaration_faults declarations = faults_behind [] declarations
 
+-- the faults of a text to show: those of its declarations, and then those of its formula
 abbrev pub shown_faults : List DeclaredWord → Claim → List Fault
 shown_faults declarations f = declaration_faults declarations ++ claim_faults (words_of declarations) false f

@@ -21,7 +21,7 @@ ghost use Rattle.rg_resolve.specs.Programs.{program_faults};
 ghost use Rattle.rg_resolve.specs.ProgramTyping.{ProgramStandsFor, OneProgramTree};
 ghost use Rattle.rg_resolve.specs.Faults.{claim_faults, IsRefusal};
 ghost use Rattle.rg_resolve.specs.Typing.{ClaimStandsFor, OneTree, FaultlessStand};
-ghost use Rattle.rg_resolve.specs.Settings.{settings_faults, moves_faults, StartStandsFor, MovesStandFor, OneStart, OneListOfMoves, FaultlessStart, FaultlessMoves};
+ghost use Rattle.rg_resolve.specs.Settings.{settings_faults, moves_faults, StartStandsFor, MovesStandFor, OneStateOfSettings, OneListOfMoves, FaultlessStart, FaultlessMoves};
 ghost use Rattle.rg_resolve.specs.Words.{words_of, shown_faults};
 
 mod assigned;
@@ -193,7 +193,7 @@ pub fn resolve_moves(
 
 /// Settings stand for one state at most, and for one exactly where none of their tokens is at fault; so do moves.
 pub fn settings_stand_for_one_state()
-    ensures one_start { OneStart }
+    ensures one_start { OneStateOfSettings }
     ensures one_list { OneListOfMoves }
     ensures faultless_start { FaultlessStart }
     ensures faultless_moves { FaultlessMoves }

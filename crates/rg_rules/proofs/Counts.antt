@@ -6,13 +6,13 @@ use Rattle.rg_tree.specs.Statements.{Statement, skip, assign, await, sequence, b
 use Rattle.rg_tree.specs.declared.line.Rule.{Rule}
 use Rattle.rg_tree.specs.declared.line.Rule.TheVariants.{Basic, Atomic, Seq, If, Loop, Conseq}
 use Rattle.rg_tree.specs.Lines.{LineTree}
-use Rattle.rg_rules.specs.Derivations.{spec_of, first_spec, ConseqFits, RuleFits, LineFits, DerivationFits, conditions_from, conditions_of_rule, conditions_at, conditions_of_line, conditions_asked}
+use Rattle.rg_rules.specs.Derivations.{spec_of_line, first_spec, ConseqFits, RuleFits, LineFits, DerivationFits, conditions_from, conditions_of_rule, conditions_at, conditions_of_line, conditions_asked}
 use Rattle.rg_rules.specs.Names.{condition_names, named, line_names}
 
 conseq_count : (lines : List LineTree) (k n : ℕ) (spec : Specification) (is : List ℕ) → ConseqFits lines k n is → length (conditions_from spec (first_spec lines is)) ≡ 4
 conseq_count lines k n spec [] h = absurd h
 conseq_count lines k n spec (i ∷ []) h =
-    let e : first_spec lines (i ∷ []) ≡ Some h.1.line.spec = ap spec_of h.1.found in
+    let e : first_spec lines (i ∷ []) ≡ Some h.1.line.spec = ap spec_of_line h.1.found in
     ap (λ o. length (conditions_from spec o)) e
 conseq_count lines k n spec (i ∷ j ∷ is) h = absurd h
 

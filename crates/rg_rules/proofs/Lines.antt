@@ -16,7 +16,7 @@ use Rattle.rg_tree.proofs.Asked.{met_front, met_back}
 use Rattle.rg_tree.proofs.Guards.{Sound, StatementSound, Sound-Satisfies}
 use Rattle.rg_tree.specs.declared.line.Rule.{Rule}
 use Rattle.rg_tree.specs.declared.line.Rule.TheVariants.{Basic, Atomic, Seq, If, Loop, Conseq}
-use Rattle.rg_rules.specs.Derivations.{IsPremise, ItemsFit, ChoiceFits, LoopFits, ConseqFits, RuleFits, DerivationFits, spec_of, first_spec, step_conditions, conditions_from, conditions_of_rule, conditions_at, conditions_of_line, conditions_asked, RulesAreSound}
+use Rattle.rg_rules.specs.Derivations.{IsPremise, ItemsFit, ChoiceFits, LoopFits, ConseqFits, RuleFits, DerivationFits, spec_of_line, first_spec, step_conditions, conditions_from, conditions_of_rule, conditions_at, conditions_of_line, conditions_asked, RulesAreSound}
 use Rattle.rg_rules.proofs.Rules.{atomic_sound, then_sound, choice_sound, loop_sound, conseq_sound}
 use Rattle.rg_tree.proofs.Stands.{Stands, stands_get, stands_tail, stands_front, stands_back}
 use Rattle.rg_tree.specs.Lines.{LineTree}
@@ -101,7 +101,7 @@ module _ (words : List Word) (all : List Statement) (inner : (n : ℕ) (s : Stat
   same_sound k n spec s [] ih h f c = absurd f
   same_sound k n spec s (i ∷ []) ih h f c =
       let from = f.0 in
-      let e : first_spec lines (i ∷ []) ≡ Some from = ap spec_of f.1.found ∙ ap Some f.1.same_spec in
+      let e : first_spec lines (i ∷ []) ≡ Some from = ap spec_of_line f.1.found ∙ ap Some f.1.same_spec in
       let c' = subst (λ o. AllMet words (conditions_from spec o)) e c in
       conseq_sound words _ _ _ _ _ _ _ _ (runs s) (λ x st at. c'.0 x st (at, tt)) c'.1.0 c'.1.1.0 (λ x st at. c'.1.1.1.0 x st (at, tt)) (premise_sound k i n from s ih f.1 h)
   same_sound k n spec s (i ∷ j ∷ is) ih h f c = absurd f

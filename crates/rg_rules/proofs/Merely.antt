@@ -5,7 +5,7 @@ use Rattle.std.specs.Coded.{Coded-set, coded_ℕ, coded_bool, coded_list}
 use Rattle.rg_words.specs.Layout.{Word}
 use Rattle.rg_tree.specs.Statements.{Statement, Specification}
 use Rattle.rg_tree.specs.Meaning.{holds}
-use Rattle.rg_tree.specs.Traces.{State, Move, Own, Env, Inside, OwnInside}
+use Rattle.rg_tree.specs.Traces.{State, ViewStep, Own, Env, Inside, OwnInside}
 use Rattle.rg_tree.specs.Satisfaction.{StatementSatisfies}
 
 same_state : {s t : State} → IsProp (s ≡ t)
@@ -24,7 +24,7 @@ inside_merely R s t h = by_test (R s t) refl
     by_test true e = inl e
     by_test false e = inr (∥∥₁_elim h same_state (λ x. ⊎_elim (λ r. absurd (no_test e r)) (λ same. same) x))
 
-own_merely : (G : State → State → Bool) (s : State) (ms : List Move) → ∥ OwnInside G s ms ∥₁ → OwnInside G s ms
+own_merely : (G : State → State → Bool) (s : State) (ms : List ViewStep) → ∥ OwnInside G s ms ∥₁ → OwnInside G s ms
 own_merely G s [] h = tt
 own_merely G s (Own t ∷ ms) h = (inside_merely G s t (∥∥₁_map h (λ x. x.0)), own_merely G t ms (∥∥₁_map h (λ x. x.1)))
 own_merely G s (Env t ∷ ms) h = own_merely G t ms h

@@ -9,8 +9,8 @@ use Rattle.rg_tree.specs.Numbering.{statements, statements_of_parts}
 use Rattle.rg_tree.specs.Programs.{nth, PartsSatisfy}
 use Rattle.rg_tree.specs.Satisfaction.{StatementSatisfies}
 use Rattle.rg_tree.specs.TypedPrograms.{IsTypedSpecification}
-use Rattle.rg_tree.specs.RuleConditions.{ArePlain, as_condition, AllConditionsHold}
-use Rattle.rg_tree.proofs.Asked.{all_met, plain_append}
+use Rattle.rg_tree.specs.RuleConditions.{as_condition, AllConditionsHold}
+use Rattle.rg_tree.proofs.Asked.{all_met, plain_append, ArePlain}
 use Rattle.rg_tree.proofs.Stands.{Stands, stands_front, stands_back}
 use Rattle.rg_tree.specs.declared.line.Rule.{Rule}
 use Rattle.rg_tree.specs.declared.line.Rule.TheVariants.{Basic, Atomic, If, Loop, Conseq}

@@ -9,7 +9,7 @@ use Rattle.rg_tree.specs.ProgramView.{specification}
 use Rattle.rg_tree.specs.TypedPrograms.{IsTypedSpecification, IsTypedStatement, AreTypedItems, AreTypedParts}
 use Rattle.rg_tree.specs.declared.line.DerivationLine.{DerivationLine}
 use Rattle.rg_tree.specs.Lines.{LineTree, line_tree, AreTypedLines}
-use Rattle.rg_rules.specs.Derivations.{spec_of, first_spec}
+use Rattle.rg_rules.specs.Derivations.{spec_of_line, first_spec}
 
 abbrev AllTyped : List Word → List Statement → Type 0
 AllTyped words [] = Unit {0}
@@ -66,7 +66,7 @@ pub first_typed : (words : List Word) (lines : List LineTree) (is : List ℕ) (s
 first_typed words lines [] spec h e = cc e
 first_typed words lines (i ∷ is) spec h e = by_line (nth lines i) refl e
   where
-    by_line : (o : Option LineTree) → nth lines i ≡ o → spec_of o ≡ Some spec → IsTypedSpecification words spec
+    by_line : (o : Option LineTree) → nth lines i ≡ o → spec_of_line o ≡ Some spec → IsTypedSpecification words spec
     by_line None found e = cc e
     by_line (Some line) found e =
         let same : line.spec ≡ spec = cc e in

@@ -16,9 +16,11 @@ use Rattle.rg_tree.specs.Lines.{LineTree}
 abbrev pub step_conditions : Specification → List Proposition → List Assignment → List RuleCondition
 step_conditions l given act = reaches given act l.post ∷ makes given act l.guar ∷ keeps l.pre l.rely ∷ keeps l.post l.rely ∷ []
 
+-- the conditions of a line of an `if`
 abbrev pub choice_conditions : Specification → List RuleCondition
 choice_conditions l = keeps l.pre l.rely ∷ []
 
+-- the conditions of a line of a `while` with this test
 abbrev pub loop_conditions : Specification → Proposition → List RuleCondition
 loop_conditions l b = keeps l.pre l.rely ∷ reaches (l.pre ∷ negation b ∷ []) [] l.post ∷ keeps l.post l.rely ∷ []
 
@@ -51,11 +53,13 @@ ChoiceFits lines k n spec b s (i ∷ j ∷ []) =
     IsPremise lines k i (n + 1) (record spec { pre = connected And spec.pre b }) × IsPremise lines k j (n + 1 + length (statements s)) (record spec { pre = connected And spec.pre (negation b) })
 ChoiceFits lines k n spec b s (i ∷ j ∷ h ∷ is) = ⊥
 
+-- the premise of a `while`: its block, from the pre with the test, back to the pre
 abbrev pub LoopFits : List LineTree → ℕ → ℕ → Specification → Proposition → List ℕ → Type 0
 LoopFits lines k n spec b [] = ⊥
 LoopFits lines k n spec b (i ∷ []) = IsPremise lines k i (n + 1) (record spec { pre = connected And spec.pre b; post = spec.pre })
 LoopFits lines k n spec b (i ∷ j ∷ is) = ⊥
 
+-- the premise of a line by consequence: a line of the same statement
 abbrev pub ConseqFits : List LineTree → ℕ → ℕ → List ℕ → Type 0
 ConseqFits lines k n [] = ⊥
 ConseqFits lines k n (i ∷ []) = (from : Specification) × IsPremise lines k i n from
@@ -72,6 +76,7 @@ RuleFits lines k n spec is Loop (loop row b s) = LoopFits lines k n spec b is
 RuleFits lines k n spec is Conseq s = ConseqFits lines k n is
 RuleFits lines k n spec is _ _ = ⊥
 
+-- the line is of a statement that is there, and its rule fits that statement and its premises
 abbrev pub LineFits : List Statement → List LineTree → ℕ → LineTree → Type 0
 LineFits all lines k line =
     (s : Statement) × (nth all line.number ≡ Some s) × RuleFits lines k line.number line.spec line.premises line.rule s
@@ -81,14 +86,16 @@ abbrev pub DerivationFits : List Statement → List LineTree → Type 0
 DerivationFits all lines = (k : ℕ) (line : LineTree) → nth lines k ≡ Some line → LineFits all lines k line
 
 -- the formulas of the first premise
-abbrev pub spec_of : Option LineTree → Option Specification
-spec_of None = None
-spec_of (Some line) = Some line.spec
+abbrev pub spec_of_line : Option LineTree → Option Specification
+spec_of_line None = None
+spec_of_line (Some line) = Some line.spec
 
+-- the formulas of the first of these premises
 abbrev pub first_spec : List LineTree → List ℕ → Option Specification
 first_spec lines [] = None
-first_spec lines (i ∷ is) = spec_of (nth lines i)
+first_spec lines (i ∷ is) = spec_of_line (nth lines i)
 
+-- the conditions of a line that follows from one with these formulas
 abbrev pub conditions_from : Specification → Option Specification → List RuleCondition
 conditions_from spec None = []
 conditions_from spec (Some from) = conseq_conditions spec from
@@ -103,10 +110,12 @@ conditions_of_rule lines spec is Loop (loop row b s) = loop_conditions spec b
 conditions_of_rule lines spec is Conseq _ = conditions_from spec (first_spec lines is)
 conditions_of_rule lines spec is _ _ = []
 
+-- the conditions of a line whose statement is this one, if it has one
 abbrev pub conditions_at : List LineTree → LineTree → Option Statement → List RuleCondition
 conditions_at lines line None = []
 conditions_at lines line (Some s) = conditions_of_rule lines line.spec line.premises line.rule s
 
+-- the conditions of a line, in a program with these statements
 abbrev pub conditions_of_line : List Statement → List LineTree → LineTree → List RuleCondition
 conditions_of_line all lines line = conditions_at lines line (nth all line.number)
 

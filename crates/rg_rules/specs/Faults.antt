@@ -15,6 +15,7 @@ use Rattle.rg_tree.specs.declared.line.Rule.TheVariants.{Basic, Atomic, Seq, If,
 use Rattle.rg_tree.specs.Lines.{LineTree}
 use Rattle.rg_rules.specs.Derivations.{DerivationFits}
 
+-- how many items there are
 abbrev pub count_items : Items → ℕ
 count_items (one s) = 1
 count_items (more s items) = suc (count_items items)
@@ -48,6 +49,7 @@ abbrev pub AreEarlier : ℕ → List ℕ → Type 0
 AreEarlier k [] = Unit {0}
 AreEarlier k (i ∷ is) = (1 ≤ i) × (i < k) × AreEarlier k is
 
+-- the line that was found, and the lines behind it
 abbrev pub found_first : Option LineTree → List LineTree → List LineTree
 found_first None lines = lines
 found_first (Some line) lines = line ∷ lines

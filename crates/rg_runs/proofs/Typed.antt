@@ -6,7 +6,7 @@ use Rattle.rg_tree.specs.ProgramView.{statement, part}
 use Rattle.rg_tree.specs.declared.part.Part.{Part}
 use Rattle.rg_tree.specs.TypedPrograms.{AreTypedItems, IsTypedStatement, AreTypedParts}
 use Rattle.rg_tree.specs.Following.{list_of}
-use Rattle.rg_runs.specs.Decides.{AreTyped}
+use Rattle.rg_runs.specs.Inner.Todo.{AreTyped}
 
 -- the items of a sequence, before others
 pub items_typed : (words : List Word) (items : Items) (rest : List Statement) → AreTypedItems words items → AreTyped words rest → AreTyped words (list_of items ++ rest)

@@ -1,16 +1,9 @@
 -- What a judge of runs says.
-use Rattle.std.specs.Prelude.{◌≡◌, Bool, List, [], ◌∷◌, Option, Some, ◌↔◌}
-use Rattle.rg_words.specs.Layout.{Word}
-use Rattle.rg_tree.specs.Statements.{Statement, ProgramTree}
-use Rattle.rg_tree.specs.TypedPrograms.{IsTypedStatement}
+use Rattle.std.specs.Prelude.{◌≡◌, Bool, List, Option, Some, ◌↔◌}
+use Rattle.rg_tree.specs.Statements.{ProgramTree}
 use Rattle.rg_tree.specs.Traces.{State, Step}
 use Rattle.rg_tree.specs.Programs.{IsRun}
 
 -- the answer has a flag exactly where the trace is a run of the program with that flag
 abbrev pub Decides : ProgramTree → State → List Step → Option Bool → Type 0
 Decides program s xs answer = (ended : Bool) → (answer ≡ Some ended) ↔ IsRun program s xs ended
-
--- each of these statements fits the words
-abbrev pub AreTyped : List Word → List Statement → Type 0
-AreTyped words [] = Unit {0}
-AreTyped words (x ∷ xs) = IsTypedStatement words x × AreTyped words xs

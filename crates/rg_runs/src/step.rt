@@ -9,8 +9,7 @@ ghost use Rattle.rg_tree.specs.ConditionTrees.{assignment, assigned, Assignments
 ghost use Rattle.rg_tree.specs.Traces.{holds_at};
 ghost use Rattle.rg_tree.specs.TypedPrograms.{IsTypedPredicate, IsTypedStatement, AreTypedItems};
 ghost use Rattle.rg_tree.specs.Following.{same_state, list_of, step_of, step_of_all};
-ghost use Rattle.rg_runs.specs.View.{todo_of};
-ghost use Rattle.rg_runs.specs.Decides.{AreTyped};
+ghost use Rattle.rg_runs.specs.Inner.Todo.{todo_of, AreTyped};
 
 use crate::states::copy_state;
 use rg_tree::condition::Assign;

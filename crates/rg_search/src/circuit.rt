@@ -2,8 +2,8 @@
 
 use crate::code::{Code, code_of, negated, variable_of};
 use crate::given::Given;
-use crate::table::at;
-use std::alloc::{AllocError, Global};
+use crate::table::{add, at, fill, put};
+use std::alloc::Global;
 
 /// The operands of an AND gate.
 #[derive(Clone, Copy)]
@@ -22,8 +22,19 @@ pub const NO_OPERANDS: Operands = Operands {
 pub struct Circuit {
     pub inputs: usize,
     pub gates: Vec<Operands>,
+    /// By variable: whether the assertion rests on it.
+    pub active: Vec<bool>,
     /// The literal that the last clause asserts alone, or 0.
     pub assertion: Code,
+}
+
+/// The literal of the last clause, where it has one alone.
+fn assertion_of(given: Given<'_>) -> Code {
+    let literals = given.clause(given.len().saturating_sub(1));
+    if literals.len() == 1 {
+        return code_of(at(literals, 0, 0));
+    }
+    0
 }
 
 fn code_at(given: Given<'_>, index: usize, place: usize) -> Code {
@@ -51,34 +62,62 @@ fn operands_at(given: Given<'_>, start: usize, variable: usize) -> Option<Operan
     }
 }
 
-/// The literal of the last clause, where it has one alone.
-fn assertion_of(given: Given<'_>) -> Code {
-    let literals = given.clause(given.len().saturating_sub(1));
-    if literals.len() == 1 {
-        return code_of(at(literals, 0, 0));
-    }
-    0
-}
-
 impl Circuit {
+    /// The circuit that the clauses begin with.
+    pub fn read(alloc: Global, given: Given<'_>, lacks_memory: &mut bool) -> Circuit {
+        let size = (given.variables as usize).saturating_add(1);
+        let mut circuit = Circuit {
+            inputs: given.inputs as usize,
+            gates: Vec::new(alloc),
+            active: Vec::new(alloc),
+            assertion: assertion_of(given),
+        };
+        circuit.read_gates(given, lacks_memory);
+        fill(&mut circuit.active, false, size, lacks_memory);
+        circuit.mark_active(given);
+        circuit
+    }
+
     /// The gates that the clauses begin with, three clauses for each.
-    pub fn read(alloc: Global, given: Given<'_>) -> Result<Circuit, AllocError> {
-        let inputs = given.inputs as usize;
-        let mut gates = Vec::new(alloc);
-        let mut variable = inputs;
+    fn read_gates(&mut self, given: Given<'_>, lacks_memory: &mut bool) {
+        let mut variable = self.inputs;
         for index in 0..given.len() / 3 {
             variable = variable.saturating_add(1);
             let Some(gate) = operands_at(given, index.saturating_mul(3), variable) else {
                 break;
             };
-            gates.push(gate)?;
+            add(&mut self.gates, gate, lacks_memory);
         }
-        let assertion = assertion_of(given);
-        Ok(Circuit {
-            inputs,
-            gates,
-            assertion,
-        })
+    }
+
+    /// Marks what the clauses after those of the gates rest on.
+    fn mark_active(&mut self, given: Given<'_>) {
+        for index in self.gates.len().saturating_mul(3)..given.len() {
+            for literal in given.clause(index) {
+                put(&mut self.active, variable_of(code_of(*literal)), true);
+            }
+        }
+        for place in (0..self.gates.len()).rev() {
+            let variable = self.inputs.saturating_add(place).saturating_add(1);
+            if self.is_active(variable) {
+                let gate = at(&self.gates, place, NO_OPERANDS);
+                put(&mut self.active, variable_of(gate.first), true);
+                put(&mut self.active, variable_of(gate.second), true);
+            }
+        }
+    }
+
+    /// Whether the assertion rests on a variable.
+    #[inline]
+    pub fn is_active(&self, variable: usize) -> bool {
+        at(&self.active, variable, false)
+    }
+
+    /// Whether a clause is needed: not where it is of a gate on which the assertion doesn't rest.
+    pub fn needs(&self, clause: usize) -> bool {
+        let gate = clause / 3;
+        gate >= self.gates.len()
+            || self.is_active(self.inputs.saturating_add(gate).saturating_add(1))
     }
 
     /// The count of inputs and gates.
@@ -87,6 +126,7 @@ impl Circuit {
     }
 
     /// The operands of a variable, where it is a gate.
+    #[inline]
     pub fn operands(&self, variable: usize) -> Option<Operands> {
         let place = variable.checked_sub(self.inputs)?.checked_sub(1)?;
         self.gates.get(place).copied()

@@ -17,6 +17,12 @@ pub fn variable_of(code: Code) -> usize {
     (code >> 1) as usize
 }
 
+/// The code of a variable itself.
+#[inline]
+pub fn code_for(variable: usize) -> Code {
+    u32::try_from(variable).unwrap_or(0).wrapping_mul(2)
+}
+
 #[inline]
 pub fn negated(code: Code) -> Code {
     code ^ 1

@@ -1,9 +1,11 @@
 //! The first variable of each hash.
 
-use crate::table::{at, put};
-use std::alloc::{AllocError, Global};
+use crate::table::{at, fill, put};
+use std::alloc::Global;
 
 const NOBODY: u32 = u32::MAX;
+
+const MULTIPLIER: u64 = 0x9e37_79b9_7f4a_7c15;
 
 #[derive(Clone, Copy)]
 struct Entry {
@@ -24,11 +26,11 @@ pub struct Leaders {
 
 impl Leaders {
     /// A table for so many variables.
-    pub fn new(alloc: Global, variables: usize) -> Result<Self, AllocError> {
+    pub fn new(alloc: Global, variables: usize, lacks_memory: &mut bool) -> Self {
         let size = variables.saturating_add(1).saturating_mul(2);
-        Ok(Leaders {
-            entries: vec![in alloc; NO_ENTRY; size]?,
-        })
+        let mut entries = Vec::new(alloc);
+        fill(&mut entries, NO_ENTRY, size, lacks_memory);
+        Leaders { entries }
     }
 
     pub fn clear(&mut self) {
@@ -40,7 +42,8 @@ impl Leaders {
     /// The place where this hash stands, or where it would.
     fn place_of(&self, hash: u64) -> usize {
         let size = self.entries.len().max(1);
-        let mut place = (hash % size as u64) as usize;
+        let mixed = hash.wrapping_mul(MULTIPLIER);
+        let mut place = ((mixed ^ (mixed >> 32)) % size as u64) as usize;
         for _ in 0..size {
             let entry = at(&self.entries, place, NO_ENTRY);
             if entry.variable == NOBODY || entry.hash == hash {
@@ -52,6 +55,15 @@ impl Leaders {
             }
         }
         place
+    }
+
+    /// The leader of this hash, if any.
+    pub fn leader(&self, hash: u64) -> Option<usize> {
+        let found = at(&self.entries, self.place_of(hash), NO_ENTRY).variable;
+        if found == NOBODY {
+            return None;
+        }
+        Some(found as usize)
     }
 
     /// The leader of this hash; where there is none yet, this variable becomes it.

@@ -8,17 +8,26 @@
 
 mod analysis;
 mod answer;
+mod cases;
 mod circuit;
 mod code;
+mod cone;
+mod congruence;
 mod given;
 mod leaders;
-mod lemma;
+mod leaves;
 mod lists;
+mod loading;
 mod log;
 mod order;
+mod plain;
+mod probe;
+mod propagation;
 mod reduction;
 mod refutation;
+mod restart;
 mod search;
+mod shortening;
 mod simulation;
 mod solver;
 mod sweep;

@@ -1,7 +1,7 @@
 //! A list of lists, kept in one flat list.
 
-use crate::table::at;
-use std::alloc::{AllocError, Global};
+use crate::table::{add, at};
+use std::alloc::Global;
 
 /// All items in one list, and the place in it where each inner list ends.
 #[derive(Drop)]
@@ -24,6 +24,11 @@ impl<T: Copy + Drop> Lists<T> {
         self.ends.len()
     }
 
+    /// The count of all items.
+    pub fn count(&self) -> usize {
+        self.items.len()
+    }
+
     /// The list at an index; past the last one it is empty.
     pub fn list(&self, index: usize) -> &[T] {
         let start = match index.checked_sub(1) {
@@ -35,19 +40,20 @@ impl<T: Copy + Drop> Lists<T> {
     }
 
     /// Adds an item to the list that isn't ended yet.
-    pub fn push(&mut self, item: T) -> Result<(), AllocError> {
-        self.items.push(item)?;
-        Ok(())
+    pub fn push(&mut self, item: T, lacks_memory: &mut bool) {
+        add(&mut self.items, item, lacks_memory);
     }
 
     /// Adds items to the list that isn't ended yet.
-    pub fn extend(&mut self, items: &[T]) -> Result<(), AllocError> {
-        self.items.extend_from_slice(items)
+    pub fn extend(&mut self, items: &[T], lacks_memory: &mut bool) {
+        if self.items.extend_from_slice(items).is_err() {
+            *lacks_memory = true;
+        }
     }
 
     /// Ends a list.
-    pub fn end(&mut self) -> Result<(), AllocError> {
-        self.ends.push(self.items.len())?;
-        Ok(())
+    pub fn end(&mut self, lacks_memory: &mut bool) {
+        let count = self.items.len();
+        add(&mut self.ends, count, lacks_memory);
     }
 }

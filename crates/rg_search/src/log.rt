@@ -3,14 +3,17 @@
 use crate::code::Code;
 use crate::lists::Lists;
 use crate::table::{at, put};
-use std::alloc::{AllocError, Global};
+use std::alloc::Global;
+
+/// The most literals and hints of a log: a search whose log has more ends.
+const MOST_LOGGED: usize = 8_000_000;
 
 /// Learned clauses, numbered from one above the given ones.
 #[derive(Drop)]
 pub struct Log {
     pub given: u32,
     literals: Lists<Code>,
-    hints: Lists<u32>,
+    pub hints: Lists<u32>,
 }
 
 impl Log {
@@ -27,13 +30,18 @@ impl Log {
         self.literals.len()
     }
 
+    /// Whether no more may be logged.
+    pub fn is_full(&self) -> bool {
+        self.literals.count().saturating_add(self.hints.count()) > MOST_LOGGED
+    }
+
     /// Logs a clause, and answers its number.
-    pub fn add(&mut self, literals: &[Code], hints: &[u32]) -> Result<u32, AllocError> {
-        self.literals.extend(literals)?;
-        self.hints.extend(hints)?;
-        self.literals.end()?;
-        self.hints.end()?;
-        Ok(self.number_of(self.len().saturating_sub(1)))
+    pub fn add(&mut self, literals: &[Code], hints: &[u32], lacks_memory: &mut bool) -> u32 {
+        self.literals.extend(literals, lacks_memory);
+        self.hints.extend(hints, lacks_memory);
+        self.literals.end(lacks_memory);
+        self.hints.end(lacks_memory);
+        self.number_of(self.len().saturating_sub(1))
     }
 
     fn number_of(&self, index: usize) -> u32 {
@@ -42,7 +50,7 @@ impl Log {
     }
 
     /// The place of a learned clause's number.
-    fn index_of(&self, number: u32) -> Option<usize> {
+    pub fn index_of(&self, number: u32) -> Option<usize> {
         let above = number.checked_sub(self.given)?;
         Some(above.checked_sub(1)? as usize)
     }
@@ -55,21 +63,23 @@ impl Log {
         self.hints.list(index)
     }
 
-    /// Which clauses the last one rests on.
-    pub fn used(&self, alloc: Global) -> Result<Vec<bool>, AllocError> {
+    /// Marks the clauses on which the last one rests, where they have these hints.
+    pub fn mark_used(&self, hints: &Lists<u32>, used: &mut [bool]) {
         let count = self.len();
-        let mut used = vec![in alloc; false; count]?;
-        put(&mut used, count.saturating_sub(1), true);
+        put(used, count.saturating_sub(1), true);
         for index in (0..count).rev() {
-            if at(&used, index, false) {
-                for hint in self.hints(index) {
-                    if let Some(earlier) = self.index_of(*hint) {
-                        put(&mut used, earlier, true);
-                    }
-                }
+            if at(used, index, false) {
+                self.mark_hints(hints.list(index), used);
             }
         }
-        Ok(used)
+    }
+
+    fn mark_hints(&self, hints: &[u32], used: &mut [bool]) {
+        for hint in hints {
+            if let Some(earlier) = self.index_of(*hint) {
+                put(used, earlier, true);
+            }
+        }
     }
 
     /// A hint's number, where the clauses have these new ones.

@@ -1,38 +1,37 @@
 //! Variables by activity: a binary heap that knows where each stands.
 
-use crate::table::{at, put};
-use std::alloc::{AllocError, Global};
+use crate::table::{at, fill, put};
+use std::alloc::Global;
 
 const NOWHERE: usize = usize::MAX;
 
 #[derive(Drop)]
 pub struct Order {
+    /// Room for all variables, of which so many are in the heap.
     heap: Vec<u32>,
+    count: usize,
     places: Vec<usize>,
     activity: Vec<f64>,
     step: f64,
 }
 
 impl Order {
-    /// Of no inputs.
-    pub fn empty(alloc: Global) -> Self {
+    /// Of no variables.
+    pub fn new(alloc: Global) -> Self {
         Order {
             heap: Vec::new(alloc),
+            count: 0,
             places: Vec::new(alloc),
             activity: Vec::new(alloc),
             step: 1.0,
         }
     }
 
-    /// No inputs yet, of so many.
-    pub fn new(alloc: Global, inputs: usize) -> Result<Self, AllocError> {
-        let size = inputs.saturating_add(1);
-        Ok(Order {
-            heap: Vec::new(alloc),
-            places: vec![in alloc; NOWHERE; size]?,
-            activity: vec![in alloc; 0.0; size]?,
-            step: 1.0,
-        })
+    /// Room for the variables below this one.
+    pub fn make_room(&mut self, size: usize, lacks_memory: &mut bool) {
+        fill(&mut self.heap, 0, size, lacks_memory);
+        fill(&mut self.places, NOWHERE, size, lacks_memory);
+        fill(&mut self.activity, 0.0, size, lacks_memory);
     }
 
     fn activity_at(&self, place: usize) -> f64 {
@@ -63,7 +62,7 @@ impl Order {
 
     fn sink(&mut self) {
         let mut place = 0usize;
-        let count = self.heap.len();
+        let count = self.count;
         for _ in 0..64 {
             let left = place.saturating_mul(2).saturating_add(1);
             let right = left.saturating_add(1);
@@ -80,38 +79,39 @@ impl Order {
         }
     }
 
-    /// Puts an input back.
-    pub fn insert(&mut self, variable: u32) -> Result<(), AllocError> {
+    /// Puts a variable back.
+    pub fn insert(&mut self, variable: u32) {
         if at(&self.places, variable as usize, 0) != NOWHERE {
-            return Ok(());
+            return;
         }
-        let place = self.heap.len();
-        self.heap.push(variable)?;
+        let place = self.count;
+        put(&mut self.heap, place, variable);
         put(&mut self.places, variable as usize, place);
+        self.count = place.saturating_add(1);
         self.rise(place);
-        Ok(())
     }
 
-    /// Takes the most active input out.
+    /// Takes the most active variable out.
     pub fn pop(&mut self) -> Option<u32> {
-        let last = self.heap.len().saturating_sub(1);
+        let last = self.count.checked_sub(1)?;
         self.swap(0, last);
-        let top = self.heap.pop()?;
+        let top = at(&self.heap, last, 0);
         put(&mut self.places, top as usize, NOWHERE);
+        self.count = last;
         self.sink();
         Some(top)
     }
 
     /// Takes all out.
     pub fn clear(&mut self) {
-        for place in 0..self.heap.len() {
+        for place in 0..self.count {
             let variable = at(&self.heap, place, 0);
             put(&mut self.places, variable as usize, NOWHERE);
         }
-        self.heap.clear();
+        self.count = 0;
     }
 
-    /// Raises an input's activity.
+    /// Raises a variable's activity.
     pub fn bump(&mut self, variable: u32) {
         let raised = at(&self.activity, variable as usize, 0.0) + self.step;
         put(&mut self.activity, variable as usize, raised);

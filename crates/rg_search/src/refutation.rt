@@ -3,8 +3,8 @@
 use crate::code::signed_of;
 use crate::lists::Lists;
 use crate::log::Log;
-use crate::table::at;
-use std::alloc::{AllocError, Global};
+use crate::table::{at, put};
+use std::alloc::Global;
 
 /// Clauses of signed literals, each with its hints. They are numbered from one above the given ones on, with no gaps,
 /// and a hint is the number of a given or of an earlier clause.
@@ -38,42 +38,42 @@ impl Refutation {
         self.hints.list(index)
     }
 
-    /// Takes a clause of the log, whose clauses have these new numbers.
-    fn take(&mut self, log: &Log, numbers: &[u32], index: usize) -> Result<(), AllocError> {
-        for code in log.literals(index) {
-            self.literals.push(signed_of(*code))?;
-        }
-        self.literals.end()?;
-        for hint in log.hints(index) {
-            self.hints.push(log.renumbered(numbers, *hint))?;
-        }
-        self.hints.end()
-    }
-
-    /// Takes the clauses of the log that are used, and numbers them anew.
-    fn take_used(
+    /// Takes a clause of the log with these hints, where its clauses have these new numbers.
+    fn take(
         &mut self,
         log: &Log,
-        used: &[bool],
-        numbers: &mut Vec<u32>,
-    ) -> Result<(), AllocError> {
-        let mut last = log.given;
-        for index in 0..log.len() {
-            if !at(used, index, false) {
-                numbers.push(0)?;
-                continue;
-            }
-            self.take(log, numbers, index)?;
-            last = last.saturating_add(1);
-            numbers.push(last)?;
+        hints: &[u32],
+        numbers: &[u32],
+        index: usize,
+        lacks_memory: &mut bool,
+    ) {
+        for code in log.literals(index) {
+            self.literals.push(signed_of(*code), lacks_memory);
         }
-        Ok(())
+        self.literals.end(lacks_memory);
+        for hint in hints {
+            self.hints
+                .push(log.renumbered(numbers, *hint), lacks_memory);
+        }
+        self.hints.end(lacks_memory);
     }
 
-    /// Takes the clauses on which the last one of the log rests.
-    pub fn take_all(&mut self, alloc: Global, log: &Log) -> Result<(), AllocError> {
-        let used = log.used(alloc)?;
-        let mut numbers = Vec::new(alloc);
-        self.take_used(log, &used, &mut numbers)
+    /// Takes the clauses of the log that are used, with these hints, and numbers them anew.
+    pub fn take_used(
+        &mut self,
+        log: &Log,
+        hints: &Lists<u32>,
+        used: &[bool],
+        numbers: &mut [u32],
+        lacks_memory: &mut bool,
+    ) {
+        let mut last = log.given;
+        for index in 0..log.len() {
+            if at(used, index, false) {
+                self.take(log, hints.list(index), numbers, index, lacks_memory);
+                last = last.saturating_add(1);
+                put(numbers, index, last);
+            }
+        }
     }
 }

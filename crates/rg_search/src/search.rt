@@ -1,84 +1,203 @@
-//! The search: propagation, learning, decisions and restarts.
+//! The search: propagation, learning, decisions and restarts, under assumptions or under none.
 
-use crate::code::Code;
-use crate::solver::Solver;
+use crate::circuit::Circuit;
+use crate::code::{Code, variable_of};
+use crate::solver::{FALSE, Solver};
 use crate::watcher::Watcher;
-use std::alloc::AllocError;
 
 /// How a search ends.
+#[derive(Clone, Copy, PartialEq, Eq)]
 pub enum Outcome {
-    /// The last clause of the log is empty.
-    Refuted,
-    /// Every input has a value.
+    /// The assumptions exclude each other, or the clauses are refuted.
+    Excluded,
+    /// The values that the solver has now keep all clauses, or those of the assumptions' cone; the assumptions are true.
     Assigned,
-    /// The decisions were used up.
+    /// The decisions or the conflicts were used up.
     GaveUp,
 }
 
-/// The conflicts between two restarts.
-pub const RESTART: u64 = 100;
+/// What a search looks for, and how much is left of it.
+#[derive(Clone, Copy)]
+pub struct Goal {
+    /// Two literals to be shown not to be true together. They may be one, or 0, where there is no assumption.
+    pub first: Code,
+    pub second: Code,
+    /// The conflicts that are left.
+    pub conflicts: u64,
+    /// The decisions on inputs that are left.
+    pub decisions: u64,
+    /// Whether the cone of the assumptions is known.
+    has_cone: bool,
+}
+
+impl Goal {
+    /// Values for all variables, or a refutation.
+    pub fn whole(conflicts: u64, decisions: u64) -> Self {
+        Goal {
+            first: 0,
+            second: 0,
+            conflicts,
+            decisions,
+            has_cone: false,
+        }
+    }
+
+    /// That two literals aren't true together.
+    pub fn lemma(first: Code, second: Code, conflicts: u64) -> Self {
+        Goal {
+            first,
+            second,
+            conflicts,
+            decisions: u64::MAX,
+            has_cone: false,
+        }
+    }
+
+    fn is_lemma(&self) -> bool {
+        self.first > 0
+    }
+
+    /// The level of the last assumption.
+    fn base(&self) -> usize {
+        if self.first == self.second {
+            self.first.min(1) as usize
+        } else {
+            2
+        }
+    }
+}
 
 impl Solver {
-    /// An open input, the most active first, with its last value.
-    fn next_decision(&mut self) -> Option<Code> {
+    /// Searches until the goal is decided or its effort is used up. What was learned stays.
+    pub fn search<W: Watcher>(
+        &mut self,
+        circuit: &Circuit,
+        goal: &mut Goal,
+        watcher: &mut W,
+    ) -> Outcome {
+        self.backtrack(0);
+        self.since_restart = 0;
+        for _ in 0..u64::MAX {
+            if self.is_over() {
+                return self.end();
+            }
+            if let Some(outcome) = self.advance(circuit, goal) {
+                return outcome;
+            }
+            watcher.searched(self.conflicts, self.kept.len());
+        }
+        Outcome::GaveUp
+    }
+
+    fn end(&self) -> Outcome {
+        if self.is_refuted {
+            Outcome::Excluded
+        } else {
+            Outcome::GaveUp
+        }
+    }
+
+    /// Follows unit clauses, and then learns from a conflict, begins anew or decides.
+    fn advance(&mut self, circuit: &Circuit, goal: &mut Goal) -> Option<Outcome> {
+        if let Some(conflict) = self.propagate() {
+            return self.take_conflict(conflict, goal);
+        }
+        if self.restarts(goal.base()) {
+            return None;
+        }
+        if !goal.is_lemma() {
+            return self.decide_any(goal);
+        }
+        if self.level() < goal.base() {
+            return self.assume_next(*goal);
+        }
+        self.decide_near(circuit, goal)
+    }
+
+    /// Learns from a conflict. Where it rests on the assumptions alone, or on nothing, the search ends.
+    fn take_conflict(&mut self, conflict: u32, goal: &mut Goal) -> Option<Outcome> {
+        if self.level() == 0 {
+            self.log_empty(conflict);
+            return Some(Outcome::Excluded);
+        }
+        if self.level() <= goal.base() {
+            self.conclude(conflict);
+            return Some(Outcome::Excluded);
+        }
+        if goal.conflicts == 0 {
+            return Some(Outcome::GaveUp);
+        }
+        goal.conflicts = goal.conflicts.saturating_sub(1);
+        self.learn(conflict);
+        None
+    }
+
+    /// Begins the level of the next assumption. Where it is false already, they exclude each other.
+    fn assume_next(&mut self, goal: Goal) -> Option<Outcome> {
+        let literal = if self.level() == 0 {
+            goal.first
+        } else {
+            goal.second
+        };
+        if self.value(literal) == FALSE {
+            self.contradict(literal);
+            return Some(Outcome::Excluded);
+        }
+        self.begin_level();
+        self.assume(literal);
+        None
+    }
+
+    /// Decides an open variable.
+    fn decide_any(&mut self, goal: &mut Goal) -> Option<Outcome> {
+        let Some(decision) = self.next_open() else {
+            return Some(Outcome::Assigned);
+        };
+        if variable_of(decision) <= self.inputs {
+            if goal.decisions == 0 {
+                self.order.insert(decision >> 1);
+                return Some(Outcome::GaveUp);
+            }
+            goal.decisions = goal.decisions.saturating_sub(1);
+        }
+        self.decide(decision);
+        None
+    }
+
+    /// Decides an open variable of the cone.
+    fn decide_near(&mut self, circuit: &Circuit, goal: &mut Goal) -> Option<Outcome> {
+        if !goal.has_cone {
+            goal.has_cone = true;
+            self.enter_cone(circuit, goal.first, goal.second);
+        }
+        let Some(decision) = self.next_near() else {
+            return Some(Outcome::Assigned);
+        };
+        self.decide(decision);
+        None
+    }
+
+    /// An open variable, the most active first, with its last value.
+    fn next_open(&mut self) -> Option<Code> {
         for _ in 0..u64::MAX {
             let variable = self.order.pop()?;
-            if let Some(decision) = self.open_literal(variable) {
-                return Some(decision);
+            let decision = self.open_literal(variable);
+            if decision.is_some() {
+                return decision;
             }
         }
         None
     }
 
-    /// Drops clauses where there are many. It is done at level 0.
-    pub fn reduce_if_full(&mut self) -> Result<(), AllocError> {
-        if self.kept_learned >= self.next_reduction {
-            self.reduce()?;
-        }
-        Ok(())
-    }
-
-    /// Learns from a conflict, and begins anew where there were many since the last time.
-    fn take_conflict(&mut self, conflict: u32, conflicts: &mut u64) -> Result<(), AllocError> {
-        if self.level() == 0 {
-            return self.log_empty(conflict);
-        }
-        self.learn(conflict)?;
-        *conflicts = conflicts.saturating_add(1);
-        if *conflicts >= RESTART {
-            *conflicts = 0;
-            self.backtrack(0)?;
-            self.reduce_if_full()?;
-        }
-        Ok(())
-    }
-
-    /// Searches with at most so many decisions, each on an input.
-    pub fn search<W: Watcher>(
-        &mut self,
-        steps: u64,
-        watcher: &mut W,
-    ) -> Result<Outcome, AllocError> {
-        let mut left = steps;
-        let mut conflicts = 0u64;
+    /// An open variable of the cone, the most active first, with its last value.
+    fn next_near(&mut self) -> Option<Code> {
         for _ in 0..u64::MAX {
-            if self.is_refuted {
-                return Ok(Outcome::Refuted);
+            let variable = self.near.pop()?;
+            let decision = self.open_literal(variable);
+            if decision.is_some() {
+                return decision;
             }
-            if let Some(conflict) = self.propagate()? {
-                self.take_conflict(conflict, &mut conflicts)?;
-                watcher.searched(self.conflicts, self.kept_learned);
-                continue;
-            }
-            let Some(decision) = self.next_decision() else {
-                return Ok(Outcome::Assigned);
-            };
-            if left == 0 {
-                return Ok(Outcome::GaveUp);
-            }
-            left -= 1;
-            self.decide(decision)?;
         }
-        Ok(Outcome::GaveUp)
+        None
     }
 }

@@ -2,8 +2,8 @@
 
 use crate::circuit::Circuit;
 use crate::code::{Code, variable_of};
-use crate::table::{at, put};
-use std::alloc::{AllocError, Global};
+use crate::table::{at, fill, put};
+use std::alloc::Global;
 
 const MULTIPLIER: u64 = 0x9e37_79b9_7f4a_7c15;
 
@@ -19,22 +19,34 @@ pub struct Simulation {
 }
 
 impl Simulation {
-    pub fn new(alloc: Global, circuit: &Circuit) -> Result<Self, AllocError> {
-        let size = circuit.variables().saturating_add(1);
+    pub fn new(alloc: Global, circuit: &Circuit, lacks_memory: &mut bool) -> Self {
         let mut simulation = Simulation {
-            words: vec![in alloc; 0; size]?,
-            hashes: vec![in alloc; 0; size]?,
-            flips: vec![in alloc; 0; size]?,
+            words: Vec::new(alloc),
+            hashes: Vec::new(alloc),
+            flips: Vec::new(alloc),
             random: MULTIPLIER,
         };
-        simulation.draw_inputs(circuit, 0);
-        simulation.run(circuit);
-        for variable in 0..size {
-            let first = at(&simulation.words, variable, 0) & 1;
-            put(&mut simulation.flips, variable, 0u64.wrapping_sub(first));
+        simulation.make_room(circuit, lacks_memory);
+        simulation.begin(circuit);
+        simulation
+    }
+
+    fn make_room(&mut self, circuit: &Circuit, lacks_memory: &mut bool) {
+        let size = circuit.variables().saturating_add(1);
+        fill(&mut self.words, 0, size, lacks_memory);
+        fill(&mut self.hashes, 0, size, lacks_memory);
+        fill(&mut self.flips, 0, size, lacks_memory);
+    }
+
+    /// Looks at the first inputs, after which each variable stands for itself or its negation.
+    fn begin(&mut self, circuit: &Circuit) {
+        self.draw_inputs(circuit, 0);
+        self.run(circuit);
+        for variable in 0..self.words.len() {
+            let first = at(&self.words, variable, 0) & 1;
+            put(&mut self.flips, variable, 0u64.wrapping_sub(first));
         }
-        simulation.absorb();
-        Ok(simulation)
+        self.absorb();
     }
 
     /// 64 random bits, after G. Marsaglia ("Xorshift RNGs", 2003).
@@ -60,13 +72,19 @@ impl Simulation {
         }
     }
 
-    fn word_of(&self, literal: Code) -> u64 {
+    /// The values of a literal.
+    pub fn word_of(&self, literal: Code) -> u64 {
         let word = at(&self.words, variable_of(literal), 0);
         if literal & 1 == 1 { !word } else { word }
     }
 
+    /// Sets the values of an input.
+    pub fn set(&mut self, variable: usize, word: u64) {
+        put(&mut self.words, variable, word);
+    }
+
     /// The values of all gates.
-    fn run(&mut self, circuit: &Circuit) {
+    pub fn run(&mut self, circuit: &Circuit) {
         let mut variable = circuit.inputs;
         for gate in &circuit.gates {
             variable = variable.saturating_add(1);

@@ -15,11 +15,11 @@ use Rattle.rg_shape.specs.declared.point.Sorts.{Sorts}
 use Rattle.rg_shape.specs.declared.point.Point.{Point}
 use Rattle.rg_shape.specs.declared.point.Point.TheVariants.{Negated, Inverted, First, End}
 use Rattle.rg_shape.specs.declared.point.Turn.{Turn}
-use Rattle.rg_syntax.specs.Grammar.{Lexeme, kind_of, opening, an_if, a_skip, an_await, a_while, a_line, no_line, and_line, one_premise, and_premise, skipping, awaiting, branching, looping, one_statement, and_statement, one_part, and_part, fixed, name, primed, number, FormulaSpelling, ExpressionSpelling, truth, junction, conditional, comparison, numeral, word, next_word, operation, shift, choice, one, more, formula, expression, no_setting, and_setting, no_move, and_move}
+use Rattle.rg_syntax.specs.Grammar.{Lexeme, opening, an_if, a_skip, an_await, a_while, a_line, no_line, and_line, one_premise, and_premise, skipping, awaiting, branching, looping, one_statement, and_statement, one_part, and_part, fixed, name, primed, number, FormulaSpelling, ExpressionSpelling, truth, junction, conditional, comparison, numeral, word, next_word, operation, shift, choice, one, more, formula, expression, no_setting, and_setting, no_move, and_move}
 use Rattle.rg_words.specs.declared.operators.Comparison.{Comparison}
 use Rattle.rg_words.specs.declared.operators.Comparison.TheVariants as comparisons
-use Rattle.rg_shape.specs.Inner.Machine.{has, takes, complete, next, run, when, turned, after_turn, at_compare, at_operate, at_shift, at_join, at_imply, at_close, at_if, at_then, at_else, at_number, at_name, at_colon, at_words, at_show, at_semicolon, at_assign, at_section}
-use Rattle.rg_shape.proofs.Steps.{kinds, is_written, written}
+use Rattle.rg_shape.specs.Inner.Machine.{has, takes, complete, next, when, turned, after_turn, at_compare, at_operate, at_shift, at_join, at_imply, at_close, at_if, at_then, at_else, at_number, at_name, at_colon, at_words, at_show, at_semicolon, at_assign, at_section}
+use Rattle.rg_shape.proofs.Steps.{kinds, is_written, written, kind_of, run}
 use Rattle.rg_shape.proofs.Zipper.{single, several, negated, inverted, first, another, second, compared, operated, condition, consequent, alternative, Outer, alone, shown, clause, await_guard, branch_guard, loop_guard, value, await_value, own, of_part, of_line, whole_line, to_pre, to_rely, to_guar, to_post, in_body, in_then, in_else, in_loop, Place, after_clause, part_name, named_part, after_part, item, after_item, target, after_await_guard, await_target, await_name, after_assignment, after_branch_guard, after_loop_guard, place, place_kind, before_place, place_points, InLines, before_lines, line_begun, line_numbered, line_ruled, after_statement, after_from, after_premise, in_lines, before_in_lines, in_lines_point, outer_point, outer_below, head_kind, at_place, Frames, bottom, within, Head, unread, before_first, after_fixed, after_name, after_colon, after_words, for_start, for_move, Set, after_settings, after_set_word, after_equals, before_moves, after_at, before_set, set_kind, set_point, Part, after_formula, after_expression, after_next, counted, closing_conditional, closing_comparison, closing_operation, closing_shift, closing_choice, after_condition, after_consequent, State, hole, at, done, head, set, part, before_outer, before_all, before_head, outer_kind, frames_kind, state_kind, head_point, tokens, taking, top, below, points, part_point, state_points, under, part_needs, Well, WellState, Reaches, finish_formula, finish_expression}
 use Rattle.rg_syntax.proofs.Clauses.{and_both}
 

@@ -17,9 +17,9 @@ use Rattle.rg_words.specs.declared.operators.Operator.TheVariants.{Add}
 use Rattle.rg_shape.specs.declared.point.Sorts.{Sorts}
 use Rattle.rg_shape.specs.declared.point.Point.{Point}
 use Rattle.rg_shape.specs.declared.point.Point.TheVariants.{AfterClaim, AfterPart, Settings}
-use Rattle.rg_syntax.specs.Grammar.{Lexeme, kind_of, fixed, opening, an_if, a_skip, an_await, a_while, name, number, no_line, and_line, one_premise, AssignmentSpelling, AssignmentsSpelling, one_assignment, and_assignment, StatementSpelling, BlockSpelling, skipping, assigning, awaiting, branching, looping, one_statement, and_statement, SpecSpelling, PartSpelling, PartsSpelling, ProgramSpelling, one_part, and_part, an_assignment, assignments, statement, block, a_part, specification, WordsSpelling, one, more, and_setting, and_move, no_setting, no_move, ShowSpelling, Spelling, spelled, IsText, FormulaSpelling, ExpressionSpelling, truth, negation, junction, conditional, comparison, pair, longer, numeral, inverse, operation, shift, choice, formula, chain, expression}
-use Rattle.rg_shape.specs.Inner.Machine.{run, limited, is_at_end, one_more}
-use Rattle.rg_shape.proofs.Steps.{kinds, calm, calm_run, calm-append, run-append, limited-append}
+use Rattle.rg_syntax.specs.Grammar.{Lexeme, fixed, opening, an_if, a_skip, an_await, a_while, name, number, no_line, and_line, one_premise, AssignmentSpelling, AssignmentsSpelling, one_assignment, and_assignment, StatementSpelling, BlockSpelling, skipping, assigning, awaiting, branching, looping, one_statement, and_statement, SpecSpelling, PartSpelling, PartsSpelling, ProgramSpelling, one_part, and_part, an_assignment, assignments, statement, block, a_part, specification, WordsSpelling, one, more, and_setting, and_move, no_setting, no_move, ShowSpelling, Spelling, spelled, IsText, FormulaSpelling, ExpressionSpelling, truth, negation, junction, conditional, comparison, pair, longer, numeral, inverse, operation, shift, choice, formula, chain, expression}
+use Rattle.rg_shape.specs.Inner.Machine.{is_at_end, one_more}
+use Rattle.rg_shape.proofs.Steps.{kinds, calm, calm_run, calm-append, run-append, limited-append, kind_of, run, limited}
 use Rattle.rg_shape.proofs.Spellings.{last_point}
 use Rattle.rg_shape.proofs.Zipper.{single, several, negated, inverted, first, another, second, compared, operated, condition, consequent, alternative, Outer, alone, shown, clause, await_guard, branch_guard, loop_guard, value, await_value, Whose, own, of_part, of_line, LineStart, whole_line, InLines, before_lines, line_begun, line_numbered, line_ruled, after_statement, after_from, after_premise, in_lines, before_in_lines, whose_kind, Clauses, to_pre, to_rely, to_guar, to_post, Around, in_body, in_then, in_else, in_loop, Place, after_clause, part_name, named_part, after_part, item, after_item, target, after_await_guard, await_target, await_name, after_assignment, after_branch_guard, after_loop_guard, place, before_place, before_whose, before_clause, before_around, before_item, before_await, before_assignment, place_points, Frames, bottom, within, Head, unread, before_first, after_fixed, after_name, after_colon, after_words, for_start, for_move, Set, after_settings, after_set_word, after_equals, before_moves, after_at, Part, after_formula, after_expression, after_next, counted, closing_conditional, closing_comparison, closing_operation, closing_shift, closing_choice, after_condition, after_consequent, State, hole, at, done, head, set, part, before_outer, before_all, tokens, taking, top, below, outer_kind, frames_kind, state_kind, points, part_point, state_points, under, part_needs, Well, WellState}
 use Rattle.rg_text.specs.declared.kind.Conditional.TheVariants.{Implies}

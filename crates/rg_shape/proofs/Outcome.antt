@@ -7,11 +7,11 @@ use Rattle.rg_syntax.specs.declared.text_kind.TextKind.TheVariants as texts
 use Rattle.rg_shape.specs.declared.point.Point.{Point}
 use Rattle.rg_shape.specs.declared.shape.ShapeFault.{ShapeFault}
 use Rattle.rg_shape.specs.declared.shape.ShapeFault.TheVariants.{Memory, Unexpected, TooDeep, TooMany, Unfinished}
-use Rattle.rg_syntax.specs.Grammar.{Lexeme, kind_of, Spelling, spelled, IsText, BeginsText, no_setting}
+use Rattle.rg_syntax.specs.Grammar.{Lexeme, Spelling, spelled, IsText, BeginsText, no_setting}
 use Rattle.rg_syntax.specs.Limits.{IsTextWithin, BeginsWithin, BeginsShallow}
-use Rattle.rg_shape.specs.Inner.Machine.{start, next, run, is_shallow, has_room, allowed, limited, is_at_end}
+use Rattle.rg_shape.specs.Inner.Machine.{start, next, is_shallow, has_room, is_at_end}
 use Rattle.rg_shape.specs.Shape.{ShapeIs}
-use Rattle.rg_shape.proofs.Steps.{kinds, is_written, written, limited_run, fewer_limits, run-append, limited-append}
+use Rattle.rg_shape.proofs.Steps.{kinds, is_written, written, limited_run, fewer_limits, run-append, limited-append, kind_of, run, allowed, limited}
 use Rattle.rg_shape.proofs.Spellings.{last_point, text_ends, reads_text}
 use Rattle.rg_shape.proofs.Within.{also, fits, fits_text, fits_shallow, fits_short, shallow_fits, within_fits}
 use Rattle.rg_shape.proofs.Zipper.{State, WellState, state_kind, state_points, alone, bottom, unread, hole, head, set, for_start, after_settings, before_moves, in_lines, before_lines, tokens, Reaches}

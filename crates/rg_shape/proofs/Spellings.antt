@@ -20,8 +20,8 @@ use Rattle.rg_shape.specs.declared.point.Clause.TheVariants as clauses
 use Rattle.rg_shape.specs.declared.point.BlockKind.{BlockKind}
 use Rattle.rg_shape.specs.declared.point.BlockKind.TheVariants as blocks
 use Rattle.rg_syntax.specs.Grammar.{Lexeme, fixed, opening, a_line, name, number, lexeme_as, PremisesSpelling, one_premise, and_premise, DerivationSpelling, no_line, and_line, rule_terminal, some_premises, premises, a_derived_line, derivation, WordsSpelling, one, more, SettingsSpelling, no_setting, and_setting, MovesSpelling, no_move, and_move, settings, moves, a_setting, AssignmentsSpelling, one_assignment, and_assignment, StatementSpelling, BlockSpelling, skipping, assigning, awaiting, branching, looping, one_statement, and_statement, SpecSpelling, PartSpelling, PartsSpelling, one_part, and_part, an_assignment, assignments, statement, block, a_part, parts, specification, Spelling, marked, declaration, words, spelled, FormulaSpelling, ChainSpelling, ExpressionSpelling, truth, negation, junction, conditional, comparison, pair, longer, numeral, word, next_word, inverse, operation, shift, choice, formula, chain, expression}
-use Rattle.rg_shape.specs.Inner.Machine.{start, takes, complete, run, same_junction, one_more, one_more_line, is_end}
-use Rattle.rg_shape.proofs.Steps.{kinds}
+use Rattle.rg_shape.specs.Inner.Machine.{start, takes, complete, same_junction, one_more, one_more_line, is_end}
+use Rattle.rg_shape.proofs.Steps.{kinds, run}
 use Rattle.rg_syntax.proofs.Clauses.{clauses_of}
 
 pub same_self : (j : Junction) → same_junction j j ≡ true

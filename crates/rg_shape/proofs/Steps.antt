@@ -6,12 +6,33 @@ use Rattle.rg_shape.specs.declared.point.Point.TheVariants.{AfterWord, AfterPart
 use Rattle.rg_shape.specs.declared.point.Owner.TheVariants.{Program, Part, Line as LineOwner}
 use Rattle.rg_shape.specs.declared.point.Clause.TheVariants.{Pre, Rely, Guar, Post}
 use Rattle.rg_shape.specs.declared.point.BlockKind.TheVariants.{Loop}
-use Rattle.rg_text.specs.declared.kind.Kind.TheVariants.{Name, Fixed}
+use Rattle.rg_text.specs.declared.kind.Kind.TheVariants.{Name, Primed, Number, Fixed}
 use Rattle.rg_text.specs.declared.kind.Terminal.TheVariants.{If, Section}
 use Rattle.rg_text.specs.declared.kind.Keyword.TheVariants.{Skip, Await, While, Line, Do}
-use Rattle.rg_syntax.specs.Grammar.{Lexeme, fixed, kind_of}
-use Rattle.rg_shape.specs.Inner.Machine.{next, run, allowed, limited, is_shallow, has_room, is_opener, is_join, begins_word, begins_part, begins_line, is_semicolon, is_do, has_room_at}
+use Rattle.rg_syntax.specs.Grammar.{Lexeme, terminal_of, fixed, opening, name, primed, number}
+use Rattle.rg_shape.specs.Inner.Machine.{next, is_shallow, has_room, is_opener, is_join, begins_word, begins_part, begins_line, is_semicolon, is_do, has_room_at}
 use Rattle.rg_syntax.proofs.Clauses.{and_both}
+
+-- the kind of a token that the grammar sees
+abbrev pub kind_of : Lexeme → Kind
+kind_of (fixed t) = Fixed t
+kind_of (opening o leaf) = Fixed (terminal_of o)
+kind_of (name leaf) = Name
+kind_of (primed leaf) = Primed
+kind_of (number leaf) = Number
+
+abbrev pub run : List Point → List Kind → Option (List Point)
+run ps [] = Some ps
+run ps (k ∷ ks) = option_and_then (λ qs. run qs ks) (next ps k)
+
+-- whether the limits of depth let the token stand here, and where lists are asked about those of lists too
+abbrev pub allowed : Bool → List Point → Kind → Bool
+allowed lists ps k = (has_room ps k || not lists) && is_shallow ps k
+
+-- the tokens, each within the limits
+abbrev pub limited : Bool → List Point → List Kind → Option (List Point)
+limited lists ps [] = Some ps
+limited lists ps (k ∷ ks) = cond (allowed lists ps k) (option_and_then (λ qs. limited lists qs ks) (next ps k)) None
 
 abbrev pub kinds : List Lexeme → List Kind
 kinds tokens = map kind_of tokens

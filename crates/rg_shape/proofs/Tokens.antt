@@ -7,8 +7,8 @@ use Rattle.rg_text.specs.declared.kind.Kind.TheVariants.{Name, Primed, Number, F
 use Rattle.rg_text.specs.Text.{Leaf, leaf_of}
 use Rattle.rg_text.specs.declared.kind.Terminal.TheVariants.{If, Section}
 use Rattle.rg_text.specs.declared.kind.Keyword.TheVariants.{Skip}
-use Rattle.rg_syntax.specs.Grammar.{lexeme_of, lexeme_as, kind_of}
-use Rattle.rg_shape.proofs.Steps.{is_written, written}
+use Rattle.rg_syntax.specs.Grammar.{lexeme_of, lexeme_as}
+use Rattle.rg_shape.proofs.Steps.{is_written, written, kind_of}
 
 abbrev pub kinds_of : List Token → List Kind
 kinds_of ts = map (λ t. t.kind) ts

@@ -21,14 +21,14 @@ use Rattle.rg_shape.specs.declared.point.Clause.TheVariants as clauses
 use Rattle.rg_shape.specs.declared.point.BlockKind.{BlockKind}
 use Rattle.rg_shape.specs.declared.point.BlockKind.TheVariants as blocks
 use Rattle.rg_syntax.specs.Grammar.{Lexeme, fixed, opening, a_line, name, number, lexeme_as, PremisesSpelling, one_premise, and_premise, DerivationSpelling, no_line, and_line, rule_terminal, some_premises, premises, a_derived_line, derivation, WordsSpelling, one, more, SettingsSpelling, no_setting, and_setting, MovesSpelling, no_move, and_move, settings, moves, a_setting, AssignmentsSpelling, one_assignment, and_assignment, StatementSpelling, BlockSpelling, skipping, assigning, awaiting, branching, looping, one_statement, and_statement, SpecSpelling, PartSpelling, PartsSpelling, one_part, and_part, an_assignment, assignments, statement, block, a_part, parts, specification, Spelling, marked, declaration, words, spelled, FormulaSpelling, ChainSpelling, ExpressionSpelling, truth, negation, junction, conditional, comparison, pair, longer, numeral, word, next_word, inverse, operation, shift, choice, formula, chain, expression}
-use Rattle.rg_shape.specs.Inner.Machine.{start, takes, complete, one_more, one_more_line, has_room_at, limited}
+use Rattle.rg_shape.specs.Inner.Machine.{start, takes, complete, one_more, one_more_line, has_room_at}
 use Rattle.rg_words.specs.declared.operators.Comparison.{Comparison}
 use Rattle.rg_words.specs.declared.operators.Operator.{Operator}
 use Rattle.rg_words.specs.declared.operators.Shift.{Shift}
 use Rattle.std.proofs.lemmas.Bool.Decides.{nat_tests}
 use Rattle.rg_syntax.specs.Limits.{operand_count, formula_fits, chain_fits, expression_fits, word_count, assignment_count, part_count, assignments_fit, statement_fits, block_fits, specification_fits, part_fits, parts_fit, lines_fit, line_count, IsShallow, IsShort}
 use Rattle.rg_shape.proofs.Spellings.{count_of, count_of_words, same_self, open_or, count_of_assignments, count_of_parts, moves_end, count_of_lines, lines_end, last_point}
-use Rattle.rg_shape.proofs.Steps.{kinds}
+use Rattle.rg_shape.proofs.Steps.{kinds, limited}
 use Rattle.rg_syntax.proofs.Clauses.{clauses_of, and_both}
 
 -- the same, if the test holds

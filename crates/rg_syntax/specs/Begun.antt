@@ -5,7 +5,7 @@ use Rattle.rg_text.specs.declared.kind.Terminal.TheVariants.{Semicolon, Section,
 use Rattle.rg_text.specs.declared.kind.Keyword.TheVariants.{Part, Begin, Do}
 use Rattle.rg_syntax.specs.Grammar.{Lexeme, fixed, opening, name, an_if, a_while, FormulaSpelling, formula, StatementSpelling, BlockSpelling, skipping, assigning, awaiting, branching, looping, one_statement, and_statement, block, specification, words, PartSpelling, PartsSpelling, one_part, and_part, parts, ProgramSpelling, program}
 use Rattle.rg_syntax.specs.Texts.{program_of}
-use Rattle.rg_syntax.specs.ProgramLimits.{part_count}
+use Rattle.rg_syntax.specs.ProgramLimits.{count_in_parts}
 
 -- the line of the first token of a statement, and of a block
 abbrev pub first_line : StatementSpelling → ℕ
@@ -15,6 +15,7 @@ first_line (awaiting i f as_) = i.line
 first_line (branching i f b c) = i.line
 first_line (looping i f b) = i.line
 
+-- the line on which a block begins
 abbrev pub block_line : BlockSpelling → ℕ
 block_line (one_statement s) = first_line s
 block_line (and_statement b s) = block_line b
@@ -37,12 +38,15 @@ own_begun b n = cond (is_joined b n) (block_line b ∷ []) []
 abbrev pub before_first : Leaf → FormulaSpelling → List Lexeme
 before_first i f = opening an_if i ∷ formula f (fixed Then ∷ [])
 
+-- the tokens of an `if` up to its second block
 abbrev pub before_second : Leaf → FormulaSpelling → BlockSpelling → List Lexeme
 before_second i f b = opening an_if i ∷ formula f (fixed Then ∷ block b (fixed Else ∷ []))
 
+-- the tokens of a `while` up to its block
 abbrev pub before_loop : Leaf → FormulaSpelling → List Lexeme
 before_loop i f = opening a_while i ∷ formula f (fixed (Section Do) ∷ [])
 
+-- the tokens of a part up to its body
 abbrev pub before_body : PartSpelling → List Lexeme
 before_body p = fixed (Section Part) ∷ name p.name ∷ specification p.spec (fixed (Section Begin) ∷ [])
 
@@ -71,6 +75,7 @@ block_begun b n = own_begun b n ++ items_begun b n
 abbrev pub part_begun : PartSpelling → ℕ → List ℕ
 part_begun p n = block_begun p.body (n - length (before_body p))
 
+-- the lines of the statements that the first n tokens of parts begin
 abbrev pub parts_begun : PartsSpelling → ℕ → List ℕ
 parts_begun (one_part p) n = part_begun p n
 parts_begun (and_part ps p) n = parts_begun ps n ++ part_begun p (n - length (parts ps []))
@@ -92,4 +97,4 @@ OneBeginning = (tokens : List Lexeme) (a b : List ℕ) → AreBegun tokens a →
 
 -- a whole program begins as many statements as it has
 abbrev pub AllBegun : Type 0
-AllBegun = (p : ProgramSpelling) → length (program_begun p (length (program p []))) ≡ part_count (program_of p).parts
+AllBegun = (p : ProgramSpelling) → length (program_begun p (length (program p []))) ≡ count_in_parts (program_of p).parts

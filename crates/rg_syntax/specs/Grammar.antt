@@ -36,6 +36,7 @@ pub data Lexeme : Type 0 where
   primed : Leaf → Lexeme
   number : Leaf → Lexeme
 
+-- the keyword that it is
 abbrev pub terminal_of : Opening → Terminal
 terminal_of an_if = If
 terminal_of a_skip = Section keywords.Skip
@@ -43,13 +44,7 @@ terminal_of an_await = Section keywords.Await
 terminal_of a_while = Section keywords.While
 terminal_of a_line = Section keywords.Line
 
-abbrev pub kind_of : Lexeme → Kind
-kind_of (fixed t) = Fixed t
-kind_of (opening o leaf) = Fixed (terminal_of o)
-kind_of (name leaf) = Name
-kind_of (primed leaf) = Primed
-kind_of (number leaf) = Number
-
+-- a token of this kind with this text and line, as the grammar sees it
 abbrev pub lexeme_as : Kind → Leaf → Lexeme
 lexeme_as (Fixed If) leaf = opening an_if leaf
 lexeme_as (Fixed (Section keywords.Skip)) leaf = opening a_skip leaf
@@ -124,13 +119,16 @@ abbrev pub marked : Bool → List Lexeme → List Lexeme
 marked true rest = fixed (Section keywords.Fixed) ∷ rest
 marked false rest = rest
 
+-- the tokens of the declaration of one word, and then the rest
 abbrev pub declaration : DeclaredWord → List Lexeme → List Lexeme
 declaration w rest = marked w.fixed (name w.name ∷ fixed Colon ∷ number w.width ∷ rest)
 
+-- the tokens of the declaration of words, and then the rest
 abbrev pub words : WordsSpelling → List Lexeme → List Lexeme
 words (one w) rest = fixed Words ∷ declaration w rest
 words (more ws w) rest = words ws (declaration w rest)
 
+-- the tokens of a text to show, and then the rest
 abbrev pub show : ShowSpelling → List Lexeme → List Lexeme
 show s rest = words s.words (fixed Show ∷ formula s.formula rest)
 
@@ -144,13 +142,16 @@ pub data MovesSpelling : Type 0 where
   no_move : MovesSpelling
   and_move : MovesSpelling → Leaf → SettingsSpelling → MovesSpelling
 
+-- the tokens of one setting, and then the rest
 abbrev pub a_setting : SettingTree → List Lexeme → List Lexeme
 a_setting s rest = name s.word ∷ fixed (Compare comparisons.Equal) ∷ number s.value ∷ rest
 
+-- the tokens of settings, and then the rest
 abbrev pub settings : SettingsSpelling → List Lexeme → List Lexeme
 settings no_setting rest = rest
 settings (and_setting ss s) rest = settings ss (a_setting s rest)
 
+-- the tokens of moves, and then the rest
 abbrev pub moves : MovesSpelling → List Lexeme → List Lexeme
 moves no_move rest = rest
 moves (and_move ms n ss) rest = moves ms (fixed (Section keywords.At) ∷ number n ∷ settings ss rest)
@@ -160,6 +161,7 @@ pub record AssignmentSpelling : Type 0 where
   pub target : Leaf
   pub value : ExpressionSpelling
 
+-- the ways to write the assignments of an await
 pub data AssignmentsSpelling : Type 0 where
   one_assignment : AssignmentSpelling → AssignmentsSpelling
   and_assignment : AssignmentsSpelling → AssignmentSpelling → AssignmentsSpelling
@@ -184,27 +186,33 @@ pub record SpecSpelling : Type 0 where
   pub guar : FormulaSpelling
   pub post : FormulaSpelling
 
+-- the ways to write a part
 pub record PartSpelling : Type 0 where
   pub name : Leaf
   pub spec : SpecSpelling
   pub body : BlockSpelling
 
+-- the ways to write parts
 pub data PartsSpelling : Type 0 where
   one_part : PartSpelling → PartsSpelling
   and_part : PartsSpelling → PartSpelling → PartsSpelling
 
+-- the ways to write a program
 pub record ProgramSpelling : Type 0 where
   pub words : WordsSpelling
   pub spec : SpecSpelling
   pub parts : PartsSpelling
 
+-- the tokens of an assignment, and then the rest
 abbrev pub an_assignment : AssignmentSpelling → List Lexeme → List Lexeme
 an_assignment a rest = name a.target ∷ fixed Assign ∷ expression a.value rest
 
+-- the tokens of the assignments of an await, and then the rest
 abbrev pub assignments : AssignmentsSpelling → List Lexeme → List Lexeme
 assignments (one_assignment a) rest = an_assignment a rest
 assignments (and_assignment as_ a) rest = assignments as_ (fixed Semicolon ∷ an_assignment a rest)
 
+-- the tokens of a statement, and of a block, and then the rest
 abbrev mutual
   pub statement : StatementSpelling → List Lexeme → List Lexeme
   statement (skipping i) rest = opening a_skip i ∷ rest
@@ -217,18 +225,22 @@ abbrev mutual
   block (one_statement s) rest = statement s rest
   block (and_statement b s) rest = block b (fixed Semicolon ∷ statement s rest)
 
+-- the tokens of a specification, and then the rest
 abbrev pub specification : SpecSpelling → List Lexeme → List Lexeme
 specification s rest =
     fixed (Section keywords.Pre) ∷ formula s.pre (fixed (Section keywords.Rely) ∷ formula s.rely (fixed (Section keywords.Guar) ∷ formula s.guar (fixed (Section keywords.Post) ∷ formula s.post rest)))
 
+-- the tokens of a part, and then the rest
 abbrev pub a_part : PartSpelling → List Lexeme → List Lexeme
 a_part p rest =
     fixed (Section keywords.Part) ∷ name p.name ∷ specification p.spec (fixed (Section keywords.Begin) ∷ block p.body (fixed (Section keywords.End) ∷ rest))
 
+-- the tokens of parts, and then the rest
 abbrev pub parts : PartsSpelling → List Lexeme → List Lexeme
 parts (one_part p) rest = a_part p rest
 parts (and_part ps p) rest = parts ps (a_part p rest)
 
+-- the tokens of a program, and then the rest
 abbrev pub program : ProgramSpelling → List Lexeme → List Lexeme
 program p rest = words p.words (specification p.spec (parts p.parts rest))
 
@@ -262,18 +274,22 @@ rule_terminal rules.If = If
 rule_terminal rules.Loop = Section keywords.Loop
 rule_terminal rules.Conseq = Section keywords.Conseq
 
+-- the tokens of one or more premises, and then the rest
 abbrev pub some_premises : PremisesSpelling → List Lexeme → List Lexeme
 some_premises (one_premise n) rest = fixed (Section keywords.From) ∷ number n ∷ rest
 some_premises (and_premise ps n) rest = some_premises ps (number n ∷ rest)
 
+-- the tokens of the premises of a line, if it has any, and then the rest
 abbrev pub premises : Option PremisesSpelling → List Lexeme → List Lexeme
 premises None rest = rest
 premises (Some ps) rest = some_premises ps rest
 
+-- the tokens of a line of a derivation, and then the rest
 abbrev pub a_derived_line : LineSpelling → List Lexeme → List Lexeme
 a_derived_line l rest =
     opening a_line l.begin ∷ number l.number ∷ lexeme_as (Fixed (rule_terminal l.rule)) l.rule_word ∷ number l.statement ∷ premises l.premises (specification l.spec rest)
 
+-- the tokens of a derivation, and then the rest
 abbrev pub derivation : DerivationSpelling → List Lexeme → List Lexeme
 derivation no_line rest = rest
 derivation (and_line d l) rest = derivation d (a_derived_line l rest)

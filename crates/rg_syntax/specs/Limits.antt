@@ -43,6 +43,7 @@ abbrev pub assignment_count : AssignmentsSpelling → ℕ
 assignment_count (one_assignment a) = 1
 assignment_count (and_assignment as_ a) = assignment_count as_ + 1
 
+-- how many parts a program has
 abbrev pub part_count : PartsSpelling → ℕ
 part_count (one_part p) = 1
 part_count (and_part ps p) = part_count ps + 1
@@ -54,6 +55,7 @@ assignments_fit lists n (one_assignment a) = expression_fits n a.value
 assignments_fit lists n (and_assignment as_ a) =
     assignments_fit lists n as_ && ((nat_lt (assignment_count as_) MOST_ASSIGNMENTS || not lists) && expression_fits n a.value)
 
+-- the same of a statement, and of a block
 abbrev mutual
   pub statement_fits : Bool → ℕ → StatementSpelling → Bool
   statement_fits lists n (skipping i) = true
@@ -67,9 +69,11 @@ abbrev mutual
   block_fits lists n (one_statement s) = statement_fits lists n s
   block_fits lists n (and_statement b s) = block_fits lists n b && statement_fits lists n s
 
+-- the openers and chains of the four formulas are within the limits
 abbrev pub specification_fits : SpecSpelling → Bool
 specification_fits s = formula_fits 0 s.pre && (formula_fits 0 s.rely && (formula_fits 0 s.guar && formula_fits 0 s.post))
 
+-- the same of a part
 abbrev pub part_fits : Bool → PartSpelling → Bool
 part_fits lists p = specification_fits p.spec && block_fits lists 0 p.body
 

@@ -38,10 +38,12 @@ abbrev mutual
   item_count no_more = 0
   item_count (also s ss) = statement_count s + item_count ss
 
-abbrev pub part_count : List WrittenPart → ℕ
-part_count [] = 0
-part_count (p ∷ ps) = (own_count p.body + item_count p.body) + part_count ps
+-- how many statements the parts have
+abbrev pub count_in_parts : List WrittenPart → ℕ
+count_in_parts [] = 0
+count_in_parts (p ∷ ps) = (own_count p.body + item_count p.body) + count_in_parts ps
 
+-- the body of each part is full: each block in it has a statement, and each await 1 to 16 assignments
 abbrev pub AreFullParts : List WrittenPart → Type 0
 AreFullParts [] = Unit {0}
 AreFullParts (p ∷ ps) = IsFullBlock p.body × AreFullParts ps
@@ -51,4 +53,4 @@ pub record IsWithinLimits (p : WrittenProgram) : Type 0 where
   pub full : AreFullParts p.parts
   pub some_part : 1 ≤ length p.parts
   pub most_parts : length p.parts ≤ MOST_PARTS
-  pub most_statements : part_count p.parts ≤ MOST_STATEMENTS
+  pub most_statements : count_in_parts p.parts ≤ MOST_STATEMENTS

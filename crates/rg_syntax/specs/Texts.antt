@@ -56,6 +56,7 @@ abbrev pub some_premises_of : PremisesSpelling → List Leaf
 some_premises_of (grammar.one_premise n) = n ∷ []
 some_premises_of (grammar.and_premise ps n) = some_premises_of ps ++ n ∷ []
 
+-- the premises of a line, if it has any, in their order
 abbrev pub premises_of : Option PremisesSpelling → List Leaf
 premises_of None = []
 premises_of (Some ps) = some_premises_of ps
@@ -71,6 +72,7 @@ line_of l = record {
   spec = spec_of l.spec;
 }
 
+-- the lines of a derivation, in their order
 abbrev pub derivation_of : DerivationSpelling → List WrittenLine
 derivation_of grammar.no_line = []
 derivation_of (grammar.and_line d l) = derivation_of d ++ line_of l ∷ []
@@ -79,6 +81,7 @@ derivation_of (grammar.and_line d l) = derivation_of d ++ line_of l ∷ []
 abbrev pub assigned_of : AssignmentSpelling → AssignedTree
 assigned_of a = record { target = a.target; value = term_of a.value }
 
+-- the assignments of an await, in their order
 abbrev pub assignments_of : AssignmentsSpelling → List AssignedTree
 assignments_of (grammar.one_assignment a) = assigned_of a ∷ []
 assignments_of (grammar.and_assignment as_ a) = assignments_of as_ ++ assigned_of a ∷ []
@@ -100,6 +103,7 @@ abbrev mutual
 abbrev pub part_of : PartSpelling → WrittenPart
 part_of p = record { name = p.name; spec = spec_of p.spec; body = listed (block_of p.body) }
 
+-- the parts, in their order
 abbrev pub parts_of : PartsSpelling → List WrittenPart
 parts_of (grammar.one_part p) = part_of p ∷ []
 parts_of (grammar.and_part ps p) = parts_of ps ++ part_of p ∷ []

@@ -47,6 +47,7 @@ pub record DeclaredWord : Type 0 where
   pub name : Leaf
   pub width : Leaf
 
+-- an expression and a formula of the code, with the texts and the lines of their tokens in this source
 abbrev mutual
   pub term : List ℕ → ExpressionText → Term
   term src (Number n) = number (leaf_of src n)
@@ -64,6 +65,7 @@ abbrev mutual
   claim src (Implied' d p f q g) = implied d (claim src f) (claim src g)
   claim src (Compared c a b) = compared c (term src a) (term src b)
 
+-- a declaration of the code, with the texts and the lines of its tokens
 abbrev pub declared_word : List ℕ → Declaration → DeclaredWord
 declared_word src d = record { fixed = d.fixed; name = leaf_of src d.name; width = leaf_of src d.width }
 
@@ -72,6 +74,7 @@ pub record ShownClaim : Type 0 where
   pub words : List DeclaredWord
   pub formula : Claim
 
+-- a text to show of the code, with the texts and the lines of its tokens
 abbrev pub show_text : List ℕ → ShowText → ShownClaim
 show_text src s = record { words = map (declared_word src) s.words.items; formula = claim src s.formula }
 
@@ -80,6 +83,7 @@ pub record SettingTree : Type 0 where
   pub word : Leaf
   pub value : Leaf
 
+-- a setting of the code, with the texts and the lines of its tokens
 abbrev pub setting : List ℕ → Setting → SettingTree
 setting src s = record { word = leaf_of src s.word; value = leaf_of src s.value }
 
@@ -88,6 +92,7 @@ pub record WrittenMove : Type 0 where
   pub number : Leaf
   pub settings : List SettingTree
 
+-- a move of the code, with the texts and the lines of its tokens
 abbrev pub move_text : List ℕ → MoveText → WrittenMove
 move_text src m = record { number = leaf_of src m.number; settings = map (setting src) m.settings.items }
 
@@ -96,6 +101,7 @@ pub record AssignedTree : Type 0 where
   pub target : Leaf
   pub value : Term
 
+-- an assignment of the code, with the texts and the lines of its tokens
 abbrev pub assigned : List ℕ → AssignmentText → AssignedTree
 assigned src a = record { target = leaf_of src a.target; value = term src a.value }
 
@@ -112,6 +118,7 @@ mutual
     no_more : StatementTrees
     also : StatementTree → StatementTrees → StatementTrees
 
+-- a statement of the code and the statements of a block, with the texts and the lines of their tokens
 abbrev mutual
   pub statement : List ℕ → StatementText → StatementTree
   statement src (variants.Skip t) = skip (leaf_of src t)
@@ -136,6 +143,7 @@ pub record SpecTree : Type 0 where
   pub guar : Claim
   pub post : Claim
 
+-- a specification of the code, with the texts and the lines of its tokens
 abbrev pub spec_text : List ℕ → SpecText → SpecTree
 spec_text src s = record { pre = claim src s.pre; rely = claim src s.rely; guar = claim src s.guar; post = claim src s.post }
 
@@ -145,6 +153,7 @@ pub record WrittenPart : Type 0 where
   pub spec : SpecTree
   pub body : StatementTrees
 
+-- a part of the code, with the texts and the lines of its tokens
 abbrev pub part_text : List ℕ → PartText → WrittenPart
 part_text src p = record { name = leaf_of src p.name; spec = spec_text src p.spec; body = listed (map (statement src) p.body.items) }
 
@@ -154,6 +163,7 @@ pub record WrittenProgram : Type 0 where
   pub spec : SpecTree
   pub parts : List WrittenPart
 
+-- a program of the code, with the texts and the lines of its tokens
 abbrev pub program_text : List ℕ → ProgramText → WrittenProgram
 program_text src p = record { words = map (declared_word src) p.words.items; spec = spec_text src p.spec; parts = map (part_text src) p.parts.items }
 
@@ -167,6 +177,7 @@ pub record WrittenLine : Type 0 where
   pub premises : List Leaf
   pub spec : SpecTree
 
+-- a line of a derivation of the code, with the texts and the lines of its tokens
 abbrev pub line_text : List ℕ → LineText → WrittenLine
 line_text src l = record {
   begin = leaf_of src l.begin;

@@ -8,7 +8,7 @@ use Rattle.std.proofs.lemmas.Slice.Eq.{bytes_eq-Decides}
 use Rattle.rg_words.specs.Names.{is_word_byte, keywords, is_keyword, is_word}
 use Rattle.rg_text.specs.declared.kind.Terminal.{Terminal}
 use Rattle.rg_text.specs.declared.kind.Keyword.{Keyword}
-use Rattle.rg_text.specs.Spelling.{formula_keywords, section_keywords, symbols, spelled, either_keyword, keyword_of, symbol_of}
+use Rattle.rg_text.specs.Spelling.{formula_keywords, section_keywords, symbols, looked_up, either_keyword, keyword_of, symbol_of}
 
 -- one of these texts
 abbrev is_among : List (List ℕ) → List ℕ → Bool
@@ -24,11 +24,11 @@ same_bits false true f g = g refl
 same_bits false false f g = refl
 
 -- a table has a text just where one of its texts is it
-found : {X : Type 0} (rows : List (List ℕ × X)) (text : List ℕ) → is_none (spelled rows text) ≡ not (is_among (texts_of rows) text)
+found : {X : Type 0} (rows : List (List ℕ × X)) (text : List ℕ) → is_none (looked_up rows text) ≡ not (is_among (texts_of rows) text)
 found [] text = refl
 found (row ∷ rows) text = go (bytes_eq text row.0) (found rows text)
   where
-    go : (v : Bool) → is_none (spelled rows text) ≡ not (is_among (texts_of rows) text) → is_none (cond v (Some row.1) (spelled rows text)) ≡ not (v || is_among (texts_of rows) text)
+    go : (v : Bool) → is_none (looked_up rows text) ≡ not (is_among (texts_of rows) text) → is_none (cond v (Some row.1) (looked_up rows text)) ≡ not (v || is_among (texts_of rows) text)
     go true h = refl
     go false h = h
 
@@ -72,8 +72,8 @@ not_both false b = refl
 pub no_keyword : (text : List ℕ) → is_none (keyword_of text) ≡ not (is_keyword text)
 unfolding keyword_of
 no_keyword text =
-    none_either (spelled formula_keywords text) (spelled section_keywords text)
-    ∙ ap (λ v. v && is_none (spelled section_keywords text)) (found formula_keywords text)
+    none_either (looked_up formula_keywords text) (looked_up section_keywords text)
+    ∙ ap (λ v. v && is_none (looked_up section_keywords text)) (found formula_keywords text)
     ∙ ap (λ v. not (is_among (texts_of formula_keywords) text) && v) (found section_keywords text)
     ∙ not_both (is_among (texts_of formula_keywords) text) (is_among (texts_of section_keywords) text)
     ∙ ap not (sym (among_both (texts_of formula_keywords) (texts_of section_keywords) text))
@@ -105,13 +105,13 @@ no_word_no_keyword text h = none_is (keyword_of text) (no_keyword text ∙ ap no
     go true e = let w = keyword_is_word text e in cc
     go false e = refl
 
-not_there : {X : Type 0} (p : ℕ → Bool) (rows : List (List ℕ × X)) (b : ℕ) (bs : List ℕ) → list_all (λ row. not (p (get_or row.0 0 0))) rows ≡ true → p b ≡ true → spelled rows (b ∷ bs) ≡ None
+not_there : {X : Type 0} (p : ℕ → Bool) (rows : List (List ℕ × X)) (b : ℕ) (bs : List ℕ) → list_all (λ row. not (p (get_or row.0 0 0))) rows ≡ true → p b ≡ true → looked_up rows (b ∷ bs) ≡ None
 not_there p [] b bs all h = refl
 not_there p (row ∷ rows) b bs all h =
     let both = and_parts (not (p (get_or row.0 0 0))) (list_all (λ row. not (p (get_or row.0 0 0))) rows) all in
     go (bytes_eq (b ∷ bs) row.0) refl (not_there p rows b bs both.1 h) both.0
   where
-    go : (v : Bool) → bytes_eq (b ∷ bs) row.0 ≡ v → spelled rows (b ∷ bs) ≡ None → not (p (get_or row.0 0 0)) ≡ true → cond v (Some row.1) (spelled rows (b ∷ bs)) ≡ None
+    go : (v : Bool) → bytes_eq (b ∷ bs) row.0 ≡ v → looked_up rows (b ∷ bs) ≡ None → not (p (get_or row.0 0 0)) ≡ true → cond v (Some row.1) (looked_up rows (b ∷ bs)) ≡ None
     go true e rest fails =
         let same : b ≡ get_or row.0 0 0 = ap (λ text. get_or text 0 0) ((bytes_eq-Decides (b ∷ bs) row.0).0 e) in
         let fails : not (p b) ≡ true = ap (λ x. not (p x)) same ∙ fails in

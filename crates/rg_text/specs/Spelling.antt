@@ -64,6 +64,7 @@ section_keywords =
     ∷ (codes "at", keyword.At)
     ∷ []
 
+-- the symbols, each with what it means
 abbrev pub symbols : List (List ℕ × Terminal)
 symbols =
     (codes "(", Open)
@@ -82,9 +83,9 @@ symbols =
     ∷ []
 
 -- what stands beside this text in a table
-abbrev pub spelled : {X : Type 0} → List (List ℕ × X) → List ℕ → Option X
-spelled [] text = None
-spelled (row ∷ rows) text = if bytes_eq text row.0 then Some row.1 else spelled rows text
+abbrev pub looked_up : {X : Type 0} → List (List ℕ × X) → List ℕ → Option X
+looked_up [] text = None
+looked_up (row ∷ rows) text = if bytes_eq text row.0 then Some row.1 else looked_up rows text
 
 -- a keyword of formulas, or else another one
 abbrev pub either_keyword : Option Terminal → Option Keyword → Option Terminal
@@ -94,11 +95,11 @@ either_keyword None None = None
 
 -- the keyword that the text is
 unfoldable pub keyword_of : List ℕ → Option Terminal
-keyword_of text = either_keyword (spelled formula_keywords text) (spelled section_keywords text)
+keyword_of text = either_keyword (looked_up formula_keywords text) (looked_up section_keywords text)
 
 -- the symbol that the text is
 unfoldable pub symbol_of : List ℕ → Option Terminal
-symbol_of text = spelled symbols text
+symbol_of text = looked_up symbols text
 
 -- a name with a prime directly behind it
 abbrev pub is_primed : List ℕ → Bool

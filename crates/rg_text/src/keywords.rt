@@ -1,7 +1,7 @@
 //! The keywords, by their text.
 
 ghost use Rattle.std.specs.Prelude.{◌≡◌, drop};
-ghost use Rattle.rg_text.specs.Spelling.{formula_keywords, section_keywords, spelled, keyword_of};
+ghost use Rattle.rg_text.specs.Spelling.{formula_keywords, section_keywords, looked_up, keyword_of};
 
 use crate::kind::{Conditional, Junction, Keyword, Terminal};
 use rg_words::operators::{Operator, Shift};
@@ -21,7 +21,7 @@ pub(crate) fn keyword(text: &[u8]) -> Option<Terminal>
 }
 
 fn formula_keyword(text: &[u8]) -> Option<Terminal>
-    ensures { result ≡ spelled formula_keywords text.now }
+    ensures { result ≡ looked_up formula_keywords text.now }
 {
     if text == b"words".as_slice() {
         Some(Terminal::Words)
@@ -40,7 +40,7 @@ fn formula_keyword(text: &[u8]) -> Option<Terminal>
 
 /// The keywords of formulas, from the sixth on.
 fn formula_keyword_from_5(text: &[u8]) -> Option<Terminal>
-    ensures { result ≡ spelled (drop 5 formula_keywords) text.now }
+    ensures { result ≡ looked_up (drop 5 formula_keywords) text.now }
 {
     if text == b"not".as_slice() {
         Some(Terminal::Not)
@@ -59,7 +59,7 @@ fn formula_keyword_from_5(text: &[u8]) -> Option<Terminal>
 
 /// The keywords of formulas, from the eleventh on.
 fn formula_keyword_from_10(text: &[u8]) -> Option<Terminal>
-    ensures { result ≡ spelled (drop 10 formula_keywords) text.now }
+    ensures { result ≡ looked_up (drop 10 formula_keywords) text.now }
 {
     if text == b"true".as_slice() {
         Some(Terminal::Truth(true))
@@ -78,7 +78,7 @@ fn formula_keyword_from_10(text: &[u8]) -> Option<Terminal>
 
 /// The keywords of formulas, from the sixteenth on.
 fn formula_keyword_from_15(text: &[u8]) -> Option<Terminal>
-    ensures { result ≡ spelled (drop 15 formula_keywords) text.now }
+    ensures { result ≡ looked_up (drop 15 formula_keywords) text.now }
 {
     if text == b"bxor".as_slice() {
         Some(Terminal::Operate(Operator::BitXor))
@@ -92,7 +92,7 @@ fn formula_keyword_from_15(text: &[u8]) -> Option<Terminal>
 }
 
 fn section_keyword(text: &[u8]) -> Option<Keyword>
-    ensures { result ≡ spelled section_keywords text.now }
+    ensures { result ≡ looked_up section_keywords text.now }
 {
     if text == b"fixed".as_slice() {
         Some(Keyword::Fixed)
@@ -111,7 +111,7 @@ fn section_keyword(text: &[u8]) -> Option<Keyword>
 
 /// The keywords of sections, from the sixth on.
 fn section_keyword_from_5(text: &[u8]) -> Option<Keyword>
-    ensures { result ≡ spelled (drop 5 section_keywords) text.now }
+    ensures { result ≡ looked_up (drop 5 section_keywords) text.now }
 {
     if text == b"part".as_slice() {
         Some(Keyword::Part)
@@ -130,7 +130,7 @@ fn section_keyword_from_5(text: &[u8]) -> Option<Keyword>
 
 /// The keywords of sections, from the eleventh on.
 fn section_keyword_from_10(text: &[u8]) -> Option<Keyword>
-    ensures { result ≡ spelled (drop 10 section_keywords) text.now }
+    ensures { result ≡ looked_up (drop 10 section_keywords) text.now }
 {
     if text == b"do".as_slice() {
         Some(Keyword::Do)
@@ -149,7 +149,7 @@ fn section_keyword_from_10(text: &[u8]) -> Option<Keyword>
 
 /// The keywords of sections, from the sixteenth on.
 fn section_keyword_from_15(text: &[u8]) -> Option<Keyword>
-    ensures { result ≡ spelled (drop 15 section_keywords) text.now }
+    ensures { result ≡ looked_up (drop 15 section_keywords) text.now }
 {
     if text == b"atomic".as_slice() {
         Some(Keyword::Atomic)

@@ -8,8 +8,17 @@ use Rattle.rg_tree.specs.Meaning.{value_of, holds, operated, moved, is_so, joine
 use Rattle.rg_tree.specs.Primes.{has_next_word, speaks_of_two}
 use Rattle.rg_tree.specs.ConditionTrees.{all_hold, are_same, ConditionHolds, assigned}
 use Rattle.rg_tree.specs.Traces.{State, holds_at, Inside}
-use Rattle.rg_tree.specs.RuleConditions.{RuleCondition, reaches, makes, keeps, allows, as_condition, AllHold, IsMet, AllMet, IsInside, IsPlainCondition, ArePlain, AllConditionsHold}
+use Rattle.rg_tree.specs.RuleConditions.{RuleCondition, reaches, makes, keeps, allows, as_condition, AllHold, IsMet, AllMet, StepsInside, AllConditionsHold}
 use Rattle.rg_tree.proofs.Steps.{agree_self}
+
+-- its formulas of one state have no primed word
+abbrev pub IsPlainCondition : RuleCondition → Type 0
+IsPlainCondition (keeps p R) = speaks_of_two p ≡ false
+IsPlainCondition _ = Unit {0}
+
+abbrev pub ArePlain : List RuleCondition → Type 0
+ArePlain [] = Unit {0}
+ArePlain (o ∷ os) = IsPlainCondition o × ArePlain os
 
 or_left : (a b : Bool) → (a || b) ≡ false → a ≡ false
 or_left true b h = cc h
@@ -99,7 +108,7 @@ met words (allows R S) plain h = λ s t pair r.
     (goal_of (true && holds R s t) (holds S s t || are_same t s true) (h s t pair) (rw r refl))
 
 -- what is inside a smaller relation is inside a larger one
-pub inside_more : (words : List Word) (R S : State → State → Bool) → IsInside words R S → (s t : State) → IsPair words s t → Inside R s t → Inside S s t
+pub inside_more : (words : List Word) (R S : State → State → Bool) → StepsInside words R S → (s t : State) → IsPair words s t → Inside R s t → Inside S s t
 inside_more words R S le s t pair h = ⊎_elim (λ r. le s t pair r) (λ e. inr e) h
 
 pub met_front : (words : List Word) (xs ys : List RuleCondition) → AllMet words (xs ++ ys) → AllMet words xs

@@ -3,15 +3,15 @@ use Rattle.std.proofs.Common.{◌≡◌, ℕ, suc, Bool, true, List, [], ◌∷�
 use Rattle.std.specs.Prelude.{option_and_then}
 use Rattle.rg_words.specs.Layout.{Word}
 use Rattle.rg_tree.specs.Statements.{Statement, PartTree, ProgramTree}
-use Rattle.rg_tree.specs.Traces.{State, Move, Own, Env, Step, move_of, view, last, IsTrace, IsTraceOf, EnvInside, OwnInside}
+use Rattle.rg_tree.specs.Traces.{State, ViewStep, Own, Env, Step, view_step, view, last, IsTrace, IsTraceOf, EnvInside, OwnInside}
 use Rattle.rg_tree.specs.Runs.{runs}
 use Rattle.rg_tree.specs.Following.{followed, step_of_all, is_done}
-use Rattle.rg_tree.specs.Satisfaction.{Satisfies, StatementSatisfies}
+use Rattle.rg_tree.specs.Satisfaction.{BehaviorSatisfies, StatementSatisfies}
 use Rattle.rg_tree.specs.Programs.{ViewsRun, all_true, IsRun, BeginningsRun, OneFlag}
 use Rattle.rg_tree.proofs.Guards.{Guards, Sound, StatementSound, last-append}
 use Rattle.rg_tree.proofs.Follows.{following_decides, some_of}
 
-followed_beginning : (todo : List Statement) (s : State) (xs ys : List Move) (ended : Bool) → followed todo s (xs ++ ys) ≡ Some ended → (e : Bool) × (followed todo s xs ≡ Some e)
+followed_beginning : (todo : List Statement) (s : State) (xs ys : List ViewStep) (ended : Bool) → followed todo s (xs ++ ys) ≡ Some ended → (e : Bool) × (followed todo s xs ≡ Some e)
 followed_beginning todo s [] ys ended h = (is_done todo, refl)
 followed_beginning todo s (Env t ∷ xs) ys ended h = followed_beginning todo t xs ys ended h
 followed_beginning todo s (Own t ∷ xs) ys ended h =
@@ -19,12 +19,12 @@ followed_beginning todo s (Own t ∷ xs) ys ended h =
     let rest = followed_beginning step.0 t xs ys ended step.2 in
     (rest.0, ap (λ o. option_and_then (λ k. followed k t xs) o) step.1 ∙ rest.1)
 
-pub runs_beginning : (s : Statement) (st : State) (xs ys : List Move) (ended : Bool) → runs s st (xs ++ ys) ended → (e : Bool) × runs s st xs e
+pub runs_beginning : (s : Statement) (st : State) (xs ys : List ViewStep) (ended : Bool) → runs s st (xs ++ ys) ended → (e : Bool) × runs s st xs e
 runs_beginning s st xs ys ended r =
     let h = followed_beginning (s ∷ []) st xs ys ended ((following_decides s st (xs ++ ys) ended).1 r) in
     (h.0, (following_decides s st xs h.0).0 h.1)
 
-pub runs_flag : (s : Statement) (st : State) (ms : List Move) (e e' : Bool) → runs s st ms e → runs s st ms e' → e ≡ e'
+pub runs_flag : (s : Statement) (st : State) (ms : List ViewStep) (e e' : Bool) → runs s st ms e → runs s st ms e' → e ≡ e'
 runs_flag s st ms e e' r r' =
     let h = (following_decides s st ms e).1 r in
     let h' = (following_decides s st ms e').1 r' in
@@ -35,7 +35,7 @@ runs_flag s st ms e e' r r' =
 
 view-append : (i : ℕ) (xs ys : List Step) → view i (xs ++ ys) ≡ view i xs ++ view i ys
 view-append i [] ys = refl
-view-append i (x ∷ xs) ys = ap (λ l. move_of i x ∷ l) (view-append i xs ys)
+view-append i (x ∷ xs) ys = ap (λ l. view_step i x ∷ l) (view-append i xs ys)
 
 views_beginning : (i : ℕ) (ps : List PartTree) (es : List Bool) (s : State) (xs ys : List Step) → ViewsRun i ps es s (xs ++ ys) → (es' : List Bool) × ViewsRun i ps es' s xs
 views_beginning i [] [] s xs ys v = ([], tt)
@@ -73,25 +73,25 @@ one_flag program s xs e e' r r' =
 
 -- what is satisfied, of a statement, is guarded step by step
 
-own_back : (G : State → State → Bool) (s : State) (xs ys : List Move) → OwnInside G s (xs ++ ys) → OwnInside G (last s xs) ys
+own_back : (G : State → State → Bool) (s : State) (xs ys : List ViewStep) → OwnInside G s (xs ++ ys) → OwnInside G (last s xs) ys
 own_back G s [] ys h = h
 own_back G s (Own t ∷ xs) ys h = own_back G t xs ys h.1
 own_back G s (Env t ∷ xs) ys h = own_back G t xs ys h
 
-env_join : (R : State → State → Bool) (s : State) (xs ys : List Move) → EnvInside R s xs → EnvInside R (last s xs) ys → EnvInside R s (xs ++ ys)
+env_join : (R : State → State → Bool) (s : State) (xs ys : List ViewStep) → EnvInside R s xs → EnvInside R (last s xs) ys → EnvInside R s (xs ++ ys)
 env_join R s [] ys a b = b
 env_join R s (Own t ∷ xs) ys a b = env_join R t xs ys a b
 env_join R s (Env t ∷ xs) ys a b = (a.0, env_join R t xs ys a.1 b)
 
-trace_first : (words : List Word) (s : State) (xs ys : List Move) → IsTrace words s (xs ++ ys) → IsTrace words s xs
+trace_first : (words : List Word) (s : State) (xs ys : List ViewStep) → IsTrace words s (xs ++ ys) → IsTrace words s xs
 trace_first words s [] [] tr = tr
 trace_first words s [] (Own t ∷ ys) tr = tr.0.first
 trace_first words s [] (Env t ∷ ys) tr = tr.0.first
 trace_first words s (Own t ∷ xs) ys tr = (tr.0, trace_first words t xs ys tr.1)
 trace_first words s (Env t ∷ xs) ys tr = (tr.0, trace_first words t xs ys tr.1)
 
-module _ (words : List Word) (p : State → Bool) (R G : State → State → Bool) (q : State → Bool) (B : State → List Move → Bool → Type 0) (begins : (s : State) (xs ys : List Move) (ended : Bool) → B s (xs ++ ys) ended → (e : Bool) × B s xs e) (sat : Satisfies words p R G q B) where
-  guards_from : (s : State) (done rest : List Move) (ended : Bool) → B s (done ++ rest) ended → IsTrace words s (done ++ rest) → p s ≡ true → EnvInside R s done → Guards R G (last s done) rest
+module _ (words : List Word) (p : State → Bool) (R G : State → State → Bool) (q : State → Bool) (B : State → List ViewStep → Bool → Type 0) (begins : (s : State) (xs ys : List ViewStep) (ended : Bool) → B s (xs ++ ys) ended → (e : Bool) × B s xs e) (sat : BehaviorSatisfies words p R G q B) where
+  guards_from : (s : State) (done rest : List ViewStep) (ended : Bool) → B s (done ++ rest) ended → IsTrace words s (done ++ rest) → p s ≡ true → EnvInside R s done → Guards R G (last s done) rest
   guards_from s done [] ended b tr at env = tt
   guards_from s done (Own t ∷ rest) ended b tr at env =
       let e = sym (append_assoc done (Own t ∷ []) rest) in

@@ -7,7 +7,7 @@ use Rattle.rg_tree.specs.Trees.{Proposition}
 use Rattle.rg_tree.specs.Statements.{Statement, skip, assign, await, sequence, branch, loop, Items, one, more}
 use Rattle.rg_tree.specs.ConditionTrees.{assigned}
 use Rattle.rg_tree.specs.Traces.{State, holds_at}
-use Rattle.rg_tree.specs.Traces.{Move, Own, Env, last}
+use Rattle.rg_tree.specs.Traces.{ViewStep, Own, Env, last}
 use Rattle.rg_tree.specs.Runs.{Behavior, AllEnv, Atomic, Then, Within, Past, Yes, No, Choice, Loop, Idle, Wait, Leave, Inner, Again, runs, runs_of_items, always}
 use Rattle.rg_tree.specs.Following.{same_state, list_of, step_of, followed, FollowingDecides}
 use Rattle.rg_tree.proofs.Guards.{last-append}
@@ -40,12 +40,12 @@ same_eq (x ∷ xs) [] h = cc h
 
 -- no ended run is empty
 
-then_not_empty : (A B : Behavior) → ((s : State) → A s [] true → ⊥) → (s : State) (ms : List Move) (ended : Bool) → Then A B s ms ended → ms ≡ [] → ended ≡ false
+then_not_empty : (A B : Behavior) → ((s : State) → A s [] true → ⊥) → (s : State) (ms : List ViewStep) (ended : Bool) → Then A B s ms ended → ms ≡ [] → ended ≡ false
 then_not_empty A B h s ms ended (Within a) e = refl
 then_not_empty A B h s ms ended (Past [] rest q a b) e = absurd (h s a)
 then_not_empty A B h s ms ended (Past (m ∷ before) rest q a b) e = cc (q, e)
 
-loop_not_empty : (b : State → Bool) (A : Behavior) (s : State) (ms : List Move) (ended : Bool) → Loop b A s ms ended → ms ≡ [] → ended ≡ false
+loop_not_empty : (b : State → Bool) (A : Behavior) (s : State) (ms : List ViewStep) (ended : Bool) → Loop b A s ms ended → ms ≡ [] → ended ≡ false
 loop_not_empty b A s ms ended Idle e = refl
 loop_not_empty b A s ms ended (Wait run) e = cc e
 loop_not_empty b A s ms ended (Leave q h a) e = cc e
@@ -62,7 +62,7 @@ not_empty (loop n b x) s r = cc (loop_not_empty (holds_at b) (runs x) s [] true 
 
 -- a step of the environment in front, put and taken off
 
-then_strip : (A B : Behavior) (s t : State) → ((s : State) → A s [] true → ⊥) → ((u : State) (ms : List Move) (ended : Bool) → A s (Env u ∷ ms) ended → A u ms ended) → (ms : List Move) (ended : Bool) → Then A B s (Env t ∷ ms) ended → Then A B t ms ended
+then_strip : (A B : Behavior) (s t : State) → ((s : State) → A s [] true → ⊥) → ((u : State) (ms : List ViewStep) (ended : Bool) → A s (Env u ∷ ms) ended → A u ms ended) → (ms : List ViewStep) (ended : Bool) → Then A B s (Env t ∷ ms) ended → Then A B t ms ended
 then_strip A B s t no_empty strip ms ended (Within a) = Within (strip t ms false a)
 then_strip A B s t no_empty strip ms ended (Past [] rest q a b) = absurd (no_empty s a)
 then_strip A B s t no_empty strip ms ended (Past (Own u ∷ before) rest q a b) = cc q
@@ -71,10 +71,10 @@ then_strip A B s t no_empty strip ms ended (Past (Env u ∷ before) rest q a b) 
     let back : ms ≡ before ++ rest = cc q in
     Past before rest back (subst (λ x. A x before true) same (strip u before true a)) (subst (λ x. B (last x before) rest ended) same b)
 
-loop_strip : (b : State → Bool) (A : Behavior) (s t : State) (ms : List Move) (ended : Bool) → Loop b A s (Env t ∷ ms) ended → Loop b A t ms ended
+loop_strip : (b : State → Bool) (A : Behavior) (s t : State) (ms : List ViewStep) (ended : Bool) → Loop b A s (Env t ∷ ms) ended → Loop b A t ms ended
 loop_strip b A s t ms ended (Wait run) = run
 
-runs_strip : (x : Statement) (s t : State) (ms : List Move) (ended : Bool) → runs x s (Env t ∷ ms) ended → runs x t ms ended
+runs_strip : (x : Statement) (s t : State) (ms : List ViewStep) (ended : Bool) → runs x s (Env t ∷ ms) ended → runs x t ms ended
 runs_strip (skip n) s t ms ended r = r
 runs_strip (assign n a) s t ms ended r = r
 runs_strip (await n b act) s t ms ended r = r
@@ -82,7 +82,7 @@ runs_strip (sequence n a items) s t ms ended r = then_strip (runs a) (runs_of_it
 runs_strip (branch n b x y) s t ms ended r = r
 runs_strip (loop n b x) s t ms ended r = loop_strip (holds_at b) (runs x) s t ms ended r
 
-runs_put : (x : Statement) (s t : State) (ms : List Move) (ended : Bool) → runs x t ms ended → runs x s (Env t ∷ ms) ended
+runs_put : (x : Statement) (s t : State) (ms : List ViewStep) (ended : Bool) → runs x t ms ended → runs x s (Env t ∷ ms) ended
 runs_put (skip n) s t ms ended r = r
 runs_put (assign n a) s t ms ended r = r
 runs_put (await n b act) s t ms ended r = r
@@ -91,21 +91,21 @@ runs_put (branch n b x y) s t ms ended r = r
 runs_put (loop n b x) s t ms ended r = Wait r
 
 -- what a list of statements does, one after another
-abbrev Rest : List Statement → State → List Move → Bool → Type 0
+abbrev Rest : List Statement → State → List ViewStep → Bool → Type 0
 Rest [] s ms ended = AllEnv ms × (ended ≡ true)
 Rest (x ∷ k) s ms ended = Then (runs x) (Rest k) s ms ended
 
-rest_put : (k : List Statement) (s t : State) (ms : List Move) (ended : Bool) → Rest k t ms ended → Rest k s (Env t ∷ ms) ended
+rest_put : (k : List Statement) (s t : State) (ms : List ViewStep) (ended : Bool) → Rest k t ms ended → Rest k s (Env t ∷ ms) ended
 rest_put [] s t ms ended r = r
 rest_put (x ∷ k) s t ms ended r = then_env (runs x) (runs x) (Rest k) s t (λ l e. runs_put x s t l e) ms ended r
 
-rest_strip : (k : List Statement) (s t : State) (ms : List Move) (ended : Bool) → Rest k s (Env t ∷ ms) ended → Rest k t ms ended
+rest_strip : (k : List Statement) (s t : State) (ms : List ViewStep) (ended : Bool) → Rest k s (Env t ∷ ms) ended → Rest k t ms ended
 rest_strip [] s t ms ended r = r
 rest_strip (x ∷ k) s t ms ended r = then_strip (runs x) (Rest k) s t (not_empty x) (λ u l e. runs_strip x s u l e) ms ended r
 
 -- a behavior that the environment may delay
 abbrev Waits : Behavior → Type 0
-Waits K = (s : State) (before rest : List Move) (ended : Bool) → AllEnv before → K (last s before) rest ended → K s (before ++ rest) ended
+Waits K = (s : State) (before rest : List ViewStep) (ended : Bool) → AllEnv before → K (last s before) rest ended → K s (before ++ rest) ended
 
 rest_waits : (k : List Statement) → Waits (Rest k)
 rest_waits k s [] rest ended a r = r
@@ -114,7 +114,7 @@ rest_waits k s (Env t ∷ before) rest ended a r = rest_put k s t (before ++ res
 
 -- the laws of an own step
 
-module _ (K : Behavior) (waits : Waits K) (s t : State) (ms : List Move) where
+module _ (K : Behavior) (waits : Waits K) (s t : State) (ms : List ViewStep) where
   act_to : (b : State → Bool) (f : State → State) (ended : Bool) → Then (Atomic b f) K s (Own t ∷ ms) ended → (b s ≡ true) × (t ≡ f s) × K t ms ended
   act_to b f ended (Within a) = let w = a.over in cc w
   act_to b f ended (Past [] rest q a c) = cc a
@@ -191,7 +191,7 @@ and_both a b h j = rw (h, j)
 
 -- an own step of the first takes it to what is to be done then
 
-own_to : (x : Statement) (k : List Statement) (s t : State) (ms : List Move) (ended : Bool) → Then (runs x) (Rest k) s (Own t ∷ ms) ended → (k' : List Statement) × (step_of x k s t ≡ Some k') × Rest k' t ms ended
+own_to : (x : Statement) (k : List Statement) (s t : State) (ms : List ViewStep) (ended : Bool) → Then (runs x) (Rest k) s (Own t ∷ ms) ended → (k' : List Statement) × (step_of x k s t ≡ Some k') × Rest k' t ms ended
 own_to (skip n) k s t ms ended r =
     let h = act_to (Rest k) (rest_waits k) s t ms always (assigned []) ended r in
     (k, if_some (same_state t s) k (same_yes t s h.1), h.2)
@@ -212,15 +212,15 @@ own_to (loop n b x) k s t ms ended r =
     let next = if holds_at b s then x ∷ loop n b x ∷ k else k in
     (next, if_some (same_state t s) next (same_yes t s h.0), ⊎_elim (λ l. subst (λ v. Rest (if v then x ∷ loop n b x ∷ k else k) t ms ended) (sym l.0) l.1) (λ l. subst (λ v. Rest (if v then x ∷ loop n b x ∷ k else k) t ms ended) (sym l.0) l.1) h.1)
 
-if_from : (n : ℕ) (b : Proposition) (x y : Statement) (k : List Statement) (s t : State) (ms : List Move) (ended : Bool) → t ≡ s → (v : Bool) → holds_at b s ≡ v → Rest ((if v then x else y) ∷ k) t ms ended → Then (runs (branch n b x y)) (Rest k) s (Own t ∷ ms) ended
+if_from : (n : ℕ) (b : Proposition) (x y : Statement) (k : List Statement) (s t : State) (ms : List ViewStep) (ended : Bool) → t ≡ s → (v : Bool) → holds_at b s ≡ v → Rest ((if v then x else y) ∷ k) t ms ended → Then (runs (branch n b x y)) (Rest k) s (Own t ∷ ms) ended
 if_from n b x y k s t ms ended e true h r = then_own (runs x) (runs (branch n b x y)) (Rest k) s t (λ l f a. Yes e h a) ms ended r
 if_from n b x y k s t ms ended e false h r = then_own (runs y) (runs (branch n b x y)) (Rest k) s t (λ l f a. No e h a) ms ended r
 
-while_from : (n : ℕ) (b : Proposition) (x : Statement) (k : List Statement) (s t : State) (ms : List Move) (ended : Bool) → t ≡ s → (v : Bool) → holds_at b s ≡ v → Rest (if v then x ∷ loop n b x ∷ k else k) t ms ended → Then (runs (loop n b x)) (Rest k) s (Own t ∷ ms) ended
+while_from : (n : ℕ) (b : Proposition) (x : Statement) (k : List Statement) (s t : State) (ms : List ViewStep) (ended : Bool) → t ≡ s → (v : Bool) → holds_at b s ≡ v → Rest (if v then x ∷ loop n b x ∷ k else k) t ms ended → Then (runs (loop n b x)) (Rest k) s (Own t ∷ ms) ended
 while_from n b x k s t ms ended e true h r = loop_from (Rest k) (rest_waits k) s t ms (holds_at b) (runs x) ended e h r
 while_from n b x k s t ms ended e false h r = loop_leave (Rest k) (rest_waits k) s t ms (holds_at b) (runs x) ended e h r
 
-own_from : (x : Statement) (k k' : List Statement) (s t : State) (ms : List Move) (ended : Bool) → step_of x k s t ≡ Some k' → Rest k' t ms ended → Then (runs x) (Rest k) s (Own t ∷ ms) ended
+own_from : (x : Statement) (k k' : List Statement) (s t : State) (ms : List ViewStep) (ended : Bool) → step_of x k s t ≡ Some k' → Rest k' t ms ended → Then (runs x) (Rest k) s (Own t ∷ ms) ended
 own_from (skip n) k k' s t ms ended h r =
     let d = some_if (same_state t s) k k' h in
     act_from (Rest k) (rest_waits k) s t ms always (assigned []) ended refl (same_eq t s d.0) (subst (λ l. Rest l t ms ended) (sym d.1) r)
@@ -245,7 +245,7 @@ pub some_of : (f : List Statement → Option Bool) (o : Option (List Statement))
 some_of f None e h = cc h
 some_of f (Some k) e h = (k, refl, h)
 
-followed_to : (todo : List Statement) (s : State) (ms : List Move) (ended : Bool) → followed todo s ms ≡ Some ended → Rest todo s ms ended
+followed_to : (todo : List Statement) (s : State) (ms : List ViewStep) (ended : Bool) → followed todo s ms ≡ Some ended → Rest todo s ms ended
 followed_to [] s [] ended h = (tt, cc h)
 followed_to (x ∷ k) s [] ended h =
     let e : false ≡ ended = cc h in
@@ -256,7 +256,7 @@ followed_to (x ∷ k) s (Own t ∷ ms) ended h =
     let d = some_of (λ k'. followed k' t ms) (step_of x k s t) ended h in
     own_from x k d.0 s t ms ended d.1 (followed_to d.0 t ms ended d.2)
 
-followed_from : (todo : List Statement) (s : State) (ms : List Move) (ended : Bool) → Rest todo s ms ended → followed todo s ms ≡ Some ended
+followed_from : (todo : List Statement) (s : State) (ms : List ViewStep) (ended : Bool) → Rest todo s ms ended → followed todo s ms ≡ Some ended
 followed_from [] s [] ended r = ap Some (sym r.1)
 followed_from (x ∷ k) s [] ended r = ap Some (sym (then_not_empty (runs x) (Rest k) (not_empty x) s [] ended r refl))
 followed_from todo s (Env t ∷ ms) ended r = followed_from todo t ms ended (rest_strip todo s t ms ended r)
@@ -265,12 +265,12 @@ followed_from (x ∷ k) s (Own t ∷ ms) ended r =
     let d = own_to x k s t ms ended r in
     ap (λ o. option_and_then (λ k'. followed k' t ms) o) d.1 ∙ followed_from d.0 t ms ended d.2
 
-drop_done : (x : Statement) (s : State) (ms : List Move) (ended : Bool) → Rest (x ∷ []) s ms ended → runs x s ms ended
+drop_done : (x : Statement) (s : State) (ms : List ViewStep) (ended : Bool) → Rest (x ∷ []) s ms ended → runs x s ms ended
 drop_done x s ms ended (Within a) = a
 drop_done x s ms ended (Past before rest e a c) =
     subst (λ l. runs x s l ended) (sym e) (subst (λ v. runs x s (before ++ rest) v) (sym c.1) (runs_tails x s before rest a c.0))
 
-add_done : (x : Statement) (s : State) (ms : List Move) (ended : Bool) → runs x s ms ended → Rest (x ∷ []) s ms ended
+add_done : (x : Statement) (s : State) (ms : List ViewStep) (ended : Bool) → runs x s ms ended → Rest (x ∷ []) s ms ended
 add_done x s ms true a = Past ms [] (sym (append-nil ms)) a (tt, refl)
 add_done x s ms false a = Within a
 

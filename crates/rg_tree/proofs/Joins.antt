@@ -3,13 +3,13 @@ use Rattle.std.proofs.Common.{◌≡◌, Bool, true, false, List, [], ◌∷◌,
 use Rattle.rg_tree.specs.Statements.{Statement, skip, assign, await, sequence, branch, loop, Items, one, more}
 use Rattle.rg_tree.specs.ConditionTrees.{assigned}
 use Rattle.rg_tree.specs.Traces.{State, holds_at}
-use Rattle.rg_tree.specs.Traces.{Move, Own, Env, last}
+use Rattle.rg_tree.specs.Traces.{ViewStep, Own, Env, last}
 use Rattle.rg_tree.specs.Runs.{Behavior, AllEnv, Atomic, Then, Within, Past, Tests, Yes, No, Choice, Loop, Idle, Wait, Leave, Inner, Again, runs, runs_of_items, always}
 use Rattle.rg_tree.proofs.Guards.{last-append}
 
 -- every run of the one is a run of the other
 abbrev pub Below : Behavior → Behavior → Type 0
-Below A B = (s : State) (ms : List Move) (ended : Bool) → A s ms ended → B s ms ended
+Below A B = (s : State) (ms : List ViewStep) (ended : Bool) → A s ms ended → B s ms ended
 
 pub then_map : (A B C : Behavior) → Below B C → Below (Then A B) (Then A C)
 then_map A B C h s ms ended (Within a) = Within a
@@ -28,22 +28,22 @@ then_assoc_right A B C s ms ended (Past before rest e (Past before1 rest1 e1 a b
     Past before1 (rest1 ++ rest) (e ∙ ap (λ l. l ++ rest) e1 ∙ append_assoc before1 rest1 rest) a (Past rest1 rest refl b (subst (λ x. C x rest ended) (ap (λ l. last s l) e1 ∙ last-append s before1 rest1) c))
 
 -- one more move in front
-pub then_env : (A A' B : Behavior) (s t : State) → ((ms : List Move) (ended : Bool) → A t ms ended → A' s (Env t ∷ ms) ended) → (ms : List Move) (ended : Bool) → Then A B t ms ended → Then A' B s (Env t ∷ ms) ended
+pub then_env : (A A' B : Behavior) (s t : State) → ((ms : List ViewStep) (ended : Bool) → A t ms ended → A' s (Env t ∷ ms) ended) → (ms : List ViewStep) (ended : Bool) → Then A B t ms ended → Then A' B s (Env t ∷ ms) ended
 then_env A A' B s t h ms ended (Within a) = Within (h ms false a)
 then_env A A' B s t h ms ended (Past before rest e a b) = Past (Env t ∷ before) rest (ap (λ l. Env t ∷ l) e) (h before true a) b
 
-pub then_own : (A A' B : Behavior) (s t : State) → ((ms : List Move) (ended : Bool) → A t ms ended → A' s (Own t ∷ ms) ended) → (ms : List Move) (ended : Bool) → Then A B t ms ended → Then A' B s (Own t ∷ ms) ended
+pub then_own : (A A' B : Behavior) (s t : State) → ((ms : List ViewStep) (ended : Bool) → A t ms ended → A' s (Own t ∷ ms) ended) → (ms : List ViewStep) (ended : Bool) → Then A B t ms ended → Then A' B s (Own t ∷ ms) ended
 then_own A A' B s t h ms ended (Within a) = Within (h ms false a)
 then_own A A' B s t h ms ended (Past before rest e a b) = Past (Own t ∷ before) rest (ap (λ l. Own t ∷ l) e) (h before true a) b
 
-all_env_append : (xs ys : List Move) → AllEnv xs → AllEnv ys → AllEnv (xs ++ ys)
+all_env_append : (xs ys : List ViewStep) → AllEnv xs → AllEnv ys → AllEnv (xs ++ ys)
 all_env_append [] ys a b = b
 all_env_append (Own t ∷ xs) ys a b = absurd a
 all_env_append (Env t ∷ xs) ys a b = all_env_append xs ys a b
 
 -- an ended run goes on with steps of the environment
 abbrev pub Tails : Behavior → Type 0
-Tails A = (s : State) (before rest : List Move) → A s before true → AllEnv rest → A s (before ++ rest) true
+Tails A = (s : State) (before rest : List ViewStep) → A s before true → AllEnv rest → A s (before ++ rest) true
 
 atomic_tails : (b : State → Bool) (f : State → State) → Tails (Atomic b f)
 atomic_tails b f s [] rest a env = cc a
@@ -55,7 +55,7 @@ then_tails : (A B : Behavior) → Tails B → Tails (Then A B)
 then_tails A B h s all rest (Past before inner e a b) env =
     Past before (inner ++ rest) (ap (λ l. l ++ rest) e ∙ append_assoc before inner rest) a (h (last s before) inner rest b env)
 
-tests_tails : (b : State → Bool) (A B : Behavior) → Tails A → Tails B → (s t : State) (before rest : List Move) → Tests b A B s t before true → AllEnv rest → Tests b A B s t (before ++ rest) true
+tests_tails : (b : State → Bool) (A B : Behavior) → Tails A → Tails B → (s t : State) (before rest : List ViewStep) → Tests b A B s t before true → AllEnv rest → Tests b A B s t (before ++ rest) true
 tests_tails b A B ha hb s t before rest (Yes e h a) env = Yes e h (ha t before rest a env)
 tests_tails b A B ha hb s t before rest (No e h a) env = No e h (hb t before rest a env)
 
@@ -64,7 +64,7 @@ choice_tails b A B ha hb s [] rest a env = cc a
 choice_tails b A B ha hb s (Env t ∷ before) rest a env = choice_tails b A B ha hb t before rest a env
 choice_tails b A B ha hb s (Own t ∷ before) rest a env = tests_tails b A B ha hb s t before rest a env
 
-loop_tails : (b : State → Bool) (A : Behavior) → (s : State) (ms : List Move) (ended : Bool) → Loop b A s ms ended → ended ≡ true → (rest : List Move) → AllEnv rest → Loop b A s (ms ++ rest) true
+loop_tails : (b : State → Bool) (A : Behavior) → (s : State) (ms : List ViewStep) (ended : Bool) → Loop b A s ms ended → ended ≡ true → (rest : List ViewStep) → AllEnv rest → Loop b A s (ms ++ rest) true
 loop_tails b A s ms ended Idle z rest env = cc z
 loop_tails b A s ms ended (Wait {t = t} {ms = inner} run) z rest env = Wait (loop_tails b A t inner ended run z rest env)
 loop_tails b A s ms ended (Leave {ms = inner} e h a) z rest env = Leave e h (all_env_append inner rest a env)

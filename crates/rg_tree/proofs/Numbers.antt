@@ -1,17 +1,18 @@
 -- Numbering of statements, one list after another.
 use Rattle.std.proofs.Common.{◌≡◌, ℕ, ◌+◌, List, [], ◌∷◌, ◌++◌, ◌<◌, suc, map, drop, get_or, length, add-one, refl, sym, ap, ◌∙◌, arith, append_assoc, length-append}
 use Rattle.rg_tree.specs.Statements.{Statement}
-use Rattle.rg_tree.specs.Numbering.{statements, line_of, kind_of, numbered_from, numbered_parts, Adds}
+use Rattle.rg_tree.specs.Numbering.{statements, line_of_statement, kind_of, numbered_from, numbered_parts}
 use Rattle.std.proofs.Math.Seq.{drop-cons}
 use Rattle.rg_tree.specs.ProgramView.{statement, part}
 use Rattle.rg_tree.specs.declared.part.Part.{Part}
 use Rattle.rg_tree.specs.declared.numbered.Numbered.{Numbered}
+use Rattle.rg_tree.specs.Inner.Numbering.{Adds}
 
 pub numbered-append : (part n : ℕ) (xs ys : List Statement) → numbered_from part n (xs ++ ys) ≡ numbered_from part n xs ++ numbered_from part (n + length xs) ys
 numbered-append part n [] ys = ap (λ k. numbered_from part k ys) (omega arith)
 numbered-append part n (x ∷ xs) ys =
     let e : n + 1 + length xs ≡ n + length (x ∷ xs) = omega arith in
-    ap (λ l. record { number = n; part = part; line = line_of x; kind = kind_of x } ∷ l) (numbered-append part (n + 1) xs ys ∙ ap (λ k. numbered_from part (n + 1) xs ++ numbered_from part k ys) e)
+    ap (λ l. record { number = n; part = part; line = line_of_statement x; kind = kind_of x } ∷ l) (numbered-append part (n + 1) xs ys ∙ ap (λ k. numbered_from part (n + 1) xs ++ numbered_from part k ys) e)
 
 pub length-numbered : (part n : ℕ) (xs : List Statement) → length (numbered_from part n xs) ≡ length xs
 length-numbered part n [] = refl

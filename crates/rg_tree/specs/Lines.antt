@@ -17,6 +17,7 @@ pub record LineTree : Type 0 where
   pub premises : List ℕ
   pub spec : Specification
 
+-- a line of the code, without where it lies in memory
 abbrev pub line_tree : DerivationLine → LineTree
 line_tree l = record {
   own_number = l.own_number;

@@ -9,6 +9,7 @@ pub record MoveTree : Type 0 where
   pub at : ℕ
   pub values : List WordValue
 
+-- a move of the code, without where it lies in memory
 abbrev pub move : Move → MoveTree
 move m = record { at = m.at; values = m.values.items }
 

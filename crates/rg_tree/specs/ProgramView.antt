@@ -11,6 +11,7 @@ use Rattle.rg_tree.specs.View.{formula}
 use Rattle.rg_tree.specs.ConditionTrees.{assignment}
 use Rattle.rg_tree.specs.Statements.{Statement, skip, assign, await, sequence, branch, loop, Items, one, more, Specification, PartTree}
 
+-- a statement of the code, and the items of a sequence, without where they lie in memory
 abbrev mutual
   pub statement : Stmt → Statement
   statement (Skip n) = skip n
@@ -24,8 +25,10 @@ abbrev mutual
   items (One' p s) = one (statement s)
   items (More' p s q rest) = more (statement s) (items rest)
 
+-- a specification of the code, without where it lies in memory
 abbrev pub specification : Spec → Specification
 specification s = record { pre = formula s.pre; rely = formula s.rely; guar = formula s.guar; post = formula s.post }
 
+-- a part of the code, without where it lies in memory
 abbrev pub part : Part → PartTree
 part p = record { name = string_bytes p.name; spec = specification p.spec; body = statement p.body }

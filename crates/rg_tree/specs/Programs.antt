@@ -18,6 +18,7 @@ ViewsRun i (p ∷ ps) (e ∷ es) s xs = runs p.body s (view i xs) e × ViewsRun 
 ViewsRun i [] (e ∷ es) s xs = ⊥
 ViewsRun i (p ∷ ps) [] s xs = ⊥
 
+-- all of these flags are true
 abbrev pub all_true : List Bool → Bool
 all_true [] = true
 all_true (e ∷ es) = e && all_true es

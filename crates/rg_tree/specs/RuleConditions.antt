@@ -4,10 +4,10 @@ use Rattle.rg_words.specs.Layout.{Word}
 use Rattle.rg_words.specs.States.{IsState, IsPair}
 use Rattle.rg_tree.specs.Trees.{Proposition, Assignment}
 use Rattle.rg_tree.specs.Meaning.{holds}
-use Rattle.rg_tree.specs.Primes.{speaks_of_two}
 use Rattle.rg_tree.specs.ConditionTrees.{ConditionTree, condition_tree_of, free, after, assigned, ConditionHolds}
 use Rattle.rg_tree.specs.Traces.{State, holds_at, Inside}
 
+-- what one use of a rule asks, in the form of the rule
 pub data RuleCondition : Type 0 where
   -- where all of these hold, the goal holds after the assignments
   reaches : List Proposition → List Assignment → Proposition → RuleCondition
@@ -25,6 +25,7 @@ as_condition words (makes given act goal) = condition_tree_of words given (after
 as_condition words (keeps p R) = condition_tree_of words (p ∷ R ∷ []) free p true false
 as_condition words (allows R S) = condition_tree_of words (R ∷ []) free S false true
 
+-- each of these formulas holds in the state
 abbrev pub AllHold : List Proposition → State → Type 0
 AllHold [] s = Unit {0}
 AllHold (f ∷ fs) s = (holds_at f s ≡ true) × AllHold fs s
@@ -34,28 +35,20 @@ abbrev pub IsStable : List Word → (State → Bool) → (State → State → Bo
 IsStable words p R = (s t : State) → IsPair words s t → p s ≡ true → R s t ≡ true → p t ≡ true
 
 -- a step that R allows is inside S
-abbrev pub IsInside : List Word → (State → State → Bool) → (State → State → Bool) → Type 0
-IsInside words R S = (s t : State) → IsPair words s t → R s t ≡ true → Inside S s t
+abbrev pub StepsInside : List Word → (State → State → Bool) → (State → State → Bool) → Type 0
+StepsInside words R S = (s t : State) → IsPair words s t → R s t ≡ true → Inside S s t
 
 -- what a condition says of all states of these words
 abbrev pub IsMet : List Word → RuleCondition → Type 0
 IsMet words (reaches given act goal) = (s : State) → IsState words s → AllHold given s → holds_at goal (assigned act s) ≡ true
 IsMet words (makes given act goal) = (s : State) → IsState words s → IsPair words s (assigned act s) → AllHold given s → Inside (holds goal) s (assigned act s)
 IsMet words (keeps p R) = IsStable words (holds_at p) (holds R)
-IsMet words (allows R S) = IsInside words (holds R) (holds S)
+IsMet words (allows R S) = StepsInside words (holds R) (holds S)
 
+-- each of these conditions is met
 abbrev pub AllMet : List Word → List RuleCondition → Type 0
 AllMet words [] = Unit {0}
 AllMet words (o ∷ os) = IsMet words o × AllMet words os
-
--- its formulas of one state have no primed word
-abbrev pub IsPlainCondition : RuleCondition → Type 0
-IsPlainCondition (keeps p R) = speaks_of_two p ≡ false
-IsPlainCondition _ = Unit {0}
-
-abbrev pub ArePlain : List RuleCondition → Type 0
-ArePlain [] = Unit {0}
-ArePlain (o ∷ os) = IsPlainCondition o × ArePlain os
 
 -- each of these conditions is true
 abbrev pub AllConditionsHold : List ConditionTree → Type 0

@@ -31,6 +31,7 @@ pub record PartTree : Type 0 where
   pub spec : Specification
   pub body : Statement
 
+-- a program: its declared words, its specification, and its parts in their order
 pub record ProgramTree : Type 0 where
   pub words : List Word
   pub spec : Specification

@@ -5,6 +5,7 @@ use Rattle.rg_words.specs.declared.operators.Shift.{Shift}
 use Rattle.rg_words.specs.declared.operators.Comparison.{Comparison}
 use Rattle.rg_words.specs.declared.operators.Connective.{Connective}
 
+-- an expression and a formula: a word is its place among the declared words, from 0, and a number or an operation on numbers has its width before it
 mutual
   pub data Expression : Type 0 where
     number : ℕ → ℕ → Expression

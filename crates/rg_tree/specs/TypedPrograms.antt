@@ -28,9 +28,11 @@ abbrev pub ValuesPlain : List Assignment → Type 0
 ValuesPlain [] = Unit {0}
 ValuesPlain (a ∷ act) = (has_next_word a.value ≡ false) × ValuesPlain act
 
+-- the assignments are well typed, give no fixed word a value, and read one state alone
 abbrev pub IsTypedAction : List Word → List Assignment → Type 0
 IsTypedAction words act = AssignmentsTyped (widths_of words) act × TargetsFree words act × ValuesPlain act
 
+-- a statement's formulas and assignments are well typed, and those inside it; an await has 1 to 16 assignments
 abbrev mutual
   pub IsTypedStatement : List Word → Statement → Type 0
   IsTypedStatement words (skip n) = Unit {0}
@@ -44,10 +46,12 @@ abbrev mutual
   AreTypedItems words (one s) = IsTypedStatement words s
   AreTypedItems words (more s items) = IsTypedStatement words s × AreTypedItems words items
 
+-- the four formulas are well typed, and the pre and the post are of one state
 abbrev pub IsTypedSpecification : List Word → Specification → Type 0
 IsTypedSpecification words spec =
     IsTypedPredicate words spec.pre × IsTypedRelation words spec.rely × IsTypedRelation words spec.guar × IsTypedPredicate words spec.post
 
+-- the specification and the body of each part are well typed
 abbrev pub AreTypedParts : List Word → List PartTree → Type 0
 AreTypedParts words [] = Unit {0}
 AreTypedParts words (p ∷ ps) = IsTypedSpecification words p.spec × IsTypedStatement words p.body × AreTypedParts words ps

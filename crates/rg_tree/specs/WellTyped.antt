@@ -16,8 +16,10 @@ ValuesStayWithinWidth = (widths s t : List ℕ) (e : Expression) (w : ℕ) → H
 abbrev pub TypedExpressionsFit : Type 0
 TypedExpressionsFit = (words : List Word) → IsLayout words → (e : Expression) (w : ℕ) → HasWidth (widths_of words) e w → ExpressionFits e (length words)
 
+-- over words within the limits a typed formula fits
 abbrev pub TypedFormulasFit : Type 0
 TypedFormulasFit = (words : List Word) → IsLayout words → (f : Proposition) → IsTyped (widths_of words) f → FormulaFits f (length words)
 
+-- over words within the limits a typed condition fits
 abbrev pub TypedConditionsFit : Type 0
 TypedConditionsFit = (c : ConditionTree) → IsLayout c.words → ConditionTyped c → ConditionFits c

@@ -1,8 +1,9 @@
 //! The statements of a program with their numbers.
 
 ghost use Rattle.std.specs.Prelude.{◌≡◌, [], ◌∷◌, map, OnOk, IfOk};
+ghost use Rattle.rg_tree.specs.Inner.Numbering.{Adds};
 ghost use Rattle.rg_tree.specs.ProgramView.{statement, items, part};
-ghost use Rattle.rg_tree.specs.Numbering.{statements, statements_of_items, line_of, kind_of, numbered_parts, Adds};
+ghost use Rattle.rg_tree.specs.Numbering.{statements, statements_of_items, line_of_statement, kind_of, numbered_parts};
 
 use crate::program::Program;
 use crate::statement::{Items, Stmt};
@@ -87,7 +88,7 @@ fn push_one(list: &mut Vec<Numbered>, part: usize, s: &Stmt) -> Result<(), Alloc
 
 /// The line and the kind of a statement.
 fn head_of(s: &Stmt) -> (u32, StatementKind)
-    ensures line { result.0 ≡ line_of (statement s.now) }
+    ensures line { result.0 ≡ line_of_statement (statement s.now) }
     ensures kind { result.1 ≡ kind_of (statement s.now) }
 {
     match s {

@@ -16,16 +16,18 @@ pub record Word : Type 0 where
   pub fixed : Bool
 
 -- the entries of the code, without where they lie in memory
-abbrev pub words_of : List (String Global × Declared) → List Word
-words_of entries = map (λ e. record { name = string_bytes e.0; width = e.1.width; fixed = e.1.fixed }) entries
+abbrev pub words_of_entries : List (String Global × Declared) → List Word
+words_of_entries entries = map (λ e. record { name = string_bytes e.0; width = e.1.width; fixed = e.1.fixed }) entries
 
 -- the place of the word of this name, from 0
 abbrev pub index_of : List Word → List ℕ → Option ℕ
 index_of words name = position (λ w. bytes_eq name w.name) words
 
+-- the name of each word
 abbrev pub names_of : List Word → List (List ℕ)
 names_of words = map (λ w. w.name) words
 
+-- the width of each word
 abbrev pub widths_of : List Word → List ℕ
 widths_of words = map (λ w. w.width) words
 

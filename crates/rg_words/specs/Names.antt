@@ -37,5 +37,6 @@ is_word (b ∷ bs) = is_word_start b && list_all is_word_byte bs
 unfoldable pub is_name : List ℕ → Bool
 is_name text = is_word text && not (is_keyword text)
 
+-- the text is a name
 abbrev pub IsName : List ℕ → Type 0
 IsName text = IsTrue (is_name text)

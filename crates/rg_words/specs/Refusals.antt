@@ -33,43 +33,43 @@ IsRefusedFor None (Ok x) = Unit {0}
 IsRefusedFor None (Err e) = e ≡ no_memory
 
 -- the number that a refusal prints
-unfoldable pub code_of : RefusalNumber → ℕ
-code_of BadByte = 1
-code_of Unexpected = 2
-code_of UnknownName = 3
-code_of NameTwice = 4
-code_of Width = 5
-code_of NumberTooLarge = 6
-code_of WidthsDiffer = 7
-code_of WidthUnknown = 8
-code_of Prime = 9
-code_of Depth = 10
-code_of Limit = 11
-code_of Unfinished = 12
-code_of FixedAssigned = 13
-code_of UnexpectedInDerivation = 21
-code_of LineNumber = 22
-code_of NotEarlier = 23
-code_of RuleDoesNotFit = 24
-code_of WrongStatement = 25
-code_of FormulaDiffers = 26
-code_of PartNotDerived = 27
-code_of Unreadable = 41
-code_of NoSection = 42
-code_of IdOrder = 43
-code_of HintNotEarlier = 44
-code_of HintNotUnit = 45
-code_of NoConflict = 46
-code_of NoEmptyClause = 47
-code_of UnknownCondition = 48
-code_of StartOutsidePre = 61
-code_of OutsideRely = 62
-code_of Write = 63
-code_of Mismatch = 64
-code_of Stranger = 65
-code_of MovesEnded = 66
-code_of FixedMoved = 67
-code_of Memory = 99
+unfoldable pub printed_number : RefusalNumber → ℕ
+printed_number BadByte = 1
+printed_number Unexpected = 2
+printed_number UnknownName = 3
+printed_number NameTwice = 4
+printed_number Width = 5
+printed_number NumberTooLarge = 6
+printed_number WidthsDiffer = 7
+printed_number WidthUnknown = 8
+printed_number Prime = 9
+printed_number Depth = 10
+printed_number Limit = 11
+printed_number Unfinished = 12
+printed_number FixedAssigned = 13
+printed_number UnexpectedInDerivation = 21
+printed_number LineNumber = 22
+printed_number NotEarlier = 23
+printed_number RuleDoesNotFit = 24
+printed_number WrongStatement = 25
+printed_number FormulaDiffers = 26
+printed_number PartNotDerived = 27
+printed_number Unreadable = 41
+printed_number NoSection = 42
+printed_number IdOrder = 43
+printed_number HintNotEarlier = 44
+printed_number HintNotUnit = 45
+printed_number NoConflict = 46
+printed_number NoEmptyClause = 47
+printed_number UnknownCondition = 48
+printed_number StartOutsidePre = 61
+printed_number OutsideRely = 62
+printed_number Write = 63
+printed_number Mismatch = 64
+printed_number Stranger = 65
+printed_number MovesEnded = 66
+printed_number FixedMoved = 67
+printed_number Memory = 99
 
 -- the name of a file
 abbrev pub file_name : SourceFile → List ℕ
@@ -88,6 +88,6 @@ place_text (Move k) = codes "move " ++ decimal k
 -- a refusal's line, as `refused 45 proofs line 12` or `refused 99`: the number, then the file and the place where there are any
 abbrev pub refusal_text : Refusal → List ℕ
 refusal_text r =
-    codes "refused " ++ decimal (code_of r.number)
+    codes "refused " ++ decimal (printed_number r.number)
     ++ option_map_or (λ file. codes " " ++ file_name file) r.file []
     ++ option_map_or (λ place. codes " " ++ place_text place) r.place []

@@ -31,11 +31,11 @@ impl Model for Layout {
 
     ghost Value = { List Word };
 
-    ghost use Rattle.rg_words.specs.Layout.{words_of, IsLayout};
+    ghost use Rattle.rg_words.specs.Layout.{words_of_entries, IsLayout};
 
-    ghost view = { λ l. words_of l.words.entries };
+    ghost view = { λ l. words_of_entries l.words.entries };
 
-    ghost invariant = { λ l. IsLayout (words_of l.words.entries) };
+    ghost invariant = { λ l. IsLayout (words_of_entries l.words.entries) };
 }
 
 impl Layout {

@@ -111,12 +111,12 @@ pub struct Refusal {
 }
 
 impl RefusalNumber {
-    ghost use Rattle.rg_words.specs.Refusals.{code_of};
+    ghost use Rattle.rg_words.specs.Refusals.{printed_number};
 
     /// The number that a refusal prints.
-    #[tactic(auto, unfolding(crate::specs::Refusals::code_of))]
+    #[tactic(auto, unfolding(crate::specs::Refusals::printed_number))]
     pub fn code(self) -> u8
-        ensures { result ≡ code_of self }
+        ensures { result ≡ printed_number self }
     {
         self as u8
     }

@@ -15,12 +15,15 @@ use Rattle.rgc.specs.declared.stages.Emitted.{Emitted}
 abbrev pub parsed_program : Parsed → ProgramTree
 parsed_program a = program a.program
 
+-- the program whose derivation was read
 abbrev pub derived_program : Derived → ProgramTree
 derived_program a = program a.program
 
+-- the program that was accepted
 abbrev pub accepted_program : Accepted → ProgramTree
 accepted_program a = program a.program
 
+-- the program whose code was made
 abbrev pub emitted_program : Emitted → ProgramTree
 emitted_program a = program a.program
 

@@ -1,24 +1,18 @@
-use Rattle.std.proofs.Common.{◌≡◌, ℕ, ◌∙◌, ap, ap₂, sym, refl, List, Option, Some, None, option_map, true, subst, []}
+use Rattle.std.proofs.Common.{◌≡◌, ℕ, ap₂, sym, refl, List, Option, Some, None, option_map, true, subst, []}
 use Rattle.std.specs.Prelude.{Box}
 use Rattle.std.specs.Box.{box_value}
-use Rattle.clap.specs.Words.{App, AddsSubcommand, Shape, Text, Row, app_of, with_subcommand, subcommand_rows, subcommand_rows_of, subcommand_of, fault_of, HasKind, HasMatchesOf, is_simple, is_simple_and_free}
+use Rattle.clap.specs.Words.{App, Text, Row, subcommand_rows, subcommand_rows_of, subcommand_of, fault_of, HasKind, HasMatchesOf, is_simple, is_simple_and_free}
 use Rattle.clap.proofs.OnLiterals.{clap_on_literals}
 use Rattle.clap.specs.declared.parser.matches.ArgMatches.TheViews.{out-SubCommand}
 use Rattle.clap.specs.declared.parser.matches.SubCommand.{SubCommand}
 use Rattle.clap.specs.declared.parser.matches.ArgMatches.{ArgMatches}
 use Rattle.clap.specs.declared.error.Error.{Error}
-use Rattle.clap.specs.declared.builder.command.Command.{Command}
-use Rattle.rgc_line.specs.App.{IsLeaf, rgc_app}
-use Rattle.rgc_line.specs.Line.{Names, HasFields, name_of, IsFieldFault, IsLineFault}
+use Rattle.rgc_line.specs.App.{rgc_app}
+use Rattle.rgc_line.specs.Line.{Names, HasContents, contents_of, IsFieldFault, IsLineFault}
 use Rattle.rgc_line.specs.declared.fields.FieldFault.{FieldFault}
 use Rattle.rgc_line.specs.declared.fields.FieldFault.TheVariants.{Incomplete, Apart}
 use Rattle.rgc_line.specs.declared.line.LineFault.TheVariants.{Fields}
 use Rattle.rgc_line.specs.declared.command.Command.{Command as RgCommand}
-
--- a subcommand that is added is the last of the subcommands
-pub subcommand_added : (old sub new : Command) (a : App) (s : Shape) → app_of old ≡ a → IsLeaf s sub → AddsSubcommand old sub new → app_of new ≡ with_subcommand a s
-subcommand_added old sub new a s is leaf adds =
-    adds.shape leaf.1 ∙ ap₂ with_subcommand is (ap (λ (x : App). x.top) leaf.0)
 
 -- a number that is read has a text
 pub number_read : (o : Option Text) (n : ℕ) (P : Text → Type 0) → (o ≡ None → Some n ≡ None) → ((t : Text) → o ≡ Some t → P t) → (t : Text) × (o ≡ Some t) × P t
@@ -57,8 +51,8 @@ subcommand_at a b words m is simple h =
     let P : App → Type 0 = λ x. HasMatchesOf x words m in (subst P is h simple).1
 
 -- a command by its name and rows
-pub names_of_rows : (sub : Option (Text × List Row)) (name : Text) (rows : List Row) (command : RgCommand) → sub ≡ Some (name, rows) → name_of command ≡ name → HasFields rows command → Names sub command
-names_of_rows sub name rows command is named fields = (rows, is ∙ ap (λ (n : Text). Some (n, rows)) (sym named), fields)
+pub names_of_rows : (sub : Option (Text × List Row)) (name : Text) (rows : List Row) (command : RgCommand) → sub ≡ Some (name, rows) → HasContents name rows (contents_of command) → Names sub command
+names_of_rows sub name rows command is has = (name, rows, is, has)
 
 -- a fault of a subcommand's matches is a fault of the words
 pub fields_refused : (words : List Text) (name : Text) (rows : List Row) (fault : FieldFault) → fault_of rgc_app words ≡ [] → subcommand_of rgc_app words ≡ Some (name, rows) → IsFieldFault rows fault → IsLineFault words (Fields fault)

@@ -1,11 +1,11 @@
--- The commands as `clap`'s words have them.
-use Rattle.std.specs.Prelude.{◌≡◌, List, [], ◌∷◌, ◌++◌, Some, true, false, codes}
-use Rattle.clap.specs.Words.{App, Rule, Shape, Text, new_rule, app_of}
-use Rattle.clap.specs.declared.builder.command.Command.TheViews.{out-Command}
+-- The table of the commands, as `clap`'s words have them.
+use Rattle.std.specs.Prelude.{List, [], ◌∷◌, Some, true, false, codes, map}
+use Rattle.clap.specs.Words.{App, Rule, Shape, Text, new_rule}
 use Rattle.clap.specs.Simple.{new_shape}
-use Rattle.clap.specs.declared.builder.command.Command.{Command}
 use Rattle.clap.specs.declared.builder.value_parser.ValueParser.{ValueParser}
 use Rattle.clap.specs.declared.builder.value_parser.ValueParser.TheVariants as parser
+use Rattle.rgc_line.specs.declared.commands.Kind.{Kind}
+use Rattle.rgc_line.specs.declared.commands.Kind.TheVariants.{Number, Check, Conditions, Prove, Emit, Valid, Clauses, Find}
 
 -- a file that has to be named
 abbrev pub file_rule : Text → Rule
@@ -30,35 +30,48 @@ number_rule id = record (option_rule id) { parser = Some numbers }
 abbrev pub default_rule : Text → Rule
 default_rule id = record (number_rule id) { defaults = codes "1000000" ∷ [] }
 
-abbrev pub text_files : List Rule
-text_files = file_rule (codes "TEXT") ∷ []
+-- the file with the text that a command is about
+abbrev pub text : Rule
+text = file_rule (codes "TEXT")
 
-abbrev pub derivation_files : List Rule
-derivation_files = text_files ++ file_rule (codes "DERIVATION") ∷ []
+-- the file with the derivation of a program
+abbrev pub derivation : Rule
+derivation = file_rule (codes "DERIVATION")
 
-abbrev pub all_files : List Rule
-all_files = derivation_files ++ file_rule (codes "PROOFS") ∷ []
+-- the file with hint lines
+abbrev pub proofs : Rule
+proofs = file_rule (codes "PROOFS")
 
-abbrev pub prove_rules : List Rule
-prove_rules = derivation_files ++ default_rule (codes "steps") ∷ []
+-- the option with the derivation of a program, one of whose conditions is chosen
+abbrev pub chosen_derivation : Rule
+chosen_derivation = option_rule (codes "derivation")
 
-abbrev pub valid_files : List Rule
-valid_files = text_files ++ file_rule (codes "PROOFS") ∷ []
+-- the option with the number of the condition that is chosen
+abbrev pub chosen_condition : Rule
+chosen_condition = number_rule (codes "condition")
 
--- a text, and the two options that choose a condition
-abbrev pub clauses_rules : List Rule
-clauses_rules = file_rule (codes "TEXT") ∷ option_rule (codes "derivation") ∷ number_rule (codes "condition") ∷ []
-
-abbrev pub find_rules : List Rule
-find_rules = clauses_rules ++ default_rule (codes "steps") ∷ []
+-- the option with the most decisions of each search
+abbrev pub steps : Rule
+steps = default_rule (codes "steps")
 
 -- a command with these arguments and no subcommands
 abbrev pub leaf : Text → List Rule → Shape
 leaf name rules = record (new_shape name) { rules = rules }
 
--- the command has this shape, and no argument that its subcommands share
-abbrev pub IsLeaf : Shape → Command → Type 0
-IsLeaf s c = (app_of c ≡ record { top = s; subs = [] }) × ((out-Command c).has_globals ≡ false)
+-- The table of the commands: the name of each, and its files and options in their order.
+abbrev pub row_of : Kind → Shape
+row_of Number = leaf (codes "number") (text ∷ [])
+row_of Check = leaf (codes "check") (text ∷ derivation ∷ proofs ∷ [])
+row_of Conditions = leaf (codes "conditions") (text ∷ derivation ∷ [])
+row_of Prove = leaf (codes "prove") (text ∷ derivation ∷ steps ∷ [])
+row_of Emit = leaf (codes "emit") (text ∷ derivation ∷ proofs ∷ [])
+row_of Valid = leaf (codes "valid") (text ∷ proofs ∷ [])
+row_of Clauses = leaf (codes "clauses") (text ∷ chosen_derivation ∷ chosen_condition ∷ [])
+row_of Find = leaf (codes "find") (text ∷ chosen_derivation ∷ chosen_condition ∷ steps ∷ [])
+
+-- the commands in the order in which the help lists them
+abbrev pub kinds : List Kind
+kinds = Number ∷ Check ∷ Conditions ∷ Prove ∷ Emit ∷ Valid ∷ Clauses ∷ Find ∷ []
 
 -- the command with no subcommands
 abbrev pub rgc_top : App
@@ -67,27 +80,9 @@ rgc_top = record {
   subs = [];
 }
 
--- the subcommands over programs, and those over formulas
-abbrev pub program_commands : List Shape
-program_commands =
-    leaf (codes "number") text_files
-    ∷ leaf (codes "check") all_files
-    ∷ leaf (codes "conditions") derivation_files
-    ∷ leaf (codes "prove") prove_rules
-    ∷ leaf (codes "emit") all_files
-    ∷ []
-
-abbrev pub formula_commands : List Shape
-formula_commands =
-    leaf (codes "valid") valid_files ∷ leaf (codes "clauses") clauses_rules ∷ leaf (codes "find") find_rules ∷ []
-
--- a command with these subcommands
-abbrev pub app_with : List Shape → App
-app_with subs = record {
-  top = record rgc_top.top { is_leaf = false };
-  subs = subs;
-}
-
 -- the whole command
 unfoldable pub rgc_app : App
-rgc_app = app_with (program_commands ++ formula_commands)
+rgc_app = record {
+  top = record rgc_top.top { is_leaf = false };
+  subs = map row_of kinds;
+}

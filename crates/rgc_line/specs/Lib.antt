@@ -1,3 +1,4 @@
 pub mod App
 pub mod Line
 pub mod Named
+pub mod Inner

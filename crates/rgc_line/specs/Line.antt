@@ -1,9 +1,9 @@
 -- What a command line says, by the matches of its subcommand.
-use Rattle.std.specs.Prelude.{◌≡◌, ◌⊎◌, ℕ, Option, Some, None, Ok, List, [], codes, option_map}
+use Rattle.std.specs.Prelude.{◌≡◌, ◌⊎◌, ℕ, Option, Some, None, Ok, List, [], ◌∷◌}
 use Rattle.std.specs.Str.Parse.{ParsesUnsigned}
 use Rattle.std.specs.Borrow.{Bor}
-use Rattle.clap.specs.Words.{Row, Text, first_of, one_of, HasKind, fault_of, subcommand_of}
-use Rattle.rgc_line.specs.App.{rgc_app}
+use Rattle.clap.specs.Words.{Row, Rule, Text, first_of, one_of, HasKind, fault_of, subcommand_of}
+use Rattle.rgc_line.specs.App.{rgc_app, row_of, chosen_derivation, chosen_condition}
 use Rattle.rgc_line.specs.declared.line.LineFault.{LineFault}
 use Rattle.rgc_line.specs.declared.line.LineFault.TheVariants.{Usage, Fields}
 use Rattle.rgc_line.specs.declared.fields.FieldFault.{FieldFault}
@@ -11,13 +11,12 @@ use Rattle.rgc_line.specs.declared.fields.FieldFault.TheVariants.{Incomplete, Ap
 use Rattle.rgc_line.specs.declared.command.Chosen.{Chosen}
 use Rattle.rgc_line.specs.declared.command.Command.{Command}
 use Rattle.rgc_line.specs.declared.command.Command.TheVariants.{Number, Check, Conditions, Prove, Emit, Valid, Clauses, Find}
+use Rattle.rgc_line.specs.declared.commands.Kind.{Kind}
+use Rattle.rgc_line.specs.declared.commands.Kind.TheVariants as kind
 
 -- the file of this id is the one that the words name
 abbrev pub HasFile : List Row → Text → Bor Text → Type 0
 HasFile rows id file = first_of id rows ≡ Some file.now
-
-abbrev pub HasOption : List Row → Text → Option (Bor Text) → Type 0
-HasOption rows id file = first_of id rows ≡ option_map (λ (s : Bor Text). s.now) file
 
 -- the text of the option is the number in decimal digits
 abbrev pub HasNumber : List Row → Text → ℕ → Type 0
@@ -27,45 +26,64 @@ HasNumber rows id n = (text : Text) × (one_of id rows ≡ Some text) × ParsesU
 abbrev pub HasNo : List Row → Text → Type 0
 HasNo rows id = first_of id rows ≡ None
 
--- a condition is chosen by both options, and none is by neither
-abbrev pub HasChosen : List Row → Option Chosen → Type 0
-HasChosen rows None = HasNo rows (codes "derivation") × HasNo rows (codes "condition")
-HasChosen rows (Some chosen) = HasFile rows (codes "derivation") chosen.derivation × HasNumber rows (codes "condition") chosen.condition
+-- what the words have at a file or an option of a command: the name of a file, a number, or nothing
+pub data Value : Type 0 where
+  file : Bor Text → Value
+  number : ℕ → Value
+  absent : Value
 
-abbrev pub name_of : Command → Text
-name_of (Number _) = codes "number"
-name_of (Check _ _ _) = codes "check"
-name_of (Conditions _ _) = codes "conditions"
-name_of (Prove _ _ _) = codes "prove"
-name_of (Emit _ _ _) = codes "emit"
-name_of (Valid _ _) = codes "valid"
-name_of (Clauses _ _) = codes "clauses"
-name_of (Find _ _ _) = codes "find"
+-- the words have this value at the id
+abbrev pub HasValue : List Row → Text → Value → Type 0
+HasValue rows id (file name) = HasFile rows id name
+HasValue rows id (number n) = HasNumber rows id n
+HasValue rows id absent = HasNo rows id
 
--- the files of a command are those that the words name
-abbrev pub HasFields : List Row → Command → Type 0
-HasFields rows (Number text) = HasFile rows (codes "TEXT") text
-HasFields rows (Check text derivation proofs) =
-    HasFile rows (codes "TEXT") text × HasFile rows (codes "DERIVATION") derivation × HasFile rows (codes "PROOFS") proofs
-HasFields rows (Conditions text derivation) = HasFile rows (codes "TEXT") text × HasFile rows (codes "DERIVATION") derivation
-HasFields rows (Prove text derivation steps) =
-    HasFile rows (codes "TEXT") text × HasFile rows (codes "DERIVATION") derivation × HasNumber rows (codes "steps") steps
-HasFields rows (Emit text derivation proofs) =
-    HasFile rows (codes "TEXT") text × HasFile rows (codes "DERIVATION") derivation × HasFile rows (codes "PROOFS") proofs
-HasFields rows (Valid text proofs) = HasFile rows (codes "TEXT") text × HasFile rows (codes "PROOFS") proofs
-HasFields rows (Clauses text chosen) = HasFile rows (codes "TEXT") text × HasChosen rows chosen
-HasFields rows (Find text steps chosen) = HasFile rows (codes "TEXT") text × HasNumber rows (codes "steps") steps × HasChosen rows chosen
+-- the words have these values at the arguments, one at each
+abbrev pub HasValues : List Row → List Rule → List Value → Type 0
+HasValues rows [] [] = Unit {0}
+HasValues rows [] (value ∷ values) = ⊥
+HasValues rows (rule ∷ rules) [] = ⊥
+HasValues rows (rule ∷ rules) (value ∷ values) = HasValue rows rule.id value × HasValues rows rules values
+
+-- a row of the table, with values for its files and options in the row's order
+pub record Contents : Type 0 where
+  pub kind : Kind
+  pub values : List Value
+
+-- the row of a command and these values
+abbrev pub contents : Kind → List Value → Contents
+contents kind values = record { kind = kind; values = values }
+
+-- before others, the values of the two options that choose a condition: a condition is chosen by both, and none by neither
+abbrev pub chosen_values : Option Chosen → List Value → List Value
+chosen_values None rest = absent ∷ absent ∷ rest
+chosen_values (Some chosen) rest = file chosen.derivation ∷ number chosen.condition ∷ rest
+
+-- The commands by the table: what the row of each has for its files and options, in the row's order.
+abbrev pub contents_of : Command → Contents
+contents_of (Number text) = contents kind.Number (file text ∷ [])
+contents_of (Check text derivation proofs) = contents kind.Check (file text ∷ file derivation ∷ file proofs ∷ [])
+contents_of (Conditions text derivation) = contents kind.Conditions (file text ∷ file derivation ∷ [])
+contents_of (Prove text derivation steps) = contents kind.Prove (file text ∷ file derivation ∷ number steps ∷ [])
+contents_of (Emit text derivation proofs) = contents kind.Emit (file text ∷ file derivation ∷ file proofs ∷ [])
+contents_of (Valid text proofs) = contents kind.Valid (file text ∷ file proofs ∷ [])
+contents_of (Clauses text chosen) = contents kind.Clauses (file text ∷ chosen_values chosen [])
+contents_of (Find text steps chosen) = contents kind.Find (file text ∷ chosen_values chosen (number steps ∷ []))
+
+-- the subcommand is the row's, and its matches have the values of the row's files and options
+abbrev pub HasContents : Text → List Row → Contents → Type 0
+HasContents name rows it = let row = row_of it.kind in (name ≡ row.name) × HasValues rows row.rules it.values
 
 -- the subcommand and its matches are those of this command
 abbrev pub Names : Option (Text × List Row) → Command → Type 0
 Names subcommand command =
-    (rows : List Row) × (subcommand ≡ Some (name_of command, rows)) × HasFields rows command
+    (name : Text) × (rows : List Row) × (subcommand ≡ Some (name, rows)) × HasContents name rows (contents_of command)
 
 -- of the two options that choose a condition, the words have one alone
 abbrev pub AreApart : List Row → Type 0
 AreApart rows =
-    (((file : Text) × (first_of (codes "derivation") rows ≡ Some file)) × HasNo rows (codes "condition"))
-    ⊎ (HasNo rows (codes "derivation") × (number : Text) × (first_of (codes "condition") rows ≡ Some number))
+    (((file : Text) × (first_of chosen_derivation.id rows ≡ Some file)) × HasNo rows chosen_condition.id)
+    ⊎ (HasNo rows chosen_derivation.id × (number : Text) × (first_of chosen_condition.id rows ≡ Some number))
 
 -- why matches give no command
 abbrev pub IsFieldFault : List Row → FieldFault → Type 0

@@ -1,11 +1,14 @@
 //! The fields of a command, from the matches of its subcommand.
 
-ghost use Rattle.std.specs.Prelude.{◌≡◌, codes, IfOk, IfErr};
+ghost use Rattle.std.specs.Prelude.{◌≡◌, ◌<◌, IfOk, IfErr, IfSome, length};
 ghost use Rattle.clap.specs.Words.{found_of, rows_of};
-ghost use Rattle.rgc_line.specs.Line.{HasFile, HasOption, HasNumber, HasChosen, AreApart, HasFields, IsFieldFault, name_of};
+ghost use Rattle.rgc_line.specs.App.{row_of};
+ghost use Rattle.rgc_line.specs.Line.{HasFile, HasNumber, HasContents, contents_of, IsFieldFault};
+ghost use Rattle.rgc_line.specs.Inner.Table.{id_at, IsListed, IsNamed, IsTable, HasOption, HasChosen};
 ghost use Rattle.rgc_line.specs.declared.fields.FieldFault.TheVariants.{Incomplete};
 
 use crate::command::{Chosen, Command};
+use crate::commands::{CHOSEN_CONDITION, CHOSEN_DERIVATION, COMMANDS, Kind, Row};
 use clap::ArgMatches;
 use thiserror::Error;
 
@@ -46,36 +49,89 @@ fn given_number(matches: &ArgMatches<'_>, id: &str) -> Result<u64, FieldFault>
     }
 }
 
-fn text<'a>(matches: &ArgMatches<'a>) -> Result<&'a str, FieldFault>
-    ensures file { IfOk result (HasFile (rows_of (found_of matches.now)) (codes "TEXT")) }
-    ensures fault { IfErr result (λ f. f ≡ Incomplete) }
-{
-    let name = file(matches, "TEXT")?;
-    Ok(name)
+/// The files and options of a command on a line, each by its place in the command's row, from 0.
+#[derive(Clone, Copy)]
+struct Given<'g, 'a> {
+    matches: &'g ArgMatches<'a>,
+    row: &'g Row,
 }
 
-fn derivation<'a>(matches: &ArgMatches<'a>) -> Result<&'a str, FieldFault>
-    ensures file { IfOk result (HasFile (rows_of (found_of matches.now)) (codes "DERIVATION")) }
-    ensures fault { IfErr result (λ f. f ≡ Incomplete) }
-{
-    let name = file(matches, "DERIVATION")?;
-    Ok(name)
-}
+impl<'a> Given<'_, 'a> {
+    /// The id of the file or the option.
+    fn id(&self, place: usize) -> &'static str
+        requires listed { IsListed self.now.row.now }
+        requires place { place < length (row_of self.now.row.now.kind).rules }
+        ensures { result.now ≡ id_at (row_of self.now.row.now.kind).rules place }
+    {
+        self.row.fields[place].id
+    }
 
-fn proofs<'a>(matches: &ArgMatches<'a>) -> Result<&'a str, FieldFault>
-    ensures file { IfOk result (HasFile (rows_of (found_of matches.now)) (codes "PROOFS")) }
-    ensures fault { IfErr result (λ f. f ≡ Incomplete) }
-{
-    let name = file(matches, "PROOFS")?;
-    Ok(name)
-}
+    /// A file that has to be named.
+    fn file(&self, place: usize) -> Result<&'a str, FieldFault>
+        requires listed { IsListed self.now.row.now }
+        requires place { place < length (row_of self.now.row.now.kind).rules }
+        ensures file { IfOk result (HasFile (rows_of (found_of self.now.matches.now)) (id_at (row_of self.now.row.now.kind).rules place)) }
+        ensures fault { IfErr result (λ f. f ≡ Incomplete) }
+    {
+        let name = file(self.matches, self.id(place))?;
+        Ok(name)
+    }
 
-fn steps(matches: &ArgMatches<'_>) -> Result<u64, FieldFault>
-    ensures number { IfOk result (HasNumber (rows_of (found_of matches.now)) (codes "steps")) }
-    ensures fault { IfErr result (λ f. f ≡ Incomplete) }
-{
-    let number = given_number(matches, "steps")?;
-    Ok(number)
+    /// A number that is given or has a default.
+    fn number(&self, place: usize) -> Result<u64, FieldFault>
+        requires listed { IsListed self.now.row.now }
+        requires place { place < length (row_of self.now.row.now.kind).rules }
+        ensures number { IfOk result (HasNumber (rows_of (found_of self.now.matches.now)) (id_at (row_of self.now.row.now.kind).rules place)) }
+        ensures fault { IfErr result (λ f. f ≡ Incomplete) }
+    {
+        let number = given_number(self.matches, self.id(place))?;
+        Ok(number)
+    }
+
+    /// The command of the row.
+    fn command(&self) -> Result<Command<'a>, FieldFault>
+        requires { IsListed self.now.row.now }
+        ensures contents { IfOk result (λ c. HasContents self.now.row.now.name.now (rows_of (found_of self.now.matches.now)) (contents_of c)) }
+        ensures fault { IfErr result (IsFieldFault (rows_of (found_of self.now.matches.now))) }
+    {
+        match self.row.kind {
+            Kind::Number => Ok(Command::Number {
+                text: self.file(0)?,
+            }),
+            Kind::Check => Ok(Command::Check {
+                text: self.file(0)?,
+                derivation: self.file(1)?,
+                proofs: self.file(2)?,
+            }),
+            Kind::Conditions => Ok(Command::Conditions {
+                text: self.file(0)?,
+                derivation: self.file(1)?,
+            }),
+            Kind::Prove => Ok(Command::Prove {
+                text: self.file(0)?,
+                derivation: self.file(1)?,
+                steps: self.number(2)?,
+            }),
+            Kind::Emit => Ok(Command::Emit {
+                text: self.file(0)?,
+                derivation: self.file(1)?,
+                proofs: self.file(2)?,
+            }),
+            Kind::Valid => Ok(Command::Valid {
+                text: self.file(0)?,
+                proofs: self.file(1)?,
+            }),
+            Kind::Clauses => Ok(Command::Clauses {
+                text: self.file(0)?,
+                chosen: chosen(self.matches)?,
+            }),
+            Kind::Find => Ok(Command::Find {
+                text: self.file(0)?,
+                chosen: chosen(self.matches)?,
+                steps: self.number(3)?,
+            }),
+        }
+    }
 }
 
 /// The condition that the two options choose, where both are given.
@@ -83,9 +139,12 @@ fn chosen<'a>(matches: &ArgMatches<'a>) -> Result<Option<Chosen<'a>>, FieldFault
     ensures chosen { IfOk result (HasChosen (rows_of (found_of matches.now))) }
     ensures fault { IfErr result (IsFieldFault (rows_of (found_of matches.now))) }
 {
-    match (option(matches, "derivation"), option(matches, "condition")) {
+    match (
+        option(matches, CHOSEN_DERIVATION.id),
+        option(matches, CHOSEN_CONDITION.id),
+    ) {
         (None, None) => Ok(None),
-        (Some(derivation), Some(_)) => match given_number(matches, "condition") {
+        (Some(derivation), Some(_)) => match given_number(matches, CHOSEN_CONDITION.id) {
             Ok(condition) => Ok(Some(Chosen {
                 derivation,
                 condition,
@@ -96,112 +155,26 @@ fn chosen<'a>(matches: &ArgMatches<'a>) -> Result<Option<Chosen<'a>>, FieldFault
     }
 }
 
-fn number<'a>(matches: &ArgMatches<'a>) -> Result<Command<'a>, FieldFault>
-    ensures name { IfOk result (λ c. name_of c ≡ codes "number") }
-    ensures fields { IfOk result (HasFields (rows_of (found_of matches.now))) }
-    ensures fault { IfErr result (λ f. f ≡ Incomplete) }
+/// The row of a name.
+fn row_named<'r>(rows: &'r [Row], name: &str) -> Option<&'r Row>
+    requires { IsTable rows.now }
+    ensures { IfSome result (λ row. IsNamed name.now row.now) }
 {
-    Ok(Command::Number {
-        text: text(matches)?,
-    })
-}
-
-fn check<'a>(matches: &ArgMatches<'a>) -> Result<Command<'a>, FieldFault>
-    ensures name { IfOk result (λ c. name_of c ≡ codes "check") }
-    ensures fields { IfOk result (HasFields (rows_of (found_of matches.now))) }
-    ensures fault { IfErr result (λ f. f ≡ Incomplete) }
-{
-    Ok(Command::Check {
-        text: text(matches)?,
-        derivation: derivation(matches)?,
-        proofs: proofs(matches)?,
-    })
-}
-
-fn conditions<'a>(matches: &ArgMatches<'a>) -> Result<Command<'a>, FieldFault>
-    ensures name { IfOk result (λ c. name_of c ≡ codes "conditions") }
-    ensures fields { IfOk result (HasFields (rows_of (found_of matches.now))) }
-    ensures fault { IfErr result (λ f. f ≡ Incomplete) }
-{
-    Ok(Command::Conditions {
-        text: text(matches)?,
-        derivation: derivation(matches)?,
-    })
-}
-
-fn prove<'a>(matches: &ArgMatches<'a>) -> Result<Command<'a>, FieldFault>
-    ensures name { IfOk result (λ c. name_of c ≡ codes "prove") }
-    ensures fields { IfOk result (HasFields (rows_of (found_of matches.now))) }
-    ensures fault { IfErr result (λ f. f ≡ Incomplete) }
-{
-    Ok(Command::Prove {
-        text: text(matches)?,
-        derivation: derivation(matches)?,
-        steps: steps(matches)?,
-    })
-}
-
-fn emit<'a>(matches: &ArgMatches<'a>) -> Result<Command<'a>, FieldFault>
-    ensures name { IfOk result (λ c. name_of c ≡ codes "emit") }
-    ensures fields { IfOk result (HasFields (rows_of (found_of matches.now))) }
-    ensures fault { IfErr result (λ f. f ≡ Incomplete) }
-{
-    Ok(Command::Emit {
-        text: text(matches)?,
-        derivation: derivation(matches)?,
-        proofs: proofs(matches)?,
-    })
-}
-
-fn valid<'a>(matches: &ArgMatches<'a>) -> Result<Command<'a>, FieldFault>
-    ensures name { IfOk result (λ c. name_of c ≡ codes "valid") }
-    ensures fields { IfOk result (HasFields (rows_of (found_of matches.now))) }
-    ensures fault { IfErr result (λ f. f ≡ Incomplete) }
-{
-    Ok(Command::Valid {
-        text: text(matches)?,
-        proofs: proofs(matches)?,
-    })
-}
-
-fn clauses<'a>(matches: &ArgMatches<'a>) -> Result<Command<'a>, FieldFault>
-    ensures name { IfOk result (λ c. name_of c ≡ codes "clauses") }
-    ensures fields { IfOk result (HasFields (rows_of (found_of matches.now))) }
-    ensures fault { IfErr result (IsFieldFault (rows_of (found_of matches.now))) }
-{
-    Ok(Command::Clauses {
-        text: text(matches)?,
-        chosen: chosen(matches)?,
-    })
-}
-
-fn find<'a>(matches: &ArgMatches<'a>) -> Result<Command<'a>, FieldFault>
-    ensures name { IfOk result (λ c. name_of c ≡ codes "find") }
-    ensures fields { IfOk result (HasFields (rows_of (found_of matches.now))) }
-    ensures fault { IfErr result (IsFieldFault (rows_of (found_of matches.now))) }
-{
-    Ok(Command::Find {
-        text: text(matches)?,
-        steps: steps(matches)?,
-        chosen: chosen(matches)?,
-    })
+    for row in rows {
+        if row.name == name {
+            return Some(row);
+        }
+    }
+    None
 }
 
 /// The command of a subcommand's name and matches.
 pub fn command_of<'a>(name: &str, matches: &ArgMatches<'a>) -> Result<Command<'a>, FieldFault>
-    ensures name { IfOk result (λ c. name_of c ≡ name.now) }
-    ensures fields { IfOk result (HasFields (rows_of (found_of matches.now))) }
+    ensures contents { IfOk result (λ c. HasContents name.now (rows_of (found_of matches.now)) (contents_of c)) }
     ensures fault { IfErr result (IsFieldFault (rows_of (found_of matches.now))) }
 {
-    match name {
-        "number" => number(matches),
-        "check" => check(matches),
-        "conditions" => conditions(matches),
-        "prove" => prove(matches),
-        "emit" => emit(matches),
-        "valid" => valid(matches),
-        "clauses" => clauses(matches),
-        "find" => find(matches),
-        _ => Err(FieldFault::Incomplete),
+    match row_named(&COMMANDS, name) {
+        Some(row) => Given { matches, row }.command(),
+        None => Err(FieldFault::Incomplete),
     }
 }

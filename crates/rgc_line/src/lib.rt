@@ -3,6 +3,7 @@
 
 mod app;
 mod command;
+mod commands;
 mod fields;
 mod line;
 

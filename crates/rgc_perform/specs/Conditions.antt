@@ -4,7 +4,7 @@ use Rattle.std.specs.Fmt.{decimal}
 use Rattle.rg_tree.specs.Printed.{formula_text}
 use Rattle.rg_tree.specs.Statements.{ProgramTree}
 use Rattle.rg_tree.specs.Lines.{LineTree}
-use Rattle.rgc.specs.Names.{names_of}
+use Rattle.rgc.specs.Names.{names_of_conditions}
 
 -- a condition's line of the text: its number and its name
 abbrev pub condition_line : ℕ → List ℕ → List ℕ
@@ -17,4 +17,4 @@ condition_lines k (name ∷ names) = condition_line k name ++ condition_lines (k
 
 -- the pre, and then each condition with its number
 abbrev pub conditions_text : ProgramTree → List LineTree → List ℕ
-conditions_text p lines = (codes "pre " ++ (formula_text p.words p.spec.pre [] ++ codes "\n")) ++ condition_lines 1 (names_of p lines)
+conditions_text p lines = (codes "pre " ++ (formula_text p.words p.spec.pre [] ++ codes "\n")) ++ condition_lines 1 (names_of_conditions p lines)

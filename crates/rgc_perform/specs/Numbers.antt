@@ -9,6 +9,7 @@ use Rattle.rg_tree.specs.declared.numbered.Numbered.{Numbered}
 use Rattle.rg_tree.specs.declared.numbered.StatementKind.{StatementKind}
 use Rattle.rg_tree.specs.declared.numbered.StatementKind.TheVariants.{Skip, Assign, Await, If, While, Seq}
 
+-- the word for a kind of statement
 abbrev pub kind_text : StatementKind → List ℕ
 kind_text Skip = codes "skip"
 kind_text Assign = codes "assign"

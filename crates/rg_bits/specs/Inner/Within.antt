@@ -2,10 +2,15 @@
 use Rattle.std.specs.Prelude.{ℕ, List, [], get_or, map, Vec}
 use Rattle.std.specs.Global.{Global}
 use Rattle.rg_gates.specs.declared.Lit.{Lit}
+use Rattle.rg_gates.specs.declared.Lit.TheVariants.{True}
 use Rattle.rg_gates.specs.Circuit.{Circuit}
-use Rattle.rg_gates.specs.Extends.{IsIn, IsRowIn}
+use Rattle.rg_gates.specs.Extends.{IsIn}
 use Rattle.rg_bits.specs.declared.rows.BitOperation.{BitOperation}
 use Rattle.rg_bits.specs.declared.rows.BitOperation.TheVariants.{Pick}
+
+-- a row of literals of the circuit
+pub record IsRowIn (c : Circuit) (row : List Lit) : Type 0 where
+  pub bits : (k : ℕ) → IsIn c (get_or row k True)
 
 -- both literals are of the circuit
 pub record AreIn (c : Circuit) (both : Lit × Lit) : Type 0 where

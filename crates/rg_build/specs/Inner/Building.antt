@@ -86,16 +86,19 @@ abbrev pub after_some_settings : Terminal → SetFor → List SettingTree → Op
 after_some_settings (terminals.Section keywords.At) w ss = after_at w ss
 after_some_settings _ w ss = setting_words w ss
 
+abbrev pub after_between : Terminal → Open → Open
+after_between t (after_claim f) = after_a_claim t f
+after_between t (after_term a) = after_a_term t a
+after_between t (after_next j f) = after_an_operand t j f
+after_between t (after_condition f) = after_a_condition t f
+after_between t (after_consequent f a) = after_a_consequent t f a
+after_between t (declaring ws b) = after_declarations t ws b
+after_between t (setting_words w ss) = after_some_settings t w ss
+after_between t o = o
+
 abbrev pub between : Terminal → List Open → List Open
 between t [] = []
-between t (after_claim f ∷ os) = after_a_claim t f ∷ os
-between t (after_term a ∷ os) = after_a_term t a ∷ os
-between t (after_next j f ∷ os) = after_an_operand t j f ∷ os
-between t (after_condition f ∷ os) = after_a_condition t f ∷ os
-between t (after_consequent f a ∷ os) = after_a_consequent t f a ∷ os
-between t (declaring ws b ∷ os) = after_declarations t ws b ∷ os
-between t (setting_words w ss ∷ os) = after_some_settings t w ss ∷ os
-between t (o ∷ os) = o ∷ os
+between t (o ∷ os) = after_between t o ∷ os
 
 abbrev pub on_fixed : Terminal → List Open → List Open
 on_fixed terminals.Open os = first ∷ os

@@ -2,9 +2,8 @@
 -- No public contract cites it: Begun defines them over the grammar.
 use Rattle.std.specs.Prelude.{ℕ, cond, List, [], ◌∷◌, ◌++◌, reverse}
 use Rattle.std.specs.List.{flat_map}
-use Rattle.rg_syntax.specs.Grammar.{Lexeme}
 use Rattle.rg_syntax.specs.Written.{StatementTree, skip, assign, await, branch, loop, StatementTrees, no_more, also, listed, WrittenPart}
-use Rattle.rg_build.specs.Inner.Drafts.{BodyOf, a_part, a_then, an_else, a_loop, BlockSoFar, ReadFor, a_program_clause, a_part_clause, an_assignment, a_guard, an_act, a_branch_test, a_loop_test, PlaceSoFar, between_acts, reading, Drafted, no_token, program_steps}
+use Rattle.rg_build.specs.Inner.Drafts.{BodyOf, a_part, a_then, an_else, a_loop, BlockSoFar, ReadFor, a_program_clause, a_part_clause, an_assignment, a_guard, an_act, a_branch_test, a_loop_test, PlaceSoFar, between_acts, reading, Drafted}
 
 -- the line of a statement's first token
 abbrev pub first_line : StatementTree → ℕ
@@ -70,7 +69,3 @@ place_lines _ = []
 -- the open lists of statements stand innermost first
 abbrev pub begun_lines : Drafted → List ℕ
 begun_lines d = part_lines d.parts ++ (flat_map open_lines (reverse d.blocks) ++ place_lines d.place)
-
--- those that are begun once these tokens are read
-abbrev pub lines_begun : List Lexeme → List ℕ
-lines_begun tokens = begun_lines (program_steps no_token tokens)

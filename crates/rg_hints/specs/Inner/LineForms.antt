@@ -1,3 +1,4 @@
+-- What the form of a line says, once its literals and hints are read.
 use Rattle.std.specs.Prelude.{ℕ, ℤ, List}
 use Rattle.rg_hints.specs.declared.read.LineForm.{LineForm}
 use Rattle.rg_hints.specs.declared.read.LineForm.TheVariants.{PassedOver, HintLine, Unreadable}

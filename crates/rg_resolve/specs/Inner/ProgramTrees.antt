@@ -3,11 +3,10 @@ use Rattle.std.specs.Prelude.{List, [], ◌∷◌, map}
 use Rattle.rg_words.specs.Layout.{Word}
 use Rattle.rg_tree.specs.Trees.{Assignment}
 use Rattle.rg_tree.specs.Statements as tree
-use Rattle.rg_tree.specs.Numbering.{line_of}
-use Rattle.rg_syntax.specs.Written.{AssignedTree, StatementTree, skip, assign, await, branch, loop, StatementTrees, no_more, also, SpecTree, WrittenPart, WrittenProgram}
+use Rattle.rg_tree.specs.Numbering.{line_of_statement}
+use Rattle.rg_syntax.specs.Written.{AssignedTree, StatementTree, skip, assign, await, branch, loop, StatementTrees, no_more, also, SpecTree, WrittenPart}
 use Rattle.rg_resolve.specs.Faults.{width_at}
-use Rattle.rg_resolve.specs.Trees.{place_of, typed_term, typed_claim}
-use Rattle.rg_resolve.specs.Words.{words_of}
+use Rattle.rg_resolve.specs.Inner.FormulaTrees.{place_of, typed_term, typed_claim}
 
 -- an assignment, whose value has its target's width
 abbrev pub assignment_tree : List Word → AssignedTree → Assignment
@@ -22,7 +21,7 @@ items_of s (t ∷ ts) = tree.more s (items_of t ts)
 abbrev pub block_of : List tree.Statement → tree.Statement
 block_of [] = tree.skip 0
 block_of (s ∷ []) = s
-block_of (s ∷ t ∷ ts) = tree.sequence (line_of s) s (items_of t ts)
+block_of (s ∷ t ∷ ts) = tree.sequence (line_of_statement s) s (items_of t ts)
 
 -- a statement, and the statements of a list
 abbrev mutual
@@ -45,6 +44,3 @@ spec_tree words s = record { pre = typed_claim words s.pre; rely = typed_claim w
 
 abbrev pub part_tree : List Word → WrittenPart → tree.PartTree
 part_tree words p = record { name = p.name.text; spec = spec_tree words p.spec; body = block_tree words p.body }
-
-abbrev pub program_tree : WrittenProgram → tree.ProgramTree
-program_tree p = record { words = words_of p.words; spec = spec_tree (words_of p.words) p.spec; parts = map (part_tree (words_of p.words)) p.parts }

@@ -2,7 +2,7 @@
 
 ghost use Rattle.std.specs.Prelude.{◌≡◌, [], map, IsTrue, IfOk, IfErr};
 ghost use Rattle.rg_tree.specs.ProgramView.{statement};
-ghost use Rattle.rg_tree.specs.Numbering.{line_of};
+ghost use Rattle.rg_tree.specs.Numbering.{line_of_statement};
 ghost use Rattle.rg_syntax.specs.Written.{statement as written, listed};
 ghost use Rattle.rg_resolve.specs.Faults.{IsRefusal};
 ghost use Rattle.rg_resolve.specs.Programs.{statement_faults, block_faults};
@@ -18,7 +18,7 @@ use std::alloc::{AllocError, Global};
 
 /// The line of a statement's first token.
 fn line_of(s: &Stmt) -> u32
-    ensures { result ≡ line_of (statement s.now) }
+    ensures { result ≡ line_of_statement (statement s.now) }
 {
     match s {
         Stmt::Skip(line)

@@ -1,10 +1,11 @@
 //! The typed tree of a formula, or its first fault.
 
 ghost use Rattle.std.specs.Prelude.{◌≡◌, ◌≤◌, IfOk, IfErr};
+ghost use Rattle.rg_resolve.specs.Typing.{connective_of, conditional_of};
 ghost use Rattle.rg_tree.specs.View.{expression, formula};
 ghost use Rattle.rg_syntax.specs.Written.{term, claim, joined};
 ghost use Rattle.rg_resolve.specs.Faults.{term_faults, claim_faults, IsRefusal};
-ghost use Rattle.rg_resolve.specs.Trees.{width_of, connective_of, conditional_of, IsTermTree, IsClaimTree};
+ghost use Rattle.rg_resolve.specs.Inner.FormulaTrees.{width_of, IsTermTree, IsClaimTree};
 
 use super::group::{Group, group_of};
 use super::leaf::{text, unprimed};

@@ -4,7 +4,7 @@ ghost use Rattle.std.specs.Prelude.{◌≡◌, ◌≤◌};
 ghost use Rattle.std.specs.Option.{option_map};
 ghost use Rattle.rg_syntax.specs.Written.{term};
 ghost use Rattle.rg_resolve.specs.Faults.{first_name, group_of, after_first, is_other};
-ghost use Rattle.rg_resolve.specs.Trees.{width_of};
+ghost use Rattle.rg_resolve.specs.Inner.FormulaTrees.{width_of};
 
 use super::leaf::{find, text, unprimed};
 use rg_syntax::written::ExpressionText;

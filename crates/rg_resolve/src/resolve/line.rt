@@ -1,12 +1,13 @@
 //! The lines of a derivation.
 
 ghost use Rattle.std.specs.Prelude.{◌≡◌, [], map, IsTrue, IfOk, IfErr};
+ghost use Rattle.rg_resolve.specs.Inner.LineTrees.{resolved_line};
 ghost use Rattle.std.specs.List.{flat_map};
 ghost use Rattle.rg_text.specs.Text.{leaf_of};
 ghost use Rattle.rg_tree.specs.Lines.{line_tree};
 ghost use Rattle.rg_syntax.specs.Written.{line_text};
 ghost use Rattle.rg_resolve.specs.Faults.{plain_faults, IsRefusal};
-ghost use Rattle.rg_resolve.specs.Derivations.{line_faults, derivation_faults, leaf_number, resolved_line};
+ghost use Rattle.rg_resolve.specs.Derivations.{line_faults, derivation_faults, leaf_number};
 
 use super::part::spec_of;
 use super::scope::Scope;

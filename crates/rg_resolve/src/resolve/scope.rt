@@ -8,7 +8,7 @@ ghost use Rattle.rg_text.specs.Text.{text_of, leaf_of};
 ghost use Rattle.rg_tree.specs.View.{expression};
 ghost use Rattle.rg_syntax.specs.Written.{number as number_leaf};
 ghost use Rattle.rg_resolve.specs.Faults.{number_of, unless, word_faults, number_faults, plain_faults, IsRefusal};
-ghost use Rattle.rg_resolve.specs.Trees.{place_of, width_of, IsTermTree};
+ghost use Rattle.rg_resolve.specs.Inner.FormulaTrees.{place_of, width_of, IsTermTree};
 
 use super::group::Group;
 use super::leaf::{find, number, number_below, text};

@@ -1,10 +1,11 @@
 //! Settings of words, as a start and a move have them.
 
 ghost use Rattle.std.specs.Prelude.{◌≡◌, [], map, IfOk, IfErr};
+ghost use Rattle.rg_resolve.specs.Inner.SettingTrees.{word_value, word_values, move_tree, move_trees};
 ghost use Rattle.rg_syntax.specs.Written.{setting as leaves, move_text};
 ghost use Rattle.rg_tree.specs.Moves.{move};
 ghost use Rattle.rg_resolve.specs.Faults.{IsRefusal};
-ghost use Rattle.rg_resolve.specs.Settings.{is_named, setting_faults, settings_faults, move_faults, moves_faults, word_value, word_values, move_tree, move_trees};
+ghost use Rattle.rg_resolve.specs.Settings.{is_named, setting_faults, settings_faults, move_faults, moves_faults};
 
 use super::leaf::{find, number_below, text};
 use super::scope::Scope;

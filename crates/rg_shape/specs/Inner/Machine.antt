@@ -1,5 +1,5 @@
 -- The parser's table: what each place takes, and where a token leads.
-use Rattle.std.specs.Prelude.{ℕ, Bool, true, false, ◌||◌, ◌&&◌, not, ◌+◌, min, nat_lt, cond, length, List, [], ◌∷◌, Option, Some, None, option_and_then}
+use Rattle.std.specs.Prelude.{ℕ, Bool, true, false, ◌||◌, ◌&&◌, not, ◌+◌, min, nat_lt, cond, length, List, [], ◌∷◌, Option, Some, None}
 use Rattle.rg_text.specs.declared.kind.Kind.{Kind}
 use Rattle.rg_text.specs.declared.kind.Kind.TheVariants.{Name, Primed, Number, Fixed}
 use Rattle.rg_text.specs.declared.kind.Terminal.TheVariants.{Open, Close, Colon, Semicolon, Assign, Words, Show, Section, Compare, Operate, ShiftBy, Join, Imply, Truth, Not, Inv, If, Then, Else}
@@ -385,10 +385,6 @@ abbrev pub next : List Point → Kind → Option (List Point)
 next [] k = None
 next (p ∷ ps) k = begin (start_of k) p ps (after_turn ps (turn p k))
 
-abbrev pub run : List Point → List Kind → Option (List Point)
-run ps [] = Some ps
-run ps (k ∷ ks) = option_and_then (λ qs. run qs ks) (next ps k)
-
 -- whether the token begins what is open until its operands end
 abbrev pub is_opener : Kind → Bool
 is_opener (Fixed Open) = true
@@ -446,15 +442,6 @@ has_room_at _ k = true
 abbrev pub has_room : List Point → Kind → Bool
 has_room [] k = true
 has_room (p ∷ ps) k = has_room_at p k
-
--- whether the limits of depth let the token stand here, and where lists are asked about those of lists too
-abbrev pub allowed : Bool → List Point → Kind → Bool
-allowed lists ps k = (has_room ps k || not lists) && is_shallow ps k
-
--- the tokens, each within the limits
-abbrev pub limited : Bool → List Point → List Kind → Option (List Point)
-limited lists ps [] = Some ps
-limited lists ps (k ∷ ks) = cond (allowed lists ps k) (option_and_then (λ qs. limited lists qs ks) (next ps k)) None
 
 -- whether this formula ends a line
 abbrev pub ends_line : Clause → Owner → Bool

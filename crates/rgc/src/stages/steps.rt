@@ -12,7 +12,7 @@ ghost use Rattle.rg_hints.specs.Proved.{AreProved, IsProofsRefusal};
 ghost use Rattle.rg_code.specs.Code.{HasRunsOf};
 ghost use Rattle.rg_rules.specs.Reading.{FitsProgram, IsDerivationRefusal};
 ghost use Rattle.rgc.specs.Accepted.{conditions_of};
-ghost use Rattle.rgc.specs.Names.{names_of};
+ghost use Rattle.rgc.specs.Names.{names_of_conditions};
 ghost use Rattle.rg_parse.specs.Programs.{SpellsProgram, IsProgramRefusal};
 ghost use Rattle.rgc.specs.Stages.{parsed_program, derived_program, derived_lines, accepted_program, emitted_program, emitted_blocks};
 
@@ -121,7 +121,7 @@ impl Derived {
     ///
     /// Only where memory is refused.
     pub fn names(&self, alloc: Global) -> Result<Vec<String>, AllocError>
-        ensures { IfOk result (λ all. map string_bytes all.items ≡ names_of (derived_program self.now) (derived_lines self.now)) }
+        ensures { IfOk result (λ all. map string_bytes all.items ≡ names_of_conditions (derived_program self.now) (derived_lines self.now)) }
     {
         let mut all = self.derivation.names(alloc)?;
         add_names(alloc, &mut all, &self.program)?;

@@ -1,10 +1,11 @@
 use Rattle.std.proofs.lemmas.Result.{IfOk-from_err}
 use Rattle.std.proofs.Common.{◌+◌, nat_lt, arith, rules}
 use Rattle.rg_words.specs.declared.limits.TheConstants.{MOST_VARIABLES}
-use Rattle.rg_gates.proofs.Growth.{Extends-trans, IsRowIn-extends}
+use Rattle.rg_gates.proofs.Growth.{Extends-trans}
 use Rattle.rg_bits.proofs.Building.{ran_out}
 use Rattle.rg_bits.proofs.RowSteps.{sum-turn, sum-done, sum-past, IsRowIn-push}
 use Rattle.rg_bits.proofs.rows.sum.Goals as goal
+use Rattle.rg_bits.proofs.RowsIn.{IsRowIn-extends}
 
 pub returns-in_err-bit : goal.returns-in_err-bit
 returns-in_err-bit g c =

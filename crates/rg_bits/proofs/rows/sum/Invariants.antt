@@ -1,8 +1,9 @@
 use Rattle.std.proofs.Common.{◌≡◌, drop}
-use Rattle.rg_gates.specs.Extends.{Extends, IsIn, IsRowIn}
+use Rattle.rg_gates.specs.Extends.{Extends, IsIn}
 use Rattle.rg_bits.specs.Rows.{sum_of}
 use Rattle.rg_bits.proofs.RowSteps.{prepended}
 use Rattle.rg_bits.proofs.rows.sum.Given as goal
+use Rattle.rg_bits.specs.Inner.Within.{IsRowIn}
 
 -- what is built, and what the rest will build, is what all bits build
 abbrev pub invariant-loop-i : goal.invariant-loop-i

@@ -1,5 +1,6 @@
 use Rattle.std.proofs.Common.{[], ◌++◌, map, cond, refl, ap, ◌∙◌, arith, append_assoc}
 use Rattle.std.specs.List.{flat_map}
+use Rattle.std.proofs.lemmas.Result.{IfOk-weaker}
 use Rattle.rg_syntax.specs.Written.{statement}
 use Rattle.rg_syntax.proofs.Sizes.{first_smaller, second_smaller, body_smaller}
 use Rattle.rg_build.specs.Inner.DraftLines.{statement_lines, joined_line}
@@ -21,16 +22,16 @@ add_statement-add_block-requires-in-While t c =
     let smaller = body_smaller [] c.args.s.now _ _ _ c.in-While.is c.deref-in-While.result.now c.deref-in-While.ensures.value in
     (omega (arith, smaller, c.decreases), c.requires)
 
-pub add_statement-returns-in_ok-add_block-in-If-2 : goal.add_statement-returns-in_ok-add_block-in-If-2
-add_statement-returns-in_ok-add_block-in-If-2 t c = λ src.
-    branch_lines src c.args.s.now _ _ _ _ c.in-If.is _ _ c.deref.ensures.value c.deref-in-If.ensures.value _ (c.first_line.ensures src) _ _ _ _ c.in_ok-push.ensures.items (c.in_ok-add_block-in-If.ensures src) (c.in_ok-add_block-in-If-2.ensures src)
+pub add_statement-returns-in_ok-add_block-in-If : goal.add_statement-returns-in_ok-add_block-in-If
+add_statement-returns-in_ok-add_block-in-If t c =
+    IfOk-weaker c.add_block-in-If.result _ _ (λ done e src. branch_lines src c.args.s.now _ _ _ _ c.in-If.is _ _ c.deref.ensures.value c.deref-in-If.ensures.value _ (c.first_line.ensures src) _ _ _ _ c.in_ok-put.ensures (c.in_ok-add_block-in-If.ensures src) (e src)) c.add_block-in-If.ensures
 
-pub add_statement-returns-in_ok-add_block-in-While : goal.add_statement-returns-in_ok-add_block-in-While
-add_statement-returns-in_ok-add_block-in-While t c = λ src.
-    loop_lines src c.args.s.now _ _ _ c.in-While.is _ c.deref-in-While.ensures.value _ (c.first_line.ensures src) _ _ _ c.in_ok-push.ensures.items (c.in_ok-add_block-in-While.ensures src)
+pub add_statement-returns-in-While : goal.add_statement-returns-in-While
+add_statement-returns-in-While t c =
+    IfOk-weaker c.add_block-in-While.result _ _ (λ done e src. loop_lines src c.args.s.now _ _ _ c.in-While.is _ c.deref-in-While.ensures.value _ (c.first_line.ensures src) _ _ _ c.in_ok-put.ensures (e src)) c.add_block-in-While.ensures
 
 pub add_block-returns : goal.add_block-returns
-add_block-returns t c = λ src. block_is src c.args.items.now _ _ (c.in_ok-add_items.ensures src)
+add_block-returns t c = IfOk-weaker c.add_items.result _ _ (λ done e src. block_is src c.args.items.now _ _ (e src)) c.add_items.ensures
 
 pub add_items-add_statement-requires : goal.add_items-add_statement-requires
 add_items-add_statement-requires t c =

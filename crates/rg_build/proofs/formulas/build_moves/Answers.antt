@@ -1,4 +1,5 @@
 use Rattle.std.proofs.Common.{◌∷◌, [], map, ap, ◌∙◌}
+use Rattle.std.proofs.lemmas.Result.{IfOk-weaker}
 use Rattle.rg_syntax.specs.Grammar.{moves}
 use Rattle.rg_syntax.specs.Written.{move_text}
 use Rattle.rg_build.specs.Inner.Frames.{moving}
@@ -11,4 +12,4 @@ use Rattle.rg_build.proofs.formulas.build_moves.Goals as goal
 pub returns : goal.returns
 returns c = λ src s e.
     let none_yet = ap (λ ms. steps (moving (map (move_text src) ms) ∷ []) (moves s [])) c.new.ensures.items in
-    some_view (λ r. map (move_text src) r.items) c.in_ok-built.built (moves_of s) (c.in_ok-built.ensures src ∙ ap whole_moves_of (c.in_ok-frames.ensures src ∙ ap (steps _) e ∙ none_yet) ∙ builds_moves s)
+    IfOk-weaker c.take_moves.result _ _ (λ built v. some_view (λ r. map (move_text src) r.items) built (moves_of s) (v ∙ ap whole_moves_of (c.in_ok-frames.ensures src ∙ ap (steps _) e ∙ none_yet) ∙ builds_moves s)) (c.take_moves.ensures src)

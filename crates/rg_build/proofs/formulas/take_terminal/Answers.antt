@@ -1,4 +1,5 @@
 use Rattle.std.proofs.Common.{◌≡◌, Bool, List, refl, ◌∙◌}
+use Rattle.std.proofs.lemmas.Result.{IfOk-weaker}
 use Rattle.rg_text.specs.Text.{Leaf}
 use Rattle.rg_text.specs.declared.kind.Kind.TheVariants.{Fixed}
 use Rattle.rg_text.specs.declared.kind.Terminal.{Terminal}
@@ -20,16 +21,16 @@ others If leaf os a b c d e f = absurd (f refl)
 others (Section Skip) leaf os a b c d e f = refl
 others _ leaf os a b c d e f = refl
 
-pub returns-in_ok-take_close-in-Close : goal.returns-in_ok-take_close-in-Close
-returns-in_ok-take_close-in-Close c = λ leaf src. rw c.in-Close.is (c.in_ok-take_close-in-Close.ensures src)
+pub returns-in-Close : goal.returns-in-Close
+returns-in-Close c = IfOk-weaker c.take_close.result _ _ (λ done e leaf src. rw c.in-Close.is (e src)) c.take_close.ensures
 
-pub returns-in_ok-take_if-in-If : goal.returns-in_ok-take_if-in-If
-returns-in_ok-take_if-in-If c = λ leaf src. rw c.in-If.is (c.in_ok-take_if-in-If.ensures src)
+pub returns-in-If : goal.returns-in-If
+returns-in-If c = IfOk-weaker c.take_if.result _ _ (λ done e leaf src. rw c.in-If.is (e src)) c.take_if.ensures
 
-pub returns-in_ok-take_formula-in-Truth : goal.returns-in_ok-take_formula-in-Truth
-returns-in_ok-take_formula-in-Truth c = λ leaf src. rw c.in-Truth.is (c.in_ok-take_formula-in-Truth.ensures src)
+pub returns-in-Truth : goal.returns-in-Truth
+returns-in-Truth c = IfOk-weaker c.take_formula.result _ _ (λ done e leaf src. rw c.in-Truth.is (e src)) c.take_formula.ensures
 
-pub returns-in_ok-take_between-in_default : goal.returns-in_ok-take_between-in_default
-returns-in_ok-take_between-in_default c = λ leaf src.
+pub returns-in_default : goal.returns-in_default
+returns-in_default c =
     let d = c.in_default in
-    c.in_ok-take_between-in_default.ensures src ∙ others c.args.terminal leaf _ d.not-Open d.not-Close d.not-Truth d.not-Not d.not-Inv d.not-If
+    IfOk-weaker c.take_between.result _ _ (λ done e leaf src. e src ∙ others c.args.terminal leaf _ d.not-Open d.not-Close d.not-Truth d.not-Not d.not-Inv d.not-If) c.take_between.ensures

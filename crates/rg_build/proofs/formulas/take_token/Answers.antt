@@ -1,5 +1,6 @@
+use Rattle.std.proofs.lemmas.Result.{IfOk-weaker}
 use Rattle.rg_text.specs.Text.{leaf_of}
 use Rattle.rg_build.proofs.formulas.take_token.Goals as goal
 
-pub returns-in_ok-take_terminal-in-Fixed : goal.returns-in_ok-take_terminal-in-Fixed
-returns-in_ok-take_terminal-in-Fixed c = λ src. rw c.in-Fixed.is (c.in_ok-take_terminal-in-Fixed.ensures (leaf_of src c.args.token) src)
+pub returns-in-Fixed : goal.returns-in-Fixed
+returns-in-Fixed c = IfOk-weaker c.take_terminal.result _ _ (λ done e src. rw c.in-Fixed.is (e (leaf_of src c.args.token) src)) c.take_terminal.ensures

@@ -2,8 +2,8 @@ use Rattle.std.proofs.Common.{◌≡◌, ℕ, [], ◌∷◌, drop}
 use Rattle.rg_tree.specs.ProgramView.{statement}
 use Rattle.rg_tree.specs.Traces.{IsTraceOf, view}
 use Rattle.rg_tree.specs.Following.{followed}
-use Rattle.rg_runs.specs.View.{steps, todo_of}
-use Rattle.rg_runs.specs.Decides.{AreTyped}
+use Rattle.rg_runs.specs.View.{steps}
+use Rattle.rg_runs.specs.Inner.Todo.{todo_of, AreTyped}
 use Rattle.rg_runs.proofs.follow.follow.Given as goal
 
 -- following what is left from this state is following the whole

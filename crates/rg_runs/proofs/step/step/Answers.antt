@@ -2,7 +2,7 @@ use Rattle.std.proofs.Common.{◌≡◌}
 use Rattle.rg_tree.specs.ProgramView.{statement, items}
 use Rattle.rg_tree.specs.TypedPrograms.{IsTypedStatement}
 use Rattle.rg_tree.specs.Following.{step_of}
-use Rattle.rg_runs.specs.View.{todo_of}
+use Rattle.rg_runs.specs.Inner.Todo.{todo_of}
 use Rattle.rg_runs.proofs.Typed.{items_typed}
 use Rattle.rg_runs.proofs.step.step.Goals as goal
 

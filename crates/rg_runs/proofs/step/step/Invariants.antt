@@ -2,8 +2,7 @@ use Rattle.std.proofs.Common.{◌≡◌}
 use Rattle.rg_tree.specs.ProgramView.{statement}
 use Rattle.rg_tree.specs.TypedPrograms.{IsTypedStatement}
 use Rattle.rg_tree.specs.Following.{step_of}
-use Rattle.rg_runs.specs.View.{todo_of}
-use Rattle.rg_runs.specs.Decides.{AreTyped}
+use Rattle.rg_runs.specs.Inner.Todo.{todo_of, AreTyped}
 use Rattle.rg_runs.proofs.step.step.Given as goal
 
 -- a step of what the sequences so far begin with is a step of the whole

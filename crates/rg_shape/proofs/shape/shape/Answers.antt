@@ -8,8 +8,8 @@ use Rattle.rg_syntax.specs.declared.text_kind.TextKind.{TextKind}
 use Rattle.rg_shape.specs.declared.shape.ShapeFault.TheVariants.{Unexpected, TooDeep, TooMany, Unfinished}
 use Rattle.rg_syntax.specs.Grammar.{lexeme_of}
 use Rattle.rg_shape.specs.Shape.{ShapeIs}
-use Rattle.rg_shape.specs.Inner.Machine.{start, is_shallow, has_room, limited, is_at_end}
-use Rattle.rg_shape.proofs.Steps.{kinds}
+use Rattle.rg_shape.specs.Inner.Machine.{start, is_shallow, has_room, is_at_end}
+use Rattle.rg_shape.proofs.Steps.{kinds, limited}
 use Rattle.rg_shape.proofs.Tokens.{kinds_of, kinds_same, one_kind_more, tokens_written}
 use Rattle.rg_shape.proofs.Outcome.{answers_unexpected, answers_too_deep, answers_too_many, limited_more, answers_whole, answers_unfinished, accepts_within}
 use Rattle.rg_shape.proofs.shape.shape.Goals as goal

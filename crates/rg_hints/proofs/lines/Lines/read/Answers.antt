@@ -4,7 +4,7 @@ use Rattle.rg_hints.specs.declared.read.LineForm.{LineForm}
 use Rattle.rg_hints.specs.Inner.LineForms.{reading_as}
 use Rattle.rg_hints.specs.Text.{fields_of}
 use Rattle.rg_hints.specs.Reading.{reading_of, passed_over, hint_line}
-use Rattle.rg_hints.specs.Lines.{Line}
+use Rattle.rg_hints.specs.Lines.{HintLine}
 use Rattle.rg_hints.proofs.ReadSteps.{line_passed, line_added, below_more}
 use Rattle.rg_hints.proofs.lines.Lines.read.Goals as goal
 use Rattle.rg_hints.proofs.lines.Lines.read.Goals.{in-PassedOver, in-HintLine+else-id-last+in_ok-lines-in-HintLine}
@@ -32,7 +32,7 @@ loop-rest-preserved c =
       | in-HintLine+else-id-last+in_ok-lines-in-HintLine w ↦
           let id = w.in-HintLine.id in
           let reading : reading_of (fields_of line) ≡ hint_line id literals hints = c.in_ok-read_line.ensures.value ∙ ap (λ (f : LineForm). reading_as f literals hints) w.in-HintLine.is in
-          let added : Line = record { id = id; text_line = c.loop-rest.number; literals = literals; hints = hints } in
+          let added : HintLine = record { id = id; text_line = c.loop-rest.number; literals = literals; hints = hints } in
           let above : c.loop-rest.last < id = w.if-id-last.false in
           rw (w.lines-is, w.last-is, w.in_ok-lines-in-HintLine.ensures, w.deref.ensures.value, w.deref-in-HintLine.ensures.value) (record {
             given = c.loop-rest.invariant.given;

@@ -1,9 +1,10 @@
 use Rattle.std.proofs.Common.{map}
 use Rattle.rg_tree.specs.Lines.{line_tree}
 use Rattle.rg_syntax.specs.Written.{line_text}
-use Rattle.rg_resolve.specs.Derivations.{line_faults, resolved_line}
+use Rattle.rg_resolve.specs.Derivations.{line_faults}
 use Rattle.rg_resolve.proofs.Lists.{AreDone, items_from}
 use Rattle.rg_resolve.proofs.resolve.line.lines_of.Given as goal
+use Rattle.rg_resolve.specs.Inner.LineTrees.{resolved_line}
 
 abbrev pub invariant-loop-one : goal.invariant-loop-one
 invariant-loop-one l =

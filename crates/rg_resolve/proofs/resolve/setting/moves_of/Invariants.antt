@@ -1,9 +1,10 @@
 use Rattle.std.proofs.Common.{map}
 use Rattle.rg_tree.specs.Moves.{move}
 use Rattle.rg_syntax.specs.Written.{move_text}
-use Rattle.rg_resolve.specs.Settings.{move_faults, move_tree}
+use Rattle.rg_resolve.specs.Settings.{move_faults}
 use Rattle.rg_resolve.proofs.Lists.{AreDone, items_from}
 use Rattle.rg_resolve.proofs.resolve.setting.moves_of.Given as goal
+use Rattle.rg_resolve.specs.Inner.SettingTrees.{move_tree}
 
 abbrev pub invariant-loop-one : goal.invariant-loop-one
 invariant-loop-one l =

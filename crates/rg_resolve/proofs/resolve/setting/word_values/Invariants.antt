@@ -1,9 +1,10 @@
 use Rattle.std.proofs.Common.{map}
 use Rattle.rg_syntax.specs.Written.{setting}
-use Rattle.rg_resolve.specs.Settings.{setting_faults, word_value}
+use Rattle.rg_resolve.specs.Settings.{setting_faults}
 use Rattle.rg_resolve.proofs.Lists.{items_from}
 use Rattle.rg_resolve.proofs.Turns.{AreTaken, items_to}
 use Rattle.rg_resolve.proofs.resolve.setting.word_values.Given as goal
+use Rattle.rg_resolve.specs.Inner.SettingTrees.{word_value}
 
 abbrev pub invariant-loop-i : goal.invariant-loop-i
 invariant-loop-i l =

@@ -16,7 +16,7 @@ returns-in-Ok-command_of-clause-command g c =
     let rows = rows_of (found_of c.in-Some.inner.now) in
     let read = rows_read (out-ArgMatches matches).subcommand c.in-Some.name.now rows c.in-Some.ensures.name c.in-Some.ensures.rows in
     let at = subcommand_at (app_of c.in-Ok.command) rgc_app words matches c.in-Ok.ensures rgc_is_simple c.in-Ok-try_get_matches_from.ensures.matches in
-    names_of_rows (subcommand_of rgc_app words) c.in-Some.name.now rows _ (sym at ∙ read) c.in-Ok-command_of.ensures.name c.in-Ok-command_of.ensures.fields
+    names_of_rows (subcommand_of rgc_app words) c.in-Some.name.now rows _ (sym at ∙ read) c.in-Ok-command_of.ensures.contents
 
 pub returns-in-Ok-command_of-clause-fault : goal.returns-in-Ok-command_of-clause-fault
 returns-in-Ok-command_of-clause-fault g c =

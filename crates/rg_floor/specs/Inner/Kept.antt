@@ -1,0 +1,62 @@
+-- What the fields of a floor keep.
+use Rattle.std.specs.Prelude.{◌≡◌, ℕ, ◌+◌, ◌≤◌, Bool, true, List, [], ◌∷◌, ◌++◌, length, None, Result, Ok, Err}
+use Rattle.std.specs.declared.alloc.AllocError.{AllocError}
+use Rattle.rg_words.specs.Layout.{widths_of}
+use Rattle.rg_words.specs.States.{Valuation, IsPair}
+use Rattle.rg_words.specs.declared.limits.TheConstants.{MOST_RUN_STEPS}
+use Rattle.rg_words.specs.declared.refusal.Refusal.{Refusal}
+use Rattle.rg_tree.specs.Meaning.{holds}
+use Rattle.rg_tree.specs.Statements.{ProgramTree}
+use Rattle.rg_tree.specs.Traces.{State, holds_at, IsTraceOf}
+use Rattle.rg_tree.specs.Programs.{OthersInside}
+use Rattle.rg_code.specs.Code.{BlockTree, zeros}
+use Rattle.rg_machine.specs.Machine.{Configuration, IsStepOf}
+use Rattle.rg_monitor.specs.Entry.{Entry, entry_of}
+use Rattle.rg_floor.specs.Changes.{Changing, change_of, rebuilt, state_after, AreChangesOf}
+use Rattle.rg_floor.specs.History.{FloorView, GoTogether, RecordsLead, steps_of, own_steps}
+use Rattle.rg_floor.specs.Ready.{line_at}
+use Rattle.rg_floor.specs.Turns.{move_fault, IsErrorOf}
+
+-- the fields are those of this program, code, start and limit, and the changes are those of a legal history
+pub record IsKept (p : ProgramTree) (codes : List (List BlockTree)) (start : State) (limit : ℕ) (program : ProgramTree) (code : List (List BlockTree)) (c ahead : Configuration) (first scratch : Valuation) (changes : List Changing) (most own total : ℕ) : Type 0 where
+  pub program_is : program ≡ p
+  pub code_is : code ≡ codes
+  pub words_kept : c.words ≡ p.words
+  pub codes_are : c.codes ≡ codes
+  pub ahead_is : ahead ≡ c
+  pub first_widths : first.widths ≡ widths_of p.words
+  pub first_is : first.values ≡ start
+  pub scratch_widths : scratch.widths ≡ widths_of p.words
+  pub most_is : most ≡ limit
+  pub small : limit ≤ MOST_RUN_STEPS
+  pub sized : length c.places ≡ length codes
+  pub lawful : ∥ GoTogether p codes ∥₁
+  pub start_in_pre : holds_at p.spec.pre start ≡ true
+  pub trace : IsTraceOf p.words (length codes) start (steps_of (rebuilt p 0 start changes))
+  pub leads : RecordsLead p codes 0 (zeros codes) start (rebuilt p 0 start changes) c.places
+  pub words_are : c.state ≡ state_after start changes
+  pub rely : OthersInside (holds p.spec.rely) start (steps_of (rebuilt p 0 start changes))
+  pub own_is : own ≡ own_steps (rebuilt p 0 start changes)
+  pub within : own ≤ limit
+  pub booked : total ≡ own
+  pub fit : AreChangesOf (widths_of p.words) changes
+
+-- what contracts see of a floor with these fields
+abbrev pub view_of : ProgramTree → State → Configuration → List Changing → Bool → Bool → FloorView
+view_of p start c changes stopped more =
+    record { words = c.state; places = c.places; changes = changes; history = rebuilt p 0 start changes; stopped = stopped; more = more }
+
+-- what the step of a part makes of a configuration and of changes: with its record, a configuration to which the block leads, twice,
+-- and its change behind the others; an error changes nothing
+abbrev pub StepMakes : ProgramTree → Configuration → List Changing → ℕ → Result Entry AllocError → Configuration → Configuration → List Changing → Type 0
+StepMakes p c cs who (Ok r) d ahead ds =
+    IsStepOf c who d × (r ≡ entry_of p (length cs + 1) who (line_at c.codes c.places who) c.state d.state) × (ahead ≡ d)
+    × (ds ≡ cs ++ change_of who (line_at c.codes c.places who) c.state d.state ∷ [])
+StepMakes p c cs who (Err e) d ahead ds = (d ≡ c) × (ahead ≡ c) × (ds ≡ cs)
+
+-- the same of a move to a state
+abbrev pub MoveMakes : ProgramTree → Bool → Configuration → List Changing → State → Result Entry Refusal → Configuration → Configuration → List Changing → Type 0
+MoveMakes p m c cs t (Ok r) d ahead ds =
+    (move_fault p m c.state t ≡ None) × IsPair c.words c.state t × (r ≡ entry_of p (length cs + 1) 0 0 c.state t) × (d ≡ record c { state = t }) × (ahead ≡ d)
+    × (ds ≡ cs ++ change_of 0 0 c.state t ∷ [])
+MoveMakes p m c cs t (Err e) d ahead ds = IsErrorOf (move_fault p m c.state t) e × (d ≡ c) × (ahead ≡ c) × (ds ≡ cs)

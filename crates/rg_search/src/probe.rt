@@ -1,0 +1,78 @@
+//! Probes: what unit clauses alone refute.
+
+use crate::code::Code;
+use crate::solver::{FALSE, OPEN, Solver};
+use crate::table::{at, put};
+
+impl Solver {
+    /// Whether unit clauses refute two literals together, under the case literal where it isn't 0. The clause is kept. Both are
+    /// assumed on one level, so that a conflict is met before all that follows from the first.
+    pub fn excludes(&mut self, case: Code, first: Code, second: Code) -> bool {
+        if self.value(first) == FALSE || self.value(second) == FALSE {
+            return true;
+        }
+        let base = self.level();
+        self.begin_level();
+        self.assume(first);
+        self.assume(second);
+        let Some(conflict) = self.propagate() else {
+            self.backtrack(base);
+            return false;
+        };
+        if base == 0 {
+            self.conclude(conflict);
+        } else {
+            self.conclude_under(conflict);
+            self.begin_case(case);
+        }
+        true
+    }
+
+    /// Assumes a literal at level 1 unless it is, and follows it; where unit clauses refute it, its negation is kept.
+    pub fn begin_case(&mut self, case: Code) {
+        if self.is_over() || self.value(case) != OPEN {
+            return;
+        }
+        self.decide(case);
+        self.follow_case();
+    }
+
+    fn follow_case(&mut self) {
+        if let Some(conflict) = self.propagate() {
+            self.conclude(conflict);
+        }
+    }
+
+    /// Learns from the conflict of a probe under a case. The case stays, unless it is refuted or what is learned holds without it.
+    fn conclude_under(&mut self, conflict: u32) {
+        self.learned.clear();
+        let number = self.log_learned(conflict);
+        self.backtrack(1);
+        let open = self.bring_open_first();
+        if open == 0 || self.learned.len() == 1 {
+            self.keep_conclusion(number);
+            return;
+        }
+        let clause = self.add_conclusion(number);
+        if open == 1 {
+            let literal = at(&self.learned, 0, 0);
+            self.enqueue(literal, clause);
+            self.follow_case();
+        }
+    }
+
+    /// Brings the open literals of the learned clause to its front, and counts them.
+    fn bring_open_first(&mut self) -> usize {
+        let mut open = 0usize;
+        for place in 0..self.learned.len() {
+            let literal = at(&self.learned, place, 0);
+            if self.value(literal) == OPEN {
+                let other = at(&self.learned, open, 0);
+                put(&mut self.learned, open, literal);
+                put(&mut self.learned, place, other);
+                open = open.saturating_add(1);
+            }
+        }
+        open
+    }
+}
