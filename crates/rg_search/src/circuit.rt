@@ -24,7 +24,7 @@ pub struct Circuit {
     pub gates: Vec<Operands>,
     /// By variable: whether the assertion rests on it.
     pub active: Vec<bool>,
-    /// The literal that the last clause asserts alone, or 0.
+    /// The literal that the one clause behind those of the gates asserts, or 0.
     pub assertion: Code,
 }
 
@@ -73,6 +73,7 @@ impl Circuit {
             assertion: assertion_of(given),
         };
         circuit.read_gates(given, lacks_memory);
+        circuit.keep_assertion(given);
         fill(&mut circuit.active, false, size, lacks_memory);
         circuit.mark_active(given);
         circuit
@@ -87,6 +88,14 @@ impl Circuit {
                 break;
             };
             add(&mut self.gates, gate, lacks_memory);
+        }
+    }
+
+    /// Keeps the assertion where it is the one clause behind those of the gates; beside other clauses it is one of them.
+    fn keep_assertion(&mut self, given: Given<'_>) {
+        let gates = self.gates.len().saturating_mul(3);
+        if given.len() != gates.saturating_add(1) {
+            self.assertion = 0;
         }
     }
 
