@@ -1,10 +1,11 @@
 -- A whole text, built.
-use Rattle.std.proofs.Common.{◌≡◌, ℕ, ◌+◌, ◌<◌, List, [], ◌∷◌, ◌++◌, map, length, take, get_or, Option, Some, None, IsSomeAnd, option_map, refl, sym, ap, ◌∙◌}
+use Rattle.std.proofs.Common.{◌≡◌, ℕ, ◌+◌, ◌<◌, List, [], ◌∷◌, ◌++◌, map, length, take, get_or, refl, sym, ap, ◌∙◌}
 use Rattle.std.proofs.lemmas.List.{take_more, map-append}
 use Rattle.rg_text.specs.declared.token.Token.{Token}
 use Rattle.rg_syntax.specs.Grammar.{Lexeme, lexeme_of}
-use Rattle.rg_build.specs.Inner.Frames.{Open}
-use Rattle.rg_build.specs.Inner.Building.{step, steps}
+use Rattle.rg_frames.specs.Frames.{Open}
+use Rattle.rg_frames.specs.Steps.{step}
+use Rattle.rg_build.specs.Inner.Building.{steps}
 
 steps-append : (os : List Open) (xs ys : List Lexeme) → steps os (xs ++ ys) ≡ steps (steps os xs) ys
 steps-append os [] ys = refl
@@ -17,8 +18,3 @@ steps_more src start ts i d os us lt ran one =
     ∙ steps-append start (map (lexeme_of src) (take i ts)) (lexeme_of src (get_or ts i d) ∷ [])
     ∙ ap (λ vs. step vs (lexeme_of src (get_or ts i d))) ran
     ∙ sym one
-
--- what a step with an answer gives is there
-pub some_view : {A B : Type 0} (view : A → B) (built : Option A) (x : B) → option_map view built ≡ Some x → IsSomeAnd built (λ r. view r ≡ x)
-some_view view None x h = cc
-some_view view (Some r) x h = cc

@@ -1,11 +1,3 @@
-pub mod Beginnings
-pub mod BegunExamples
-pub mod BegunLemmas
 pub mod BuildLemmas
 pub mod Builds
 pub mod BuildsLines
-pub mod BuildsPrograms
-pub mod Counts
-pub mod DraftLemmas
-pub mod Lengths
-pub mod ProgramRows

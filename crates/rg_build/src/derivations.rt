@@ -4,12 +4,13 @@ ghost use Rattle.std.specs.Prelude.{◌≡◌, ℕ, List, [], ◌∷◌, map, op
 ghost use Rattle.rg_text.specs.Text.{leaf_of};
 ghost use Rattle.rg_syntax.specs.Written.{claim, line_text};
 ghost use Rattle.rg_build.specs.Inner.Building.{whole_of};
-ghost use Rattle.rg_build.specs.Inner.Frames.{stack, whole};
+ghost use Rattle.rg_frames.specs.Frames.{stack, whole};
 ghost use Rattle.rg_syntax.specs.Grammar.{DerivationSpelling, derivation, lexeme_as, lexeme_of};
 ghost use Rattle.rg_syntax.specs.Texts.{derivation_of};
 ghost use Rattle.rg_build.specs.Inner.BuildingLines.{sign, said, line_start, earlier, head, open_line, drafted, in_claim, one_premise_more, on_head, next_claim, end_line, on_claim, line_step, line_steps, whole_lines, nothing_read};
 
-use crate::formulas::{Frame, put, take_token, take_whole};
+use crate::formulas::take_whole;
+use rg_frames::{Frame, put, take_token};
 use rg_syntax::written::{FormulaText, LineText, SpecText};
 use rg_text::kind::{Keyword, Kind, Terminal};
 use rg_text::token::Token;

@@ -19,7 +19,7 @@ use Rattle.rg_shape.specs.declared.shape.ShapeFault.TheVariants.{Memory, Unexpec
 use Rattle.rg_syntax.specs.Texts.{program_of}
 use Rattle.rg_syntax.specs.Begun.{AreBegun, program_begun}
 use Rattle.rg_parse.specs.ParseProgram.{IsProgramShapeRefusal, told_fault, told_at, met_before, met_tokens}
-use Rattle.rg_build.proofs.Beginnings.{all_begun}
+use Rattle.rg_build_programs.proofs.Beginnings.{all_begun}
 
 met_map : {A B : Type 0} (f : A → B) (xs : List A) (fault : ShapeFault) → map f (met_before xs fault) ≡ met_before (map f xs) fault
 met_map f xs (Unexpected i) = sym (take-map f i xs)

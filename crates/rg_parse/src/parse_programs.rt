@@ -12,7 +12,7 @@ ghost use Rattle.rg_parse.specs.ParseProgram.{IsProgramShapeRefusal, told_fault,
 ghost use Rattle.rg_syntax.specs.OneReading.{OneProgram};
 
 use crate::parse::refusal;
-use rg_build::{begun_too_many, build_program};
+use rg_build_programs::{begun_too_many, build_program};
 use rg_shape::shape::{ShapeFault, shape};
 use rg_syntax::TextKind;
 use rg_syntax::written::ProgramText;
@@ -147,7 +147,7 @@ pub fn parse_program(
 }
 
 /// The same tokens say one thing: two spellings of them have one tree.
-#[tactic(auto, using(rg_build::proofs::BuildsPrograms::one_program))]
+#[tactic(auto, using(rg_build_programs::proofs::BuildsPrograms::one_program))]
 pub fn programs_have_one_tree()
     ensures { OneProgram }
 {}

@@ -1,20 +1,20 @@
 //! The whole search: what comes before the first counted decision, and the decisions.
 
 use crate::cases::close_cases;
-use crate::circuit::Circuit;
-use crate::code::code_for;
 use crate::congruence::Classes;
-use crate::given::Given;
 use crate::leaves::{close_each, leaf_literals, refute_each};
-use crate::log::Log;
 use crate::plain::plain_values;
 use crate::refutation::Refutation;
-use crate::search::{Goal, Outcome};
 use crate::shortening::Shortening;
-use crate::solver::{Solver, TRUE};
 use crate::sweep::{Effort, Sweep};
-use crate::table::{add, at, fill};
-use crate::watcher::Watcher;
+use rg_solver::circuit::Circuit;
+use rg_solver::code::code_for;
+use rg_solver::given::Given;
+use rg_solver::log::Log;
+use rg_solver::search::{Goal, Outcome};
+use rg_solver::solver::{Solver, TRUE};
+use rg_solver::table::{add, at, fill};
+use rg_solver::watcher::Watcher;
 use std::alloc::{AllocError, Global};
 
 /// The most values that are followed to close the classes, for each decision that is allowed and in all.

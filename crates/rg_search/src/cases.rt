@@ -1,10 +1,10 @@
 //! Congruence under a literal: what is equal where it is true.
 
-use crate::circuit::{Circuit, Operands};
-use crate::code::{Code, code_for, negated, variable_of};
 use crate::congruence::Classes;
-use crate::solver::{OPEN, Solver};
-use crate::table::{at, fill, put};
+use rg_solver::circuit::{Circuit, Operands};
+use rg_solver::code::{Code, code_for, negated, variable_of};
+use rg_solver::solver::{OPEN, Solver};
+use rg_solver::table::{at, fill, put};
 
 /// The most variables that are cases, each with both signs.
 const MOST_CASES: usize = 64;

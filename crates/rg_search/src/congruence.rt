@@ -1,10 +1,10 @@
 //! What is equal by the gates' operands, shown by unit clauses alone.
 
-use crate::circuit::{Circuit, Operands};
-use crate::code::{Code, code_for, negated, variable_of};
 use crate::leaders::Leaders;
-use crate::solver::{FALSE, OPEN, Solver, TRUE};
-use crate::table::{add, at, put};
+use rg_solver::circuit::{Circuit, Operands};
+use rg_solver::code::{Code, code_for, negated, variable_of};
+use rg_solver::solver::{FALSE, OPEN, Solver, TRUE};
+use rg_solver::table::{add, at, put};
 use std::alloc::Global;
 
 /// The code that stands for true, and its negation for false.

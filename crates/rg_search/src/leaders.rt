@@ -1,6 +1,6 @@
 //! The first variable of each hash.
 
-use crate::table::{at, fill, put};
+use rg_solver::table::{at, fill, put};
 use std::alloc::Global;
 
 const NOBODY: u32 = u32::MAX;

@@ -1,14 +1,14 @@
 //! What the assertion leaves open: literals of which one has to be true.
 
 use crate::cases::close_under;
-use crate::circuit::Circuit;
-use crate::code::{Code, code_for, negated, variable_of};
 use crate::congruence::Classes;
-use crate::search::Goal;
-use crate::solver::{FALSE, OPEN, Solver};
 use crate::sweep::Effort;
-use crate::table::{add, at};
-use crate::watcher::Watcher;
+use rg_solver::circuit::Circuit;
+use rg_solver::code::{Code, code_for, negated, variable_of};
+use rg_solver::search::Goal;
+use rg_solver::solver::{FALSE, OPEN, Solver};
+use rg_solver::table::{add, at};
+use rg_solver::watcher::Watcher;
 
 /// The most literals that are looked at.
 const MOST_LOOKED_AT: usize = 1_000;

@@ -1,10 +1,10 @@
 //! Plain values: of those that satisfy, some in which the inputs that may be false are.
 
-use crate::circuit::Circuit;
-use crate::code::code_for;
 use crate::simulation::Simulation;
-use crate::solver::{Solver, TRUE};
-use crate::table::{add, at};
+use rg_solver::circuit::Circuit;
+use rg_solver::code::code_for;
+use rg_solver::solver::{Solver, TRUE};
+use rg_solver::table::{add, at};
 
 /// The most gates that are looked at.
 const MOST_LOOKS: usize = 50_000_000;

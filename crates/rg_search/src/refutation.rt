@@ -1,9 +1,9 @@
 //! The learned clauses on which a refutation rests.
 
-use crate::code::signed_of;
-use crate::lists::Lists;
-use crate::log::Log;
-use crate::table::{at, put};
+use rg_solver::code::signed_of;
+use rg_solver::lists::Lists;
+use rg_solver::log::Log;
+use rg_solver::table::{at, put};
 use std::alloc::Global;
 
 /// Clauses of signed literals, each with its hints. They are numbered from one above the given ones on, with no gaps,

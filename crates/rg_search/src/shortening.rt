@@ -1,10 +1,10 @@
 //! Hints in place of a line that is used once, where they lead on without it.
 
-use crate::code::{Code, code_of, negated};
-use crate::given::Given;
-use crate::lists::Lists;
-use crate::log::Log;
-use crate::table::{add, at, fill, put};
+use rg_solver::code::{Code, code_of, negated};
+use rg_solver::given::Given;
+use rg_solver::lists::Lists;
+use rg_solver::log::Log;
+use rg_solver::table::{add, at, fill, put};
 use std::alloc::Global;
 
 /// What a clause says under the literals that are true.

@@ -1,8 +1,8 @@
 //! Values of a circuit's gates under many inputs, 64 at a time, and the hash of what each gate has shown.
 
-use crate::circuit::Circuit;
-use crate::code::{Code, variable_of};
-use crate::table::{at, fill, put};
+use rg_solver::circuit::Circuit;
+use rg_solver::code::{Code, variable_of};
+use rg_solver::table::{at, fill, put};
 use std::alloc::Global;
 
 const MULTIPLIER: u64 = 0x9e37_79b9_7f4a_7c15;

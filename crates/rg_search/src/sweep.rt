@@ -3,15 +3,15 @@
 //! After A. Kuehlmann and F. Krohm ("Equivalence checking using cuts and heaps", 1997) and A. Mishchenko, S. Chatterjee,
 //! R. Jiang and R. Brayton ("FRAIGs: a unifying representation for logic synthesis and verification", 2005).
 
-use crate::circuit::Circuit;
-use crate::code::{Code, negated, variable_of};
 use crate::congruence::Classes;
 use crate::leaders::Leaders;
-use crate::search::{Goal, Outcome};
 use crate::simulation::Simulation;
-use crate::solver::{OPEN, Solver};
-use crate::table::{add, at, fill, put};
-use crate::watcher::Watcher;
+use rg_solver::circuit::Circuit;
+use rg_solver::code::{Code, negated, variable_of};
+use rg_solver::search::{Goal, Outcome};
+use rg_solver::solver::{OPEN, Solver};
+use rg_solver::table::{add, at, fill, put};
+use rg_solver::watcher::Watcher;
 use std::alloc::Global;
 
 /// How often 64 random inputs are looked at.

@@ -7,8 +7,9 @@ use Rattle.rg_tree.specs.declared.line.Rule.{Rule}
 use Rattle.rg_tree.specs.declared.line.Rule.TheVariants as rules
 use Rattle.rg_syntax.specs.Grammar.{Lexeme, fixed, opening, number, an_if, a_line}
 use Rattle.rg_syntax.specs.Written.{Claim, WrittenLine, claim, line_text}
-use Rattle.rg_build.specs.Inner.Frames.{Open, whole, open_of}
-use Rattle.rg_build.specs.Inner.Building.{step, whole_of}
+use Rattle.rg_frames.specs.Frames.{Open, whole, open_of}
+use Rattle.rg_frames.specs.Steps.{step}
+use Rattle.rg_build.specs.Inner.Building.{whole_of}
 use Rattle.rg_build.specs.declared.derivations.LineSign.{LineSign}
 use Rattle.rg_build.specs.declared.derivations.LineSign.TheVariants as signs
 use Rattle.rg_build.specs.declared.derivations.LineHead.{LineHead}
