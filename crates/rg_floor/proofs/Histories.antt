@@ -3,6 +3,7 @@ use Rattle.std.proofs.Common.{◌≡◌, ℕ, zero, suc, ◌+◌, ◌-◌, ◌<�
 use Rattle.std.specs.Prelude.{if◌then◌else◌, All, ◌↔◌, Some, None, slice_get, slice_index}
 use Rattle.std.proofs.Math.Seq.{set-append_seam, get_or-append_seam}
 use Rattle.std.proofs.lemmas.List.Elements.{All-nil, All-cons}
+use Rattle.std.proofs.Math.ListN.{drop_of_length-le}
 use Rattle.std.proofs.lemmas.Option.{slice_get_past}
 use Rattle.rg_words.specs.Layout.{Word}
 use Rattle.rg_words.specs.States.{IsPair, AreValues}
@@ -147,6 +148,33 @@ pub no_record : (p : ProgramTree) (s : State) (cs : List Changing) (number : ℕ
 no_record p s cs number past =
     let e : number ≡ suc (number - 1) = omega (arith, past) in
     sym (nth_at (rebuilt p 0 s cs) number (number - 1) e ∙ slice_get_past (rebuilt p 0 s cs) (number - 1) (omega (arith, past, length-rebuilt p 0 s cs)))
+
+-- the records behind so many are those of the changes behind so many
+drop-rebuilt : (p : ProgramTree) (n k m : ℕ) (s : State) (cs : List Changing) → m ≡ k + n → drop k (rebuilt p n s cs) ≡ rebuilt p m (state_after s (take k cs)) (drop k cs)
+drop-rebuilt p n zero m s cs e = let same : n ≡ m = omega (arith, e) in ap (λ j. rebuilt p j s cs) same
+drop-rebuilt p n (suc k) m s [] e = refl
+drop-rebuilt p n (suc k) m s (c ∷ cs) e = drop-rebuilt p (suc n) k m (given c.values s) cs (omega (arith, e))
+
+pub records_behind : (p : ProgramTree) (s before : State) (cs : List Changing) (k : ℕ) → before ≡ state_after s (take k cs) → rebuilt p k before (drop k cs) ≡ drop k (rebuilt p 0 s cs)
+records_behind p s before cs k at = ap (λ t. rebuilt p k t (drop k cs)) at ∙ sym (drop-rebuilt p 0 k k s cs (omega arith))
+
+pub none_behind : (p : ProgramTree) (s : State) (cs : List Changing) (k : ℕ) → length cs ≤ k → drop k (rebuilt p 0 s cs) ≡ []
+none_behind p s cs k past = drop_of_length-le (rebuilt p 0 s cs) (omega (arith, past, length-rebuilt p 0 s cs))
+
+-- one more record was made, and the rest is to be made
+pub one_made : (p : ProgramTree) (records records' whole : List Entry) (changes : List Changing) (i : ℕ) (x : Entry) (c : Changing) (s t : State)
+    → i < length changes → c ≡ get_or changes i c → x ≡ entry_of p (i + 1) c.who c.line s t → t ≡ given c.values s → records' ≡ records ++ x ∷ []
+    → records ++ rebuilt p i s (drop i changes) ≡ whole → records' ++ rebuilt p (i + 1) t (drop (i + 1) changes) ≡ whole
+one_made p records records' whole changes i x c s t in_changes at_c same to pushed h =
+    let n : i + 1 ≡ suc i = omega arith in
+    let left : List Entry = rebuilt p (suc i) (given c.values s) (drop (suc i) changes) in
+    let back : rebuilt p i s (drop i changes) ≡ entry_of p (suc i) c.who c.line s (given c.values s) ∷ left =
+    ap (rebuilt p i s) (drop-cons changes i c in_changes ∙ ap (λ y. y ∷ drop (suc i) changes) (sym at_c)) in
+    let head : x ≡ entry_of p (suc i) c.who c.line s (given c.values s) = same ∙ (λ j. entry_of p (n j) c.who c.line s (to j)) in
+    let here : records' ++ left ≡ whole =
+    ap (λ l. l ++ left) pushed ∙ append_assoc records (x ∷ []) left ∙ ap (λ y. records ++ y ∷ left) head ∙ ap (λ l. records ++ l) (sym back) ∙ h in
+    let P : ℕ → State → Type 0 = λ m u. records' ++ rebuilt p m u (drop m changes) ≡ whole in
+    subst (λ (u : State). P (i + 1) u) (sym to) (subst (λ (m : ℕ). P m (given c.values s)) (sym n) here)
 
 rest_of : {A : Type 0} → List A → List A
 rest_of [] = []

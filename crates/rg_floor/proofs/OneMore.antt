@@ -50,16 +50,16 @@ pub pair_sized : (words : List _) (s t : State) → IsPair words s t → length 
 pair_sized words s t h = sym (length-AreValues (widths_of words) s h.first) ∙ length-AreValues (widths_of words) t h.second
 
 -- what a floor keeps after one more step, of a part or of the environment
-pub kept_step : (p : ProgramTree) (codes : List (List BlockTree)) (start : State) (limit : ℕ) (program : ProgramTree) (code : List (List BlockTree)) (c ahead : Configuration) (first scratch : Valuation) (changes : List Changing) (most own total : ℕ)
-    → IsKept p codes start limit program code c ahead first scratch changes most own total
+pub kept_step : (p : ProgramTree) (codes : List (List BlockTree)) (start : State) (limit : ℕ) (code : List (List BlockTree)) (c ahead : Configuration) (first scratch : Valuation) (changes : List Changing) (most own total : ℕ)
+    → IsKept p codes start limit code c ahead first scratch changes most own total
     → (who : ℕ) (d : Configuration) (own' total' : ℕ)
     → d.words ≡ c.words → d.codes ≡ c.codes → who ≤ length codes
     → PlacesGo 1 codes c.places d.places c.state (record { who = who; after = d.state })
     → IsPair p.words c.state d.state
     → (who ≡ 0 → Inside (holds p.spec.rely) c.state d.state)
     → own' ≡ own + (if who == 0 then 0 else 1) → own' ≤ limit → total' ≡ own'
-    → IsKept p codes start limit program code d d first scratch (changes ++ change_of who (line_at codes c.places who) c.state d.state ∷ []) most own' total'
-kept_step p codes start limit program code c ahead first scratch changes most own total k who d own' total' words_same codes_same known goes pair rely more within booked =
+    → IsKept p codes start limit code d d first scratch (changes ++ change_of who (line_at codes c.places who) c.state d.state ∷ []) most own' total'
+kept_step p codes start limit code c ahead first scratch changes most own total k who d own' total' words_same codes_same known goes pair rely more within booked =
     let old = rebuilt p 0 start changes in
     let line = line_at codes c.places who in
     let new = entry_of p (length old + 1) who line c.state d.state in
@@ -76,7 +76,6 @@ kept_step p codes start limit program code c ahead first scratch changes most ow
     let steps : steps_of (rebuilt p 0 start (changes ++ change_of who line c.state d.state ∷ [])) ≡ steps_of old ++ step_of new ∷ [] = ap steps_of e ∙ steps_of-push old new in
     let fits : IsRecordAt p codes (length old) c.places c.state new = record { number = refl; before = refl; line = refl; cover = refl } in
     record {
-      program_is = k.program_is;
       code_is = k.code_is;
       words_kept = words_same ∙ k.words_kept;
       codes_are = codes_same ∙ k.codes_are;
@@ -100,12 +99,11 @@ kept_step p codes start limit program code c ahead first scratch changes most ow
     }
 
 -- what is kept says of other room for moves too
-pub kept_scratch : (p : ProgramTree) (codes : List (List BlockTree)) (start : State) (limit : ℕ) (program : ProgramTree) (code : List (List BlockTree)) (c ahead : Configuration) (first scratch scratch' : Valuation) (changes : List Changing) (most own total : ℕ)
-    → IsKept p codes start limit program code c ahead first scratch changes most own total → scratch'.widths ≡ scratch.widths
-    → IsKept p codes start limit program code c ahead first scratch' changes most own total
-kept_scratch p codes start limit program code c ahead first scratch scratch' changes most own total k same =
+pub kept_scratch : (p : ProgramTree) (codes : List (List BlockTree)) (start : State) (limit : ℕ) (code : List (List BlockTree)) (c ahead : Configuration) (first scratch scratch' : Valuation) (changes : List Changing) (most own total : ℕ)
+    → IsKept p codes start limit code c ahead first scratch changes most own total → scratch'.widths ≡ scratch.widths
+    → IsKept p codes start limit code c ahead first scratch' changes most own total
+kept_scratch p codes start limit code c ahead first scratch scratch' changes most own total k same =
     record {
-      program_is = k.program_is;
       code_is = k.code_is;
       words_kept = k.words_kept;
       codes_are = k.codes_are;
@@ -153,7 +151,7 @@ move_made c t true d f g pair =
     (λ i. record { words = m.words i; codes = m.codes i; state = m.state i; places = m.places i })
 move_made c t false d f g pair = absurd (g refl pair)
 
-module _ (p : ProgramTree) (codes : List (List BlockTree)) (start : State) (limit : ℕ) (program : ProgramTree) (code : List (List BlockTree)) (c ahead : Configuration) (first scratch : Valuation) (changes : List Changing) (most own total : ℕ) (k : IsKept p codes start limit program code c ahead first scratch changes most own total) where
+module _ (p : ProgramTree) (codes : List (List BlockTree)) (start : State) (limit : ℕ) (code : List (List BlockTree)) (c ahead : Configuration) (first scratch : Valuation) (changes : List Changing) (most own total : ℕ) (k : IsKept p codes start limit code c ahead first scratch changes most own total) where
   -- the count of records is that of changes
   pub counted : length changes + 1 ≡ length (rebuilt p 0 start changes) + 1
   counted = omega (arith, length-rebuilt p 0 start changes)
@@ -161,16 +159,16 @@ module _ (p : ProgramTree) (codes : List (List BlockTree)) (start : State) (limi
   -- what a floor keeps after the step of a part
   kept_turn_of : (who total' : ℕ) → 0 < who → who ≤ length codes → own + 1 ≤ limit → total' ≡ total + 1
       → (r : Entry) (d ahead' : Configuration) (changes' : List Changing) → StepMakes p c changes who (Ok r) d ahead' changes'
-      → IsKept p codes start limit program code d ahead' first scratch changes' most (own + 1) total'
+      → IsKept p codes start limit code d ahead' first scratch changes' most (own + 1) total'
   kept_turn_of who total' some known within booked r d ahead' changes' m =
       let step : Step = record { who = who; after = d.state } in
       let goes : PlacesGo 1 codes c.places d.places c.state step = subst (λ (cs : List (List BlockTree)). PlacesGo 1 cs c.places d.places c.state step) k.codes_are m.0.goes in
       let pair : IsPair p.words c.state d.state = subst (λ (ws : List _). IsPair ws c.state d.state) k.words_kept m.0.pair in
       let apart : (who == 0) ≡ false = search (rules, some) in
       let one : own + 1 ≡ own + (if who == 0 then 0 else 1) = rw apart in
-      let new = kept_step p codes start limit program code c ahead first scratch changes most own total k who d (own + 1) total' m.0.words m.0.codes known goes pair (λ e. absurd (omega (arith, some, e))) one within (omega (arith, k.booked, booked)) in
+      let new = kept_step p codes start limit code c ahead first scratch changes most own total k who d (own + 1) total' m.0.words m.0.codes known goes pair (λ e. absurd (omega (arith, some, e))) one within (omega (arith, k.booked, booked)) in
       let there : changes' ≡ changes ++ change_of who (line_at codes c.places who) c.state d.state ∷ [] = m.3 ∙ ap (λ cs. changes ++ change_of who (line_at cs c.places who) c.state d.state ∷ []) k.codes_are in
-      let P : Configuration → List Changing → Type 0 = λ x y. IsKept p codes start limit program code d x first scratch y most (own + 1) total' in
+      let P : Configuration → List Changing → Type 0 = λ x y. IsKept p codes start limit code d x first scratch y most (own + 1) total' in
       subst (λ (y : List Changing). P ahead' y) (sym there) (subst (λ (x : Configuration). P x (changes ++ change_of who (line_at codes c.places who) c.state d.state ∷ [])) (sym m.2) new)
 
   -- what contracts see of it
@@ -195,16 +193,16 @@ module _ (p : ProgramTree) (codes : List (List BlockTree)) (start : State) (limi
 
   -- what a floor keeps after a move, and after a refusal
   kept_try_of : (m : Bool) (t : State) (r : Result Entry Refusal) (d ahead' : Configuration) (changes' : List Changing) → MoveMakes p m c changes t r d ahead' changes'
-      → IsKept p codes start limit program code d ahead' first scratch changes' most own total
+      → IsKept p codes start limit code d ahead' first scratch changes' most own total
   kept_try_of m t (Ok r) d ahead' changes' h =
       let e : Configuration = record c { state = t } in
       let pair : IsPair p.words c.state t = subst (λ (ws : List _). IsPair ws c.state t) k.words_kept h.1 in
       let step : Step = record { who = 0; after = t } in
-      let new = kept_step p codes start limit program code c ahead first scratch changes most own total k 0 e own total refl refl (omega arith) (stays 1 codes c.places c.state step (omega arith) refl k.sized) pair (λ z. inside_by_test p.spec.rely c.state t (unrefused m _ _ h.0)) (omega arith) k.within k.booked in
-      let P : Configuration → Configuration → List Changing → Type 0 = λ x y z. IsKept p codes start limit program code x y first scratch z most own total in
+      let new = kept_step p codes start limit code c ahead first scratch changes most own total k 0 e own total refl refl (omega arith) (stays 1 codes c.places c.state step (omega arith) refl k.sized) pair (λ z. inside_by_test p.spec.rely c.state t (unrefused m _ _ h.0)) (omega arith) k.within k.booked in
+      let P : Configuration → Configuration → List Changing → Type 0 = λ x y z. IsKept p codes start limit code x y first scratch z most own total in
       subst (λ (z : List Changing). P d ahead' z) (sym h.5) (subst (λ (y : Configuration). P d y (changes ++ change_of 0 0 c.state t ∷ [])) (sym h.4) (subst (λ (x : Configuration). P x x (changes ++ change_of 0 0 c.state t ∷ [])) (sym h.3) new))
   kept_try_of m t (Err e) d ahead' changes' h =
-      let P : Configuration → Configuration → List Changing → Type 0 = λ x y z. IsKept p codes start limit program code x y first scratch z most own total in
+      let P : Configuration → Configuration → List Changing → Type 0 = λ x y z. IsKept p codes start limit code x y first scratch z most own total in
       subst (λ (z : List Changing). P d ahead' z) (sym h.3) (subst (λ (y : Configuration). P d y changes) (sym (h.2 ∙ sym k.ahead_is)) (subst (λ (x : Configuration). P x ahead changes) (sym h.1) k))
 
   -- what contracts see of it
@@ -258,45 +256,44 @@ module _ (p : ProgramTree) (codes : List (List BlockTree)) (start : State) (limi
       ∙ ap (λ g. case_of codes limit g who) view
 
   -- the same, as the calls say it of the program that is lent
-  step_here : (who : ℕ) (r : Result Entry AllocError) (d ahead' : Configuration) (changes' : List Changing) → StepMakes program c changes who r d ahead' changes' → StepMakes p c changes who r d ahead' changes'
-  step_here who r d ahead' changes' m = subst (λ (q : ProgramTree). StepMakes q c changes who r d ahead' changes') k.program_is m
+  step_here : (program : ProgramTree) → program ≡ p → (who : ℕ) (r : Result Entry AllocError) (d ahead' : Configuration) (changes' : List Changing) → StepMakes program c changes who r d ahead' changes' → StepMakes p c changes who r d ahead' changes'
+  step_here program same who r d ahead' changes' m = subst (λ (q : ProgramTree). StepMakes q c changes who r d ahead' changes') same m
 
-  move_here : (m : Bool) (t : State) (r : Result Entry Refusal) (d ahead' : Configuration) (changes' : List Changing) → MoveMakes program m c changes t r d ahead' changes' → MoveMakes p m c changes t r d ahead' changes'
-  move_here m t r d ahead' changes' h = subst (λ (q : ProgramTree). MoveMakes q m c changes t r d ahead' changes') k.program_is h
+  move_here : (program : ProgramTree) → program ≡ p → (m : Bool) (t : State) (r : Result Entry Refusal) (d ahead' : Configuration) (changes' : List Changing) → MoveMakes program m c changes t r d ahead' changes' → MoveMakes p m c changes t r d ahead' changes'
+  move_here program same m t r d ahead' changes' h = subst (λ (q : ProgramTree). MoveMakes q m c changes t r d ahead' changes') same h
 
-  pub kept_turn : (who total' : ℕ) → 0 < who → who ≤ length codes → own + 1 ≤ limit → total' ≡ total + 1
+  pub kept_turn : (program : ProgramTree) → program ≡ p → (who total' : ℕ) → 0 < who → who ≤ length codes → own + 1 ≤ limit → total' ≡ total + 1
       → (r : Entry) (d ahead' : Configuration) (changes' : List Changing) → StepMakes program c changes who (Ok r) d ahead' changes'
-      → IsKept p codes start limit program code d ahead' first scratch changes' most (own + 1) total'
-  kept_turn who total' some known within booked r d ahead' changes' m =
-      kept_turn_of who total' some known within booked r d ahead' changes' (step_here who (Ok r) d ahead' changes' m)
+      → IsKept p codes start limit code d ahead' first scratch changes' most (own + 1) total'
+  kept_turn program is who total' some known within booked r d ahead' changes' m =
+      kept_turn_of who total' some known within booked r d ahead' changes' (step_here program is who (Ok r) d ahead' changes' m)
 
-  pub goes_turn : (stopped more : Bool) (f : FloorView) → view_of p start c changes stopped more ≡ f
+  pub goes_turn : (program : ProgramTree) → program ≡ p → (stopped more : Bool) (f : FloorView) → view_of p start c changes stopped more ≡ f
       → (who who' had has : ℕ) → who ≡ who' → has ≡ had + 1
       → (r : Entry) (d ahead' : Configuration) (changes' : List Changing) → StepMakes program c changes who (Ok r) d ahead' changes'
       → Goes p codes f who' (Did r) (view_of p start d changes' stopped more) had has
-  goes_turn stopped more f view who who' had has same count r d ahead' changes' m =
-      subst (λ (n : ℕ). Goes p codes f n (Did r) (view_of p start d changes' stopped more) had has) same (goes_turn_of stopped more f view who had has count r d ahead' changes' (step_here who (Ok r) d ahead' changes' m))
+  goes_turn program is stopped more f view who who' had has same count r d ahead' changes' m =
+      subst (λ (n : ℕ). Goes p codes f n (Did r) (view_of p start d changes' stopped more) had has) same (goes_turn_of stopped more f view who had has count r d ahead' changes' (step_here program is who (Ok r) d ahead' changes' m))
 
-  pub kept_try : (m : Bool) (t : State) (r : Result Entry Refusal) (d ahead' : Configuration) (changes' : List Changing) → MoveMakes program m c changes t r d ahead' changes'
-      → IsKept p codes start limit program code d ahead' first scratch changes' most own total
-  kept_try m t r d ahead' changes' h = kept_try_of m t r d ahead' changes' (move_here m t r d ahead' changes' h)
+  pub kept_try : (program : ProgramTree) → program ≡ p → (m : Bool) (t : State) (r : Result Entry Refusal) (d ahead' : Configuration) (changes' : List Changing) → MoveMakes program m c changes t r d ahead' changes'
+      → IsKept p codes start limit code d ahead' first scratch changes' most own total
+  kept_try program is m t r d ahead' changes' h = kept_try_of m t r d ahead' changes' (move_here program is m t r d ahead' changes' h)
 
-  pub gives_try : (stopped more : Bool) (f : FloorView) → view_of p start c changes stopped more ≡ f
+  pub gives_try : (program : ProgramTree) → program ≡ p → (stopped more : Bool) (f : FloorView) → view_of p start c changes stopped more ≡ f
       → (t u : State) → t ≡ u → (r : Result Entry Refusal) (d ahead' : Configuration) (changes' : List Changing) → MoveMakes program more c changes t r d ahead' changes'
       → MoveGives p codes f u r (view_of p start d changes' stopped more)
-  gives_try stopped more f view t u same r d ahead' changes' h =
-      subst (λ (x : State). MoveGives p codes f x r (view_of p start d changes' stopped more)) same (gives_try_of stopped more f view t r d ahead' changes' (move_here more t r d ahead' changes' h))
+  gives_try program is stopped more f view t u same r d ahead' changes' h =
+      subst (λ (x : State). MoveGives p codes f x r (view_of p start d changes' stopped more)) same (gives_try_of stopped more f view t r d ahead' changes' (move_here program is more t r d ahead' changes' h))
 
 -- what a floor keeps before its first step
-pub kept_first : (p : ProgramTree) (codes : List (List BlockTree)) (start : State) (limit : ℕ) (program : ProgramTree) (code : List (List BlockTree)) (c ahead : Configuration) (first scratch : Valuation) (changes : List Changing) (most total : ℕ)
-    → program ≡ p → code ≡ codes → c ≡ record { words = p.words; codes = codes; state = start; places = zeros codes } → ahead ≡ c
+pub kept_first : (p : ProgramTree) (codes : List (List BlockTree)) (start : State) (limit : ℕ) (code : List (List BlockTree)) (c ahead : Configuration) (first scratch : Valuation) (changes : List Changing) (most total : ℕ)
+    → code ≡ codes → c ≡ record { words = p.words; codes = codes; state = start; places = zeros codes } → ahead ≡ c
     → scratch.widths ≡ widths_of p.words → first.widths ≡ widths_of p.words → first.values ≡ start → AreValues first.widths first.values
     → most ≡ limit → most ≤ MOST_RUN_STEPS → ∥ GoTogether p codes ∥₁ → holds_at p.spec.pre start ≡ true → total ≡ 0 → changes ≡ []
-    → IsKept p codes start limit program code c ahead first scratch changes most 0 total
-kept_first p codes start limit program code c ahead first scratch changes most total program_is code_is config ahead_is room widths values state most_is small law pre booked none =
+    → IsKept p codes start limit code c ahead first scratch changes most 0 total
+kept_first p codes start limit code c ahead first scratch changes most total code_is config ahead_is room widths values state most_is small law pre booked none =
     let here : IsState p.words start = subst (λ (s : State). AreValues (widths_of p.words) s) values (subst (λ (ws : List ℕ). AreValues ws first.values) widths state) in
-    let base : IsKept p codes start limit program code c ahead first scratch [] most 0 total = record {
-      program_is = program_is;
+    let base : IsKept p codes start limit code c ahead first scratch [] most 0 total = record {
       code_is = code_is;
       words_kept = ap (λ x. x.words) config;
       codes_are = ap (λ x. x.codes) config;
@@ -318,4 +315,4 @@ kept_first p codes start limit program code c ahead first scratch changes most t
       booked = booked;
       fit = All-nil (λ (x : Changing). All (IsValueOf (widths_of p.words)) x.values);
     } in
-    subst (λ (cs : List Changing). IsKept p codes start limit program code c ahead first scratch cs most 0 total) (sym none) base
+    subst (λ (cs : List Changing). IsKept p codes start limit code c ahead first scratch cs most 0 total) (sym none) base

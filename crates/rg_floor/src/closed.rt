@@ -1,6 +1,6 @@
 //! What is left of a run.
 
-ghost use Rattle.std.specs.Prelude.{◌≡◌, ◌↔◌, ◌+◌, ◌≤◌, All, IsTrue, IfOk, length};
+ghost use Rattle.std.specs.Prelude.{◌≡◌, ◌↔◌, ◌+◌, ◌-◌, ◌≤◌, All, IsTrue, IfOk, length, drop};
 ghost use Rattle.rg_words.specs.Layout.{widths_of};
 ghost use Rattle.rg_tree.specs.Moves.{given, IsValueOf};
 ghost use Rattle.rg_tree.specs.Programs.{nth};
@@ -113,6 +113,16 @@ impl<'e> Closed<'e> {
         record_at(alloc, self.program, &self.start, &self.changes, number)
     }
 
+    /// The records from this number on, in order; all of them for 0 and 1. They are made again from the changes, in one pass.
+    ///
+    /// An error comes only where memory was refused.
+    pub fn records_from(&self, alloc: Global, number: usize) -> Result<Vec<Record>, AllocError>
+        ensures { IfOk result (λ r. r.items ≡ drop (number - 1) self.now.history) }
+    {
+        let count = number.saturating_sub(1);
+        records_behind(alloc, self.program, &self.start, &self.changes, count)
+    }
+
     /// What each step changed, in order.
     pub fn changes(&self) -> &[Change]
         ensures { result.now ≡ self.now.changes }
@@ -172,6 +182,58 @@ fn record_at(
         after,
     )?;
     Ok(Some(record))
+}
+
+/// The records behind so many, made from changes.
+fn records_behind(
+    alloc: Global,
+    program: &Program,
+    start: &State,
+    changes: &[Change],
+    count: usize,
+) -> Result<Vec<Record>, AllocError>
+    requires start { start.now.widths ≡ widths_of program.now.layout }
+    requires changes { AreChangesOf (widths_of program.now.layout) changes.now }
+    ensures { IfOk result (λ r. r.items ≡ drop count (rebuilt (program_tree program.now) 0 start.now.values changes.now)) }
+{
+    if count >= changes.len() {
+        return Ok(Vec::new(alloc));
+    }
+    let before = state_after(start, &changes[..count])?;
+    records_on(alloc, program, &before, changes, count)
+}
+
+/// The records of the changes behind so many, from the state there.
+fn records_on(
+    alloc: Global,
+    program: &Program,
+    from: &State,
+    changes: &[Change],
+    count: usize,
+) -> Result<Vec<Record>, AllocError>
+    requires from { from.now.widths ≡ widths_of program.now.layout }
+    requires changes { AreChangesOf (widths_of program.now.layout) changes.now }
+    ensures { IfOk result (λ r. r.items ≡ rebuilt (program_tree program.now) count from.now.values (drop count changes.now)) }
+{
+    let mut before = from.copy()?;
+    let mut after = from.copy()?;
+    let mut records = Vec::new(alloc);
+    for i in count..changes.len() {
+        let change = &changes[i];
+        give(change.values(), &mut after);
+        let record = Record::of(
+            alloc,
+            program,
+            i as u64 + 1,
+            change.who(),
+            change.line(),
+            &before,
+            &after,
+        )?;
+        records.push(record)?;
+        give(change.values(), &mut before);
+    }
+    Ok(records)
 }
 
 /// The state after a change.

@@ -35,11 +35,11 @@ use std::sync::ledger::{Blank, Book, Ledger};
 
 /// The machine of one run with the history of its steps, which is legal at each moment: see `legal`.
 ///
-/// The program and its code are lent. The history is kept as the state at the start and what each step changed.
+/// The code is lent. The program is lent to each call that reads it, since a type that holds one can't cross a thread in other crates. The
+/// history is kept as the state at the start and what each step changed.
 #[derive(Drop)]
 pub struct Floor<'e, L: Round> {
     alloc: Global,
-    program: &'e Program,
     code: &'e Code,
     config: Config<'e>,
     // Equal to the first between calls: it makes a step before that is known to be kept.
@@ -56,7 +56,6 @@ pub struct Floor<'e, L: Round> {
 }
 
 impl<'e, L: Round> Model for Floor<'e, L> {
-    ghost use Rattle.rg_tree.specs.ProgramTrees.{program as program_tree};
     ghost use Rattle.rg_code.specs.CodeTrees.{code_blocks};
     ghost use Rattle.rg_floor.specs.History.{FloorView};
     ghost use Rattle.rg_floor.specs.Inner.Kept.{IsKept, view_of};
@@ -65,7 +64,7 @@ impl<'e, L: Round> Model for Floor<'e, L> {
 
     ghost view = { λ f. view_of L.program L.start f.config f.changes.items f.stopped f.more };
 
-    ghost invariant = { λ f. IsKept L.program L.code L.start L.limit (program_tree f.program.now) (code_blocks f.code.now) f.config f.ahead f.start f.scratch f.changes.items f.limit f.own f.book.total };
+    ghost invariant = { λ f. IsKept L.program L.code L.start L.limit (code_blocks f.code.now) f.config f.ahead f.start f.scratch f.changes.items f.limit f.own f.book.total };
 }
 
 impl<'e, L: Round> Floor<'e, L> {
@@ -105,7 +104,7 @@ impl<'e, L: Round> Floor<'e, L> {
     /// A floor that may be opened, with its seats.
     fn begin(
         alloc: Global,
-        program: &'e Program,
+        program: &Program,
         code: &'e Code,
         start: State,
         limit: u64,
@@ -127,27 +126,19 @@ impl<'e, L: Round> Floor<'e, L> {
         let (config, ahead, scratch) = standing(alloc, program, code, &start)?;
         let (book, share) = blank.open::<L>();
         let seats = seats(alloc, code.parts.len(), share)?;
-        let floor = Floor::fresh(
-            alloc,
-            (program, code),
-            (config, ahead),
-            (scratch, start),
-            limit,
-            book,
-        );
+        let floor = Floor::fresh(alloc, code, (config, ahead), (scratch, start), limit, book);
         Ok((floor, seats))
     }
 
     fn fresh(
         alloc: Global,
-        checked: (&'e Program, &'e Code),
+        code: &'e Code,
         configs: (Config<'e>, Config<'e>),
         states: (State, State),
         limit: u64,
         book: Book<L>,
     ) -> Floor<'e, L>
-        requires program { program_tree checked.0.now ≡ L.program }
-        requires code { code_blocks checked.1.now ≡ L.code }
+        requires code { code_blocks code.now ≡ L.code }
         requires config { configs.0 ≡ record { words = L.program.words; codes = L.code; state = L.start; places = zeros L.code } }
         requires ahead { configs.1 ≡ configs.0 }
         requires scratch { states.0.widths ≡ widths_of L.program.words }
@@ -159,13 +150,11 @@ impl<'e, L: Round> Floor<'e, L> {
         requires book { book.total ≡ 0 }
         ensures { result ≡ opened L.code L.start }
     {
-        let (program, code) = checked;
         let (config, ahead) = configs;
         let (scratch, start) = states;
         start.facts();
         Floor {
             alloc,
-            program,
             code,
             config,
             ahead,
@@ -243,7 +232,8 @@ impl<'e, L: Round> Floor<'e, L> {
     /// record of the part's step. All but `Did` change nothing.
     ///
     /// An error comes only where a step is to be made and memory was refused, and changes nothing.
-    pub fn turn(&mut self, seat: &mut Seat<L>) -> Result<Turn, AllocError>
+    pub fn turn(&mut self, program: &Program, seat: &mut Seat<L>) -> Result<Turn, AllocError>
+        requires { program_tree program.now ≡ L.program }
         ensures turn { TurnGives L.program L.code L.limit self.old seat.old.part result self.new seat.old.steps seat.new.steps }
         ensures part { seat.new.part ≡ seat.old.part }
     {
@@ -252,15 +242,16 @@ impl<'e, L: Round> Floor<'e, L> {
             Case::AtEnd => Ok(Turn::Ended),
             Case::Waits => Ok(Turn::Blocked),
             Case::Steps => {
-                let record = self.advance(seat)?;
+                let record = self.advance(program, seat)?;
                 Ok(Turn::Did(record))
             }
         }
     }
 
     /// Makes the step of the seat's part.
-    fn advance(&mut self, seat: &mut Seat<L>) -> Result<Record, AllocError>
-        requires { case_of L.code L.limit self.old seat.old.part ≡ Case.Steps }
+    fn advance(&mut self, program: &Program, seat: &mut Seat<L>) -> Result<Record, AllocError>
+        requires program { program_tree program.now ≡ L.program }
+        requires case { case_of L.code L.limit self.old seat.old.part ≡ Case.Steps }
         ensures goes { IfOk result (λ r. Goes L.program L.code self.old seat.old.part (Turn.Did r) self.new seat.old.steps seat.new.steps) }
         ensures err { OnErr result ((self.new ≡ self.old) × (seat.new.steps ≡ seat.old.steps)) }
         ensures part { seat.new.part ≡ seat.old.part }
@@ -268,7 +259,7 @@ impl<'e, L: Round> Floor<'e, L> {
         let part = seat.part();
         let record = make_step(
             self.alloc,
-            self.program,
+            program,
             &mut self.config,
             &mut self.ahead,
             &mut self.changes,
@@ -283,13 +274,14 @@ impl<'e, L: Round> Floor<'e, L> {
     ///
     /// Refused, and then nothing changes: `MovesEnded` after `no_more_moves`, else `FixedMoved` where a fixed word changes, else
     /// `OutsideRely` where the move isn't inside the rely; `Memory` where memory was refused.
-    pub fn environment(&mut self, state: State) -> Result<Record, Refusal>
-        requires { state.widths ≡ widths_of L.program.words }
+    pub fn environment(&mut self, program: &Program, state: State) -> Result<Record, Refusal>
+        requires program { program_tree program.now ≡ L.program }
+        requires state { state.widths ≡ widths_of L.program.words }
         ensures { MoveGives L.program L.code self.old state.values result self.new }
     {
         try_move(
             self.alloc,
-            self.program,
+            program,
             self.more,
             &mut self.config,
             &mut self.ahead,
@@ -299,15 +291,16 @@ impl<'e, L: Round> Floor<'e, L> {
     }
 
     /// A move that gives these words these values, and keeps the others. Refused as `environment` is.
-    pub fn make(&mut self, values: &[WordValue]) -> Result<Record, Refusal>
-        requires { All (IsValueOf (widths_of L.program.words)) values.now }
+    pub fn make(&mut self, program: &Program, values: &[WordValue]) -> Result<Record, Refusal>
+        requires program { program_tree program.now ≡ L.program }
+        requires values { All (IsValueOf (widths_of L.program.words)) values.now }
         ensures { MoveGives L.program L.code self.old (given values.now self.old.words) result self.new }
     {
         replace(&mut self.scratch, self.config.words());
         give(values, &mut self.scratch);
         try_move(
             self.alloc,
-            self.program,
+            program,
             self.more,
             &mut self.config,
             &mut self.ahead,
@@ -330,13 +323,6 @@ impl<'e, L: Round> Floor<'e, L> {
         ensures same { self.new ≡ self.old }
     {
         self.stopped || self.own == self.limit || !any_can_go(&mut self.config)
-    }
-
-    /// The program that the run is of.
-    pub fn program(&self) -> &'e Program
-        ensures { program_tree result.now ≡ L.program }
-    {
-        self.program
     }
 
     /// The code that the run is of.
@@ -395,10 +381,12 @@ impl<'e, L: Round> Floor<'e, L> {
     pub fn close(
         mut self,
         alloc: Global,
+        program: &'e Program,
         seats: Vec<Seat<L>>,
         printed: &[Record],
     ) -> Result<Closed<'e>, Refusal>
-        requires { (vec_len seats ≡ L.parts) × (0 < L.parts) }
+        requires program { program_tree program.now ≡ L.program }
+        requires seats { (vec_len seats ≡ L.parts) × (0 < L.parts) }
         ensures closed { CloseGives (why_of L.code L.limit self.entry) self.entry.changes self.entry.history printed.now result }
         ensures legal { IsLegal L.program L.code L.start L.limit self.entry }
         ensures counted { sum_by (λ s. s.steps) seats.items ≡ own_steps self.entry.history }
@@ -410,7 +398,6 @@ impl<'e, L: Round> Floor<'e, L> {
         }
         let Floor {
             alloc: _,
-            program,
             code: _,
             config: _,
             ahead: _,

@@ -17,9 +17,8 @@ use Rattle.rg_floor.specs.History.{FloorView, GoTogether, RecordsLead, steps_of,
 use Rattle.rg_floor.specs.Ready.{line_at}
 use Rattle.rg_floor.specs.Turns.{move_fault, IsErrorOf}
 
--- the fields are those of this program, code, start and limit, and the changes are those of a legal history
-pub record IsKept (p : ProgramTree) (codes : List (List BlockTree)) (start : State) (limit : ℕ) (program : ProgramTree) (code : List (List BlockTree)) (c ahead : Configuration) (first scratch : Valuation) (changes : List Changing) (most own total : ℕ) : Type 0 where
-  pub program_is : program ≡ p
+-- the fields are those of this code, start and limit, and the changes are those of a legal history
+pub record IsKept (p : ProgramTree) (codes : List (List BlockTree)) (start : State) (limit : ℕ) (code : List (List BlockTree)) (c ahead : Configuration) (first scratch : Valuation) (changes : List Changing) (most own total : ℕ) : Type 0 where
   pub code_is : code ≡ codes
   pub words_kept : c.words ≡ p.words
   pub codes_are : c.codes ≡ codes

@@ -19,4 +19,4 @@ returns-then-can_go-clause-case g c =
     let can : can_go (block_at x.codes x.places who) x.state ≡ true = sym c.can_go.ensures.can ∙ c.if-can_go.true in
     let known : who ≤ length x.codes = omega (arith, c.requires.1, ap length inv.codes_are) in
     let any : any_can_go x.codes x.places x.state ≡ true = some_can x.codes x.places x.state who c.requires.0 known (inv.sized ∙ sym (ap length inv.codes_are)) can in
-    case_at _ _ _ _ _ _ _ _ _ _ _ _ _ _ inv old.stopped old.more c.args.self.now c.self.view_is who Steps (rw (stopped, all, left, there, any, can))
+    case_at _ _ _ _ _ _ _ _ _ _ _ _ _ inv old.stopped old.more c.args.self.now c.self.view_is who Steps (rw (stopped, all, left, there, any, can))

@@ -1,0 +1,4 @@
+mod EachMove
+mod Opening
+mod Printed
+mod Walking

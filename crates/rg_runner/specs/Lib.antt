@@ -1,0 +1,4 @@
+pub mod Moves
+pub mod Faults
+pub mod Running
+pub mod Inner
