@@ -8,7 +8,7 @@ use rg_tree::part::Part;
 use rg_tree::program::Program;
 use std::alloc::AllocError;
 
-/// The most steps that are drawn: of a longer run, the last ones.
+/// The most steps that a picture should have, so that a browser shows it at once: of a longer run, draw the last ones.
 pub const MOST_DRAWN: usize = 1000;
 
 /// The colours of the parts' marks, as classes of the style; they begin again after the last.
@@ -36,23 +36,27 @@ Its mark stands in the lane of who made it, and holds the line of the statement.
 A ring stands in the lane of each part whose guarantee covers the step.</text>
 ";
 
-/// Draws the records of a run of this program, as an SVG document, behind what the text already holds.
+/// Draws the records of a run of this program, as an SVG document, behind what the text already holds. They are those behind the
+/// first `left_out` of the run, which aren't drawn: a note says so.
 ///
 /// There is a lane for the environment and one for each part, in their order from left to right. Each step has a row, in the
 /// order of the records from top to bottom: a mark in the lane of who made it, with the line of the statement, from 1, or `env`;
 /// a ring in each lane whose part's guarantee covers it; and a label with the words that changed, as `name=before>after`.
-/// Of more than `MOST_DRAWN` records the last are drawn, with a note. The text is ASCII. Lengths are in CSS pixels.
+/// The text is ASCII. Lengths are in CSS pixels.
 ///
 /// Nothing is promised of the picture. An error comes only where memory was refused; the text is then of no use.
-pub fn draw(text: &mut Vec<u8>, program: &Program, records: &[Record]) -> Result<(), AllocError> {
-    let left_out = records.len().saturating_sub(MOST_DRAWN);
-    let drawn = &records[left_out..];
-    let frame = frame_of(program, drawn);
+pub fn draw(
+    text: &mut Vec<u8>,
+    program: &Program,
+    left_out: u64,
+    records: &[Record],
+) -> Result<(), AllocError> {
+    let frame = frame_of(program, records);
     push_start(text, frame)?;
-    push_head(text, records.len() as u64, left_out as u64)?;
+    push_head(text, left_out, records.len() as u64)?;
     push_lane(text, frame, 0, "env")?;
     push_lanes(text, frame, &program.parts)?;
-    push_rows(text, frame, program, drawn)?;
+    push_rows(text, frame, program, records)?;
     text.extend_from_slice(b"</svg>\n")?;
     Ok(())
 }
@@ -96,18 +100,18 @@ fn push_start(text: &mut Vec<u8>, frame: Frame) -> Result<(), AllocError> {
 }
 
 /// Adds what stands above the lanes: the title, how to read the picture, and how many steps are left out.
-fn push_head(text: &mut Vec<u8>, count: u64, left_out: u64) -> Result<(), AllocError> {
+fn push_head(text: &mut Vec<u8>, left_out: u64, drawn: u64) -> Result<(), AllocError> {
     text.extend_from_slice(STYLE.as_bytes())?;
     push_around(
         text,
         b"<text class=\"h\" x=\"24\" y=\"34\">Steps of the run: ",
-        count,
+        left_out.saturating_add(drawn),
         b"</text>\n",
     )?;
     text.extend_from_slice(LEGEND.as_bytes())?;
     if left_out > 0 {
         text.extend_from_slice(b"<text class=\"e\" x=\"24\" y=\"94\">Only the last ")?;
-        push_around(text, b"", MOST_DRAWN as u64, b" steps are drawn: ")?;
+        push_around(text, b"", drawn, b" steps are drawn: ")?;
         push_around(text, b"the first ", left_out, b" are left out.</text>\n")?;
     }
     Ok(())

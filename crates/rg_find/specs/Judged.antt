@@ -1,6 +1,6 @@
 -- What a search may say of a condition.
-use Rattle.std.specs.Prelude.{◌≡◌, ◌⊎◌, ℕ, ◌<◌, false, List, length, Option}
-use Rattle.rg_words.specs.declared.limits.TheConstants.{MOST_VARIABLES, MOST_DECISIONS}
+use Rattle.std.specs.Prelude.{◌≡◌, ◌⊎◌, ℕ, ◌≤◌, ◌<◌, false, List, length, Option}
+use Rattle.rg_words.specs.declared.limits.TheConstants.{MOST_VARIABLES, MOST_DECISIONS, MOST_PROOF_BYTES}
 use Rattle.rg_words.specs.declared.refusal.Refusal.{Refusal}
 use Rattle.rg_words.specs.declared.refusal.RefusalNumber.TheVariants.{Limit}
 use Rattle.rg_words.specs.declared.refusal.SourceFile.{SourceFile}
@@ -10,9 +10,10 @@ use Rattle.rg_words.specs.States.{Valuation, IsPair}
 use Rattle.rg_tree.specs.ConditionTrees.{ConditionTree, condition_holds, ConditionHolds}
 use Rattle.rg_bits.specs.Inputs.{state_of, own_second}
 use Rattle.rg_clauses.specs.Conditions.{clauses_of_condition}
+use Rattle.rg_hints.specs.Normal.{section_text}
 use Rattle.rg_hints.specs.Verdict.{IsClosed}
 use Rattle.rg_find.specs.declared.judgement.Judged.{Judged}
-use Rattle.rg_find.specs.declared.judgement.Judged.TheVariants.{Holds, Fails, GaveUp}
+use Rattle.rg_find.specs.declared.judgement.Judged.TheVariants.{Holds, Fails, GaveUp, TooLarge}
 
 -- the condition fails at two states that agree on the fixed words: this one, and a second one that is this where the condition speaks of any two
 pub record FailsAt (c : ConditionTree) (first : Valuation) (second : Option Valuation) : Type 0 where
@@ -28,6 +29,14 @@ abbrev pub IsJudged : ConditionTree → Judged → Type 0
 IsJudged c (Holds lines) = (lines.given ≡ length (clauses_of_condition c).clauses) × IsClosed (clauses_of_condition c).clauses lines × ConditionHolds c
 IsJudged c (Fails first second) = FailsAt c first second
 IsJudged c GaveUp = Unit {0}
+IsJudged c TooLarge = Unit {0}
+
+-- lines that are given have a text that is no longer than a proofs file may be
+abbrev pub JudgedFits : Judged → Type 0
+JudgedFits (Holds lines) = length (section_text lines) ≤ MOST_PROOF_BYTES
+JudgedFits (Fails first second) = Unit {0}
+JudgedFits GaveUp = Unit {0}
+JudgedFits TooLarge = Unit {0}
 
 -- why nothing is said of it: for want of memory, for its variables, and for the decisions
 abbrev pub IsJudgeRefusal : ConditionTree → SourceFile → ℕ → ℕ → Refusal → Type 0

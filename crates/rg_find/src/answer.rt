@@ -1,19 +1,20 @@
 //! The answer: lines that are checked, or values that are evaluated.
 
-ghost use Rattle.std.specs.Prelude.{◌≡◌, All, IfOk, IfErr, IsTrue, false, slice_index_or};
+ghost use Rattle.std.specs.Prelude.{◌≡◌, ◌≤◌, All, IfOk, IfErr, IsTrue, false, length, slice_index_or};
 ghost use Rattle.rg_find.specs.Inner.Searched.{IsOver};
 ghost use Rattle.rg_words.specs.Refusals.{no_memory, IsRefusedFor};
-ghost use Rattle.rg_words.specs.declared.limits.TheConstants.{MOST_VARIABLES};
+ghost use Rattle.rg_words.specs.declared.limits.TheConstants.{MOST_VARIABLES, MOST_PROOF_BYTES};
 ghost use Rattle.rg_clauses.specs.ClauseLists.{IsLiteral, Satisfies, SatisfiesClause, literal_value, value_at};
-ghost use Rattle.rg_find.specs.Found.{IsFound, fault_of};
+ghost use Rattle.rg_hints.specs.Normal.{section_text};
+ghost use Rattle.rg_find.specs.Found.{IsFound, FoundFits, fault_of};
 
 use crate::logged_lines::lines_of;
 use rg_clauses::Clauses;
 use rg_hints::{Lines, check};
-use rg_search::{Answer, Given, Unwatched, Watcher, solve};
-use rg_words::limits::MOST_DECISIONS;
+use rg_search::{Answer, Given, Refutation, Unwatched, Watcher, solve};
+use rg_words::limits::{MOST_DECISIONS, MOST_PROOF_BYTES};
 use rg_words::{Refusal, RefusalNumber};
-use std::alloc::{AllocError, Global};
+use std::alloc::Global;
 
 /// What a search found.
 #[derive(Drop)]
@@ -22,8 +23,36 @@ pub enum Found {
     Lines(Lines),
     /// A value for each variable; the first is of the variable 1.
     Values(Vec<bool>),
-    /// The steps were used up, or the lines became too many.
+    /// The steps were used up, or there are more variables than the search takes.
     GaveUp,
+    /// Lines were found, and their text is longer than a proofs file may be; or the search ended as what it had learned was too much
+    /// for one.
+    TooLarge,
+}
+
+/// Whether the text of lines fits into a proofs file.
+fn fits(alloc: Global, lines: &Lines) -> Result<bool, Refusal>
+    ensures fits { IfOk result (λ b. IsTrue b → length (section_text lines.now) ≤ MOST_PROOF_BYTES) }
+    ensures refusal { IfErr result (λ r. r ≡ no_memory) }
+{
+    let text = lines.text(alloc)?;
+    Ok(text.len() <= MOST_PROOF_BYTES)
+}
+
+/// The lines of a refutation, where they fit into a proofs file.
+fn lines_found(alloc: Global, clauses: &Clauses, refutation: &Refutation) -> Result<Found, Refusal>
+    ensures over { IfOk result (IsOver clauses.now) }
+    ensures fits { IfOk result FoundFits }
+    ensures refusal { IfErr result (λ r. r ≡ no_memory) }
+{
+    let Some(lines) = lines_of(alloc, clauses.len(), refutation)? else {
+        return Ok(Found::GaveUp);
+    };
+    if fits(alloc, &lines)? {
+        Ok(Found::Lines(lines))
+    } else {
+        Ok(Found::TooLarge)
+    }
 }
 
 /// What the search finds, of which nothing is promised.
@@ -32,8 +61,10 @@ fn searched<W: Watcher>(
     clauses: &Clauses,
     steps: u64,
     watcher: &mut W,
-) -> Result<Found, AllocError>
-    ensures { IfOk result (IsOver clauses.now) }
+) -> Result<Found, Refusal>
+    ensures over { IfOk result (IsOver clauses.now) }
+    ensures fits { IfOk result FoundFits }
+    ensures refusal { IfErr result (λ r. r ≡ no_memory) }
 {
     let (literals, starts) = clauses.flat();
     let given = Given {
@@ -43,12 +74,10 @@ fn searched<W: Watcher>(
         starts,
     };
     match solve(alloc, given, steps, watcher)? {
-        Answer::Refuted(refutation) => match lines_of(alloc, clauses.len(), &refutation)? {
-            Some(lines) => Ok(Found::Lines(lines)),
-            None => Ok(Found::GaveUp),
-        },
+        Answer::Refuted(refutation) => lines_found(alloc, clauses, &refutation),
         Answer::Satisfied(values) => Ok(Found::Values(values)),
         Answer::GaveUp => Ok(Found::GaveUp),
+        Answer::TooLong => Ok(Found::TooLarge),
     }
 }
 
@@ -95,8 +124,10 @@ fn satisfies(clauses: &Clauses, values: &[bool]) -> bool
 
 /// What was found, where it stands the test.
 fn confirmed(alloc: Global, clauses: &Clauses, found: Found) -> Result<Found, Refusal>
-    requires { IsOver clauses.now found }
+    requires over { IsOver clauses.now found }
+    requires fits { FoundFits found }
     ensures found { IfOk result (IsFound clauses.now) }
+    ensures fits { IfOk result FoundFits }
     ensures refusal { IfErr result (λ r. r ≡ no_memory) }
 {
     match found {
@@ -116,14 +147,15 @@ fn confirmed(alloc: Global, clauses: &Clauses, found: Found) -> Result<Found, Re
             }
         }
         Found::GaveUp => Ok(Found::GaveUp),
+        Found::TooLarge => Ok(Found::TooLarge),
     }
 }
 
 /// Looks for lines that close the clauses or for values that satisfy them, with at most so many decisions on inputs.
 ///
 /// The steps bound all other work too, by constants: the conflicts, and the values that are followed to show what is equal. With
-/// none only unit clauses are followed. `GaveUp` comes where all of that is used up, or where the lines could no longer fit into
-/// a proofs file.
+/// none only unit clauses are followed. `GaveUp` comes where all of that is used up, or where there are more variables than the
+/// search takes; `TooLarge` where lines were found that don't fit into a proofs file, or where what was learned is too much for one.
 ///
 /// # Errors
 ///
@@ -131,6 +163,9 @@ fn confirmed(alloc: Global, clauses: &Clauses, found: Found) -> Result<Found, Re
 pub fn find(alloc: Global, clauses: &Clauses, steps: u64) -> Result<Found, Refusal>
     // Lines are closed, so that no values satisfy the clauses; values satisfy them.
     ensures found { IfOk result (IsFound clauses.now) }
+
+    // Lines fit into a proofs file.
+    ensures fits { IfOk result FoundFits }
 
     // Too many decisions are refused, and nothing else is but for want of memory.
     ensures refusal { IsRefusedFor (fault_of steps) result }
@@ -151,6 +186,9 @@ pub fn find_watched<W: Watcher>(
 ) -> Result<Found, Refusal>
     // Lines are closed, so that no values satisfy the clauses; values satisfy them.
     ensures found { IfOk result (IsFound clauses.now) }
+
+    // Lines fit into a proofs file.
+    ensures fits { IfOk result FoundFits }
 
     // Too many decisions are refused, and nothing else is but for want of memory.
     ensures refusal { IsRefusedFor (fault_of steps) result }

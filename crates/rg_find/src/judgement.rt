@@ -5,7 +5,7 @@ ghost use Rattle.rg_words.specs.declared.limits.TheConstants.{MOST_VARIABLES};
 ghost use Rattle.rg_words.specs.declared.refusal.Place.TheVariants.{Condition as the_condition};
 ghost use Rattle.rg_tree.specs.Conditions.{condition_tree};
 ghost use Rattle.rg_clauses.specs.Conditions.{clauses_of_condition};
-ghost use Rattle.rg_find.specs.Judged.{IsJudged, IsJudgeRefusal};
+ghost use Rattle.rg_find.specs.Judged.{IsJudged, JudgedFits, IsJudgeRefusal};
 
 use crate::answer::{Found, find_watched};
 use rg_bits::states;
@@ -23,8 +23,11 @@ pub enum Judged {
     Holds(Lines),
     /// It fails at this state, and at the second one where it speaks of any two.
     Fails(State, Option<State>),
-    /// The steps were used up, or the lines became too many.
+    /// The steps were used up, or there are more variables than the search takes.
     GaveUp,
+    /// Lines that close its clauses were found, and their text is longer than a proofs file may be; or the search ended as what it had
+    /// learned was too much for one.
+    TooLarge,
 }
 
 /// Looks for lines that prove a condition or for states at which it fails, as `find` does on its clauses. The file and the
@@ -44,6 +47,9 @@ pub fn judge<W: Watcher>(
 ) -> Result<Judged, Refusal>
     // Lines are closed for its clauses, and it is true; or it fails at the states.
     ensures judged { IfOk result (IsJudged (condition_tree condition.now)) }
+
+    // Lines fit into a proofs file.
+    ensures fits { IfOk result JudgedFits }
     ensures within { IfOk result (λ _. (clauses_of_condition (condition_tree condition.now)).variables ≤ MOST_VARIABLES) }
     ensures refusal { IfErr result (IsJudgeRefusal (condition_tree condition.now) file number steps) }
 {
@@ -63,5 +69,6 @@ pub fn judge<W: Watcher>(
             Ok(Judged::Fails(first, second))
         }
         Found::GaveUp => Ok(Judged::GaveUp),
+        Found::TooLarge => Ok(Judged::TooLarge),
     }
 }

@@ -16,6 +16,7 @@ enum Kind {
     Lines,
     Values,
     GaveUp,
+    TooLarge,
     Refused,
 }
 
@@ -24,6 +25,7 @@ fn found_kind(alloc: Global, clauses: &Clauses, steps: u64) -> Kind {
         Ok(Found::Lines(_)) => Kind::Lines,
         Ok(Found::Values(_)) => Kind::Values,
         Ok(Found::GaveUp) => Kind::GaveUp,
+        Ok(Found::TooLarge) => Kind::TooLarge,
         Err(_) => Kind::Refused,
     }
 }

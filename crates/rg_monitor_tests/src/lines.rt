@@ -69,18 +69,18 @@ fn records_differ_in_each_of_their_sides(rt: HostRuntime) -> Result<(), Fail> {
     Ok(())
 }
 
-/// The picture of one step.
-fn picture(alloc: Global, read: &Program, step: Step) -> Result<Vec<u8>, Refusal> {
+/// The picture of one step, behind so many that are left out.
+fn picture(alloc: Global, read: &Program, left_out: u64, step: Step) -> Result<Vec<u8>, Refusal> {
     let made = record_of(alloc, read, step)?;
     let mut text = Vec::new(alloc);
-    draw(&mut text, read, slice::from_ref(&made))?;
+    draw(&mut text, read, left_out, slice::from_ref(&made))?;
     Ok(text)
 }
 
 #[test]
 fn a_picture_is_whole(rt: HostRuntime) -> Result<(), Fail> {
     let read = program(rt.alloc(), TEXT.as_bytes())?;
-    let text = picture(rt.alloc(), &read, (1, 1, 8, "", "x = 1"))?;
+    let text = picture(rt.alloc(), &read, 0, (1, 1, 8, "", "x = 1"))?;
     assert!(rt; text.starts_with(b"<svg xmlns=\"http://www.w3.org/2000/svg\""));
     assert!(rt; text.ends_with(b"in the guarantee of a</text>\n</svg>\n"));
     Ok(())

@@ -13,7 +13,7 @@ ghost use Rattle.rg_runner.specs.Running.{IsLeftOf, IsRunOf};
 
 use crate::gate::Gate;
 use crate::log::print_all;
-use crate::table::{Table, stop};
+use crate::table::{Table, has_begun, stop};
 use crate::threads::{Played, play_once};
 use crate::walk::moves_stand;
 use crossbeam_channel::Receiver;
@@ -46,6 +46,10 @@ fn print_or_stop<L: Round, W: Out, R: Wait>(
     ensures failures { W.failures writer.new ≡ W.failures writer.old + failures_in result }
     ensures faults { IfErr result IsRunFault }
 {
+    if !has_begun(rt, table) {
+        stop(rt, table);
+        return Err(Refusal::new(RefusalNumber::Memory));
+    }
     let printed = print_all(rt, alloc, program, from, writer);
     if printed.is_err() {
         stop(rt, table);
@@ -151,9 +155,14 @@ pub fn run<'e, L: Round + Send + Sync, G: Gate + Sync, W: Out, R: Threads + Wait
     let table = Table {
         floor: Mutex::new(floor),
         changed: Condvar::new(),
+        begun: Mutex::new(false),
     };
     let (played, printed) = play_and_print(rt, alloc, program, &table, gate, moves, seats, writer)?;
-    let Table { floor, changed: _ } = table;
+    let Table {
+        floor,
+        changed: _,
+        begun: _,
+    } = table;
     finish(
         alloc,
         program,

@@ -5,7 +5,7 @@ ghost use Rattle.rg_tree.specs.Moves.{move as move_tree, AreMoves};
 ghost use Rattle.rg_tree.specs.ProgramTrees.{program as program_tree};
 
 use crate::gate::Gate;
-use crate::table::{Left, Moved, Table, make_moves, stop, work};
+use crate::table::{Left, Moved, Table, begin, make_moves, stop, work};
 use crossbeam_channel::Sender;
 use rg_floor::closed::Passed;
 use rg_floor::round::Round;
@@ -157,6 +157,7 @@ pub(crate) fn play_once<L: Round + Send + Sync, G: Gate + Sync, R: Threads + Wai
     requires moves { AreMoves L.program.words (map move_tree moves.now) }
     ensures { IfOk result (λ p. vec_len p.seats ≡ vec_len seats.old) }
 {
+    begin(rt, table);
     let Some(to) = to.take() else {
         return Err(AllocError);
     };

@@ -17,6 +17,9 @@ use rg_solver::table::{add, at, fill};
 use rg_solver::watcher::Watcher;
 use std::alloc::{AllocError, Global};
 
+/// The most variables of a search: it takes about 500 bytes for each.
+const MOST_SEARCHED: u32 = 500_000;
+
 /// The most values that are followed to close the classes, for each decision that is allowed and in all.
 const CLOSING: (u64, u64) = (100, 100_000_000);
 
@@ -48,8 +51,10 @@ pub enum Answer {
     Refuted(Refutation),
     /// A value for each variable; the first is of the variable 1.
     Satisfied(Vec<bool>),
-    /// The steps were used up, or the log became too long.
+    /// The steps were used up, or there are more variables than the search takes.
     GaveUp,
+    /// The log became too long for a proofs file.
+    TooLong,
 }
 
 /// A value for each variable: plain values of the inputs, and those of the gates that follow from them.
@@ -227,6 +232,7 @@ fn answer_of(solver: &mut Solver, given: Given<'_>, circuit: &Circuit, outcome: 
             Answer::Refuted(refutation_of(alloc, given, &solver.log, lacks_memory))
         }
         Outcome::Assigned => Answer::Satisfied(values_of(circuit, solver)),
+        Outcome::GaveUp if solver.log.is_full() => Answer::TooLong,
         Outcome::GaveUp => Answer::GaveUp,
     }
 }
@@ -258,6 +264,9 @@ pub fn solve<W: Watcher>(
 ) -> Result<Answer, AllocError> {
     if given.has_empty() {
         return Ok(Answer::Refuted(Refutation::new(alloc)));
+    }
+    if given.variables > MOST_SEARCHED {
+        return Ok(Answer::GaveUp);
     }
     let number = u32::try_from(given.len()).unwrap_or(u32::MAX);
     let mut solver = Solver::new(alloc, given.inputs as usize, number);

@@ -16,6 +16,6 @@ mod simulation;
 mod sweep;
 
 pub use answer::{Answer, solve};
-pub use rg_solver::given::Given;
 pub use refutation::Refutation;
+pub use rg_solver::given::Given;
 pub use rg_solver::watcher::{Unwatched, Watcher};

@@ -148,16 +148,17 @@ impl Solver {
         None
     }
 
-    /// Decides an open variable.
+    /// Decides an open variable, unless no more may be done than to follow unit clauses.
     fn decide_any(&mut self, goal: &mut Goal) -> Option<Outcome> {
         let Some(decision) = self.next_open() else {
             return Some(Outcome::Assigned);
         };
-        if variable_of(decision) <= self.inputs {
-            if goal.decisions == 0 {
-                self.order.insert(decision >> 1);
-                return Some(Outcome::GaveUp);
-            }
+        let is_input = variable_of(decision) <= self.inputs;
+        if goal.decisions == 0 && (is_input || goal.conflicts == 0) {
+            self.order.insert(decision >> 1);
+            return Some(Outcome::GaveUp);
+        }
+        if is_input {
             goal.decisions = goal.decisions.saturating_sub(1);
         }
         self.decide(decision);

@@ -9,8 +9,17 @@ use crate::stages::Derived;
 use rg_find::{Judged, Watcher, judge};
 use rg_hints::{Lines, prove};
 use rg_tree::condition::Condition;
+use rg_words::limits::MOST_PROOF_BYTES;
 use rg_words::{Refusal, SourceFile};
 use std::alloc::Global;
+
+/// The section of a condition of this number.
+fn section_of(alloc: Global, number: usize, lines: &Lines) -> Result<String, Refusal> {
+    let mut section = format!(in alloc; "section {number}\n")?;
+    let text = lines.text(alloc)?;
+    section.push_str(&text)?;
+    Ok(section)
+}
 
 /// What searches found.
 #[derive(Drop)]
@@ -22,12 +31,27 @@ struct Search {
 }
 
 impl Search {
-    /// Adds the section of a condition of this number.
-    fn add_section(&mut self, alloc: Global, number: usize, lines: &Lines) -> Result<(), Refusal> {
-        let head = format!(in alloc; "section {number}\n")?;
-        self.sections.push_str(&head)?;
-        let text = lines.text(alloc)?;
-        self.sections.push_str(&text)?;
+    /// Adds the section of a condition of this number and name, or tells that it doesn't fit into a proofs file behind those before.
+    fn add_section(
+        &mut self,
+        alloc: Global,
+        number: usize,
+        name: &str,
+        lines: &Lines,
+    ) -> Result<(), Refusal> {
+        let section = section_of(alloc, number, lines)?;
+        let room = MOST_PROOF_BYTES.saturating_sub(self.sections.len());
+        if section.len() > room {
+            return self.add_too_large(alloc, number, name);
+        }
+        self.sections.push_str(&section)?;
+        Ok(())
+    }
+
+    /// Tells that the proof of the condition of this number and name is too large.
+    fn add_too_large(&mut self, alloc: Global, number: usize, name: &str) -> Result<(), Refusal> {
+        let told = format!(in alloc; "condition {number} {name}: its proof is too large\n")?;
+        self.failures.push_str(&told)?;
         Ok(())
     }
 
@@ -55,12 +79,13 @@ impl Search {
     ) -> Result<(), Refusal> {
         match judged {
             Judged::Holds(lines) if lines.len() == 0 => Ok(()),
-            Judged::Holds(lines) => self.add_section(alloc, number, lines),
+            Judged::Holds(lines) => self.add_section(alloc, number, name, lines),
             Judged::Fails(first, second) => {
                 let states = failure_text(alloc, &condition.layout, first, second)?;
                 self.add_failure(alloc, number, name, &states)
             }
             Judged::GaveUp => self.add_failure(alloc, number, name, "gave up\n"),
+            Judged::TooLarge => self.add_too_large(alloc, number, name),
         }
     }
 
@@ -105,7 +130,8 @@ fn search_all<P: Watcher>(
 pub enum ProofsFound {
     /// A proofs file that proves all of them.
     Proofs(String),
-    /// What is told of those that fail, at which states, and of those for which the search gave up, a line or more each.
+    /// What is told of those that fail, at which states, of those for which the search gave up, and of those whose proofs are too large,
+    /// a line or more each.
     Failures(String),
 }
 
@@ -114,7 +140,7 @@ pub enum ProofsFound {
 /// # Errors
 ///
 /// `Limit` at the first condition with too many variables; `Limit`, without a file and a place, where more than `MOST_DECISIONS` are
-/// asked for; `Limit` at line 1 of the proofs where they are too large. `Memory` where memory is refused.
+/// asked for. `Memory` where memory is refused.
 pub fn find_proofs<P: Watcher>(
     alloc: Global,
     derived: &Derived,

@@ -5,7 +5,7 @@ use Rattle.clap.specs.Simple.{new_shape}
 use Rattle.clap.specs.declared.builder.value_parser.ValueParser.{ValueParser}
 use Rattle.clap.specs.declared.builder.value_parser.ValueParser.TheVariants as parser
 use Rattle.rgc_line.specs.declared.commands.Kind.{Kind}
-use Rattle.rgc_line.specs.declared.commands.Kind.TheVariants.{Number, Check, Conditions, Prove, Emit, Valid, Clauses, Find}
+use Rattle.rgc_line.specs.declared.commands.Kind.TheVariants.{Number, Check, Conditions, Prove, Emit, Run, Valid, Clauses, Find}
 
 -- a file that has to be named
 abbrev pub file_rule : Text → Rule
@@ -54,6 +54,22 @@ chosen_condition = number_rule (codes "condition")
 abbrev pub steps : Rule
 steps = default_rule (codes "steps")
 
+-- the option with the values of the words at the start
+abbrev pub start : Rule
+start = option_rule (codes "start")
+
+-- the option with the environment's moves
+abbrev pub moves : Rule
+moves = option_rule (codes "moves")
+
+-- the option with a file to draw to
+abbrev pub draw : Rule
+draw = option_rule (codes "draw")
+
+-- the option with the most steps of a run
+abbrev pub limit : Rule
+limit = default_rule (codes "limit")
+
 -- a command with these arguments and no subcommands
 abbrev pub leaf : Text → List Rule → Shape
 leaf name rules = record (new_shape name) { rules = rules }
@@ -65,13 +81,14 @@ row_of Check = leaf (codes "check") (text ∷ derivation ∷ proofs ∷ [])
 row_of Conditions = leaf (codes "conditions") (text ∷ derivation ∷ [])
 row_of Prove = leaf (codes "prove") (text ∷ derivation ∷ steps ∷ [])
 row_of Emit = leaf (codes "emit") (text ∷ derivation ∷ proofs ∷ [])
+row_of Run = leaf (codes "run") (text ∷ derivation ∷ proofs ∷ start ∷ moves ∷ limit ∷ draw ∷ [])
 row_of Valid = leaf (codes "valid") (text ∷ proofs ∷ [])
 row_of Clauses = leaf (codes "clauses") (text ∷ chosen_derivation ∷ chosen_condition ∷ [])
 row_of Find = leaf (codes "find") (text ∷ chosen_derivation ∷ chosen_condition ∷ steps ∷ [])
 
 -- the commands in the order in which the help lists them
 abbrev pub kinds : List Kind
-kinds = Number ∷ Check ∷ Conditions ∷ Prove ∷ Emit ∷ Valid ∷ Clauses ∷ Find ∷ []
+kinds = Number ∷ Check ∷ Conditions ∷ Prove ∷ Emit ∷ Run ∷ Valid ∷ Clauses ∷ Find ∷ []
 
 -- the command with no subcommands
 abbrev pub rgc_top : App

@@ -10,7 +10,7 @@ use Rattle.rgc_line.specs.declared.fields.FieldFault.{FieldFault}
 use Rattle.rgc_line.specs.declared.fields.FieldFault.TheVariants.{Incomplete, Apart}
 use Rattle.rgc_line.specs.declared.command.Chosen.{Chosen}
 use Rattle.rgc_line.specs.declared.command.Command.{Command}
-use Rattle.rgc_line.specs.declared.command.Command.TheVariants.{Number, Check, Conditions, Prove, Emit, Valid, Clauses, Find}
+use Rattle.rgc_line.specs.declared.command.Command.TheVariants.{Number, Check, Conditions, Prove, Emit, Run, Valid, Clauses, Find}
 use Rattle.rgc_line.specs.declared.commands.Kind.{Kind}
 use Rattle.rgc_line.specs.declared.commands.Kind.TheVariants as kind
 
@@ -31,6 +31,11 @@ pub data Value : Type 0 where
   file : Bor Text → Value
   number : ℕ → Value
   absent : Value
+
+-- a file that may be left out
+abbrev pub optional : Option (Bor Text) → Value
+optional None = absent
+optional (Some name) = file name
 
 -- the words have this value at the id
 abbrev pub HasValue : List Row → Text → Value → Type 0
@@ -66,6 +71,8 @@ contents_of (Check text derivation proofs) = contents kind.Check (file text ∷ 
 contents_of (Conditions text derivation) = contents kind.Conditions (file text ∷ file derivation ∷ [])
 contents_of (Prove text derivation steps) = contents kind.Prove (file text ∷ file derivation ∷ number steps ∷ [])
 contents_of (Emit text derivation proofs) = contents kind.Emit (file text ∷ file derivation ∷ file proofs ∷ [])
+contents_of (Run text derivation proofs start moves limit draw) = contents kind.Run
+    (file text ∷ file derivation ∷ file proofs ∷ optional start ∷ optional moves ∷ number limit ∷ optional draw ∷ [])
 contents_of (Valid text proofs) = contents kind.Valid (file text ∷ file proofs ∷ [])
 contents_of (Clauses text chosen) = contents kind.Clauses (file text ∷ chosen_values chosen [])
 contents_of (Find text steps chosen) = contents kind.Find (file text ∷ chosen_values chosen (number steps ∷ []))

@@ -42,6 +42,17 @@ pub enum Command<'a> {
         derivation: &'a str,
         proofs: &'a str,
     },
+    /// A run of an accepted program, from the start file or else from words that are all 0, with the environment's moves, where a file has
+    /// them, and with at most so many steps; it is drawn to a file where one is named, which is written and not read.
+    Run {
+        text: &'a str,
+        derivation: &'a str,
+        proofs: &'a str,
+        start: Option<&'a str>,
+        moves: Option<&'a str>,
+        limit: u64,
+        draw: Option<&'a str>,
+    },
     /// Whether the hint lines prove the `show` formula of a text.
     Valid {
         text: &'a str,
@@ -61,16 +72,18 @@ pub enum Command<'a> {
     },
 }
 
-/// The files of a command, each by its path as given; none where it has none.
+/// The files that a command reads, each by its path as given; none where it has none.
 #[derive(Clone, Copy)]
 pub struct Named<'a> {
     pub text: &'a str,
     pub derivation: Option<&'a str>,
     pub proofs: Option<&'a str>,
+    pub start: Option<&'a str>,
+    pub moves: Option<&'a str>,
 }
 
 impl<'a> Command<'a> {
-    /// The files of the command.
+    /// The files that the command reads.
     pub fn named(&self) -> Named<'a>
         ensures { result ≡ named self.now }
     {
@@ -85,6 +98,12 @@ impl<'a> Command<'a> {
                 text,
                 derivation,
                 proofs,
+            }
+            | Command::Run {
+                text,
+                derivation,
+                proofs,
+                ..
             } => (text, Some(derivation), Some(proofs)),
             Command::Conditions { text, derivation }
             | Command::Prove {
@@ -97,10 +116,16 @@ impl<'a> Command<'a> {
                 (text, chosen.map(|chosen| chosen.derivation), None)
             }
         };
+        let (start, moves) = match *self {
+            Command::Run { start, moves, .. } => (start, moves),
+            _ => (None, None),
+        };
         Named {
             text,
             derivation,
             proofs,
+            start,
+            moves,
         }
     }
 }

@@ -8,6 +8,7 @@ pub enum Kind {
     Conditions,
     Prove,
     Emit,
+    Run,
     Valid,
     Clauses,
     Find,
@@ -97,8 +98,32 @@ const STEPS: Field = Field {
     help: "the most decisions, of each search",
 };
 
+const START: Field = Field {
+    form: Form::OptionalFile,
+    id: "start",
+    help: "the values of the words at the start; without it each is 0",
+};
+
+const MOVES: Field = Field {
+    form: Form::OptionalFile,
+    id: "moves",
+    help: "the moves of the environment, each with its place among the records",
+};
+
+const LIMIT: Field = Field {
+    form: Form::NumberOrMillion,
+    id: "limit",
+    help: "the most steps of the parts",
+};
+
+const DRAW: Field = Field {
+    form: Form::OptionalFile,
+    id: "draw",
+    help: "a file to draw the run to",
+};
+
 /// The commands, in the order in which the help lists them.
-pub static COMMANDS: [Row; 8] = [
+pub static COMMANDS: [Row; 9] = [
     Row {
         kind: Kind::Number,
         name: "number",
@@ -128,6 +153,12 @@ pub static COMMANDS: [Row; 8] = [
         name: "emit",
         about: "Prints the listing of the code of an accepted program",
         fields: &[PROGRAM, DERIVATION, PROOFS],
+    },
+    Row {
+        kind: Kind::Run,
+        name: "run",
+        about: "Runs the parts of an accepted program side by side, and prints the records of their steps",
+        fields: &[PROGRAM, DERIVATION, PROOFS, START, MOVES, LIMIT, DRAW],
     },
     Row {
         kind: Kind::Valid,

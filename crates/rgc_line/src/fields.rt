@@ -3,7 +3,7 @@
 ghost use Rattle.std.specs.Prelude.{◌≡◌, ◌<◌, IfOk, IfErr, IfSome, length};
 ghost use Rattle.clap.specs.Words.{found_of, rows_of};
 ghost use Rattle.rgc_line.specs.App.{row_of};
-ghost use Rattle.rgc_line.specs.Line.{HasFile, HasNumber, HasContents, contents_of, IsFieldFault};
+ghost use Rattle.rgc_line.specs.Line.{HasFile, HasNumber, HasValue, optional, HasContents, contents_of, IsFieldFault};
 ghost use Rattle.rgc_line.specs.Inner.Table.{id_at, IsListed, IsNamed, IsTable, HasOption, HasChosen};
 ghost use Rattle.rgc_line.specs.declared.fields.FieldFault.TheVariants.{Incomplete};
 
@@ -77,6 +77,15 @@ impl<'a> Given<'_, 'a> {
         Ok(name)
     }
 
+    /// A file that may be left out.
+    fn option(&self, place: usize) -> Option<&'a str>
+        requires listed { IsListed self.now.row.now }
+        requires place { place < length (row_of self.now.row.now.kind).rules }
+        ensures { HasValue (rows_of (found_of self.now.matches.now)) (id_at (row_of self.now.row.now.kind).rules place) (optional result) }
+    {
+        option(self.matches, self.id(place))
+    }
+
     /// A number that is given or has a default.
     fn number(&self, place: usize) -> Result<u64, FieldFault>
         requires listed { IsListed self.now.row.now }
@@ -116,6 +125,15 @@ impl<'a> Given<'_, 'a> {
                 text: self.file(0)?,
                 derivation: self.file(1)?,
                 proofs: self.file(2)?,
+            }),
+            Kind::Run => Ok(Command::Run {
+                text: self.file(0)?,
+                derivation: self.file(1)?,
+                proofs: self.file(2)?,
+                start: self.option(3),
+                moves: self.option(4),
+                limit: self.number(5)?,
+                draw: self.option(6),
             }),
             Kind::Valid => Ok(Command::Valid {
                 text: self.file(0)?,

@@ -5,12 +5,14 @@ use clap::error::ErrorKind;
 use rg_find::Watcher;
 use rg_words::limits::{MOST_PROOF_BYTES, MOST_TEXT_BYTES};
 use rg_words::{Buffered, Device};
-use rgc_line::{Command, Line, LineFault};
+use rgc_line::{Command, Line, LineFault, Named};
 use rgc_perform::{Files, perform};
 use std::alloc::AllocError;
-use std::fs::File;
+use std::fs::{self, File};
 use std::io::{IsTerminal, Read};
 use std::process::ExitCode;
+use std::sync::Wait;
+use std::thread::Threads;
 use std::{env, io};
 
 /// A file's bytes, but no more than one past its limit: that one shows that it has too many.
@@ -74,25 +76,99 @@ impl Watcher for Terminal<'_> {
     }
 }
 
-/// Does the command over its files, and writes what it printed; the status. What `find` and `prove` print goes out at once, all else
-/// through a buffer.
-fn done(rt: &HostRuntime, line: &Line<'_>, files: &Files<'_>) -> Result<u8, AllocError> {
+/// Whether what the command prints goes out at once: a person waits for it, or it goes through a buffer of its own.
+fn is_printed_at_once(command: &Command<'_>) -> bool {
+    matches!(
+        command,
+        Command::Find { .. } | Command::Prove { .. } | Command::Run { .. }
+    )
+}
+
+/// Does the command over its files, and writes what it printed; the status. The picture of a run is put into `picture`.
+fn done<R: Threads + Wait + Sync>(
+    rt: &HostRuntime,
+    threads: &R,
+    line: &Line<'_>,
+    files: &Files<'_>,
+    picture: &mut Vec<u8>,
+) -> Result<u8, AllocError> {
+    let alloc = rt.alloc();
     let mut faults = Device::new(rt.stderr());
     let mut watcher = Terminal {
         rt,
         is_terminal: rt.stderr().is_terminal(),
         next: CONFLICTS_TOLD,
     };
-    if matches!(line.command, Command::Find { .. } | Command::Prove { .. }) {
+    if is_printed_at_once(&line.command) {
         let mut out = Device::new(rt.stdout());
-        return Ok(perform(rt.alloc(), line, files, &mut out, &mut faults, &mut watcher));
+        let status = perform(
+            threads,
+            alloc,
+            line,
+            files,
+            &mut out,
+            &mut faults,
+            &mut watcher,
+            picture,
+        );
+        return Ok(status);
     }
-    let mut out = Buffered::new(rt.alloc(), Device::new(rt.stdout()))?;
-    let status = perform(rt.alloc(), line, files, &mut out, &mut faults, &mut watcher);
+    let mut out = Buffered::new(alloc, Device::new(rt.stdout()))?;
+    let status = perform(
+        threads,
+        alloc,
+        line,
+        files,
+        &mut out,
+        &mut faults,
+        &mut watcher,
+        picture,
+    );
     if status == 0 && out.flush().is_err() {
         return Ok(tell(rt, "refused 63"));
     }
     Ok(status)
+}
+
+/// Writes the picture of a run to the file that the command names for it, if it names one; the status.
+fn write_picture(rt: &HostRuntime, command: &Command<'_>, picture: &[u8]) -> u8 {
+    let Command::Run {
+        draw: Some(name),
+        ..
+    } = *command
+    else {
+        return 0;
+    };
+    match fs::write(rt, name, picture) {
+        Ok(()) => 0,
+        Err(error) if error.kind() == io::ErrorKind::OutOfMemory => tell(rt, "refused 99"),
+        Err(_) => tell(rt, "device draw"),
+    }
+}
+
+/// Does the command over its files, and writes all that it made; the status.
+fn done_and_drawn<R: Threads + Wait + Sync>(
+    rt: &HostRuntime,
+    threads: &R,
+    line: &Line<'_>,
+    files: &Files<'_>,
+) -> Result<u8, AllocError> {
+    let mut picture = Vec::new(rt.alloc());
+    let status = done(rt, threads, line, files, &mut picture)?;
+    if status != 0 {
+        return Ok(status);
+    }
+    Ok(write_picture(rt, &line.command, &picture))
+}
+
+/// The bytes of the files that a command names: none where one isn't named or can't be read.
+#[derive(Drop)]
+struct Contents {
+    text: Option<Vec<u8>>,
+    derivation: Option<Vec<u8>>,
+    proofs: Option<Vec<u8>>,
+    start: Option<Vec<u8>>,
+    moves: Option<Vec<u8>>,
 }
 
 /// The bytes of a file that may not be named, or none where it isn't or can't be read.
@@ -107,18 +183,49 @@ fn bytes_of_named(
     }
 }
 
+impl Contents {
+    /// No bytes so far.
+    fn empty() -> Contents {
+        Contents {
+            text: None,
+            derivation: None,
+            proofs: None,
+            start: None,
+            moves: None,
+        }
+    }
+
+    /// Reads the files.
+    fn read(&mut self, rt: &HostRuntime, named: &Named<'_>) -> Result<(), AllocError> {
+        self.text = bytes_of(rt, named.text, MOST_TEXT_BYTES)?;
+        self.derivation = bytes_of_named(rt, named.derivation, MOST_TEXT_BYTES)?;
+        self.proofs = bytes_of_named(rt, named.proofs, MOST_PROOF_BYTES)?;
+        self.start = bytes_of_named(rt, named.start, MOST_TEXT_BYTES)?;
+        self.moves = bytes_of_named(rt, named.moves, MOST_TEXT_BYTES)?;
+        Ok(())
+    }
+
+    /// The bytes, lent to a command.
+    fn files(&self) -> Files<'_> {
+        Files {
+            text: self.text.as_ref().map(|bytes| bytes.as_slice()),
+            derivation: self.derivation.as_ref().map(|bytes| bytes.as_slice()),
+            proofs: self.proofs.as_ref().map(|bytes| bytes.as_slice()),
+            start: self.start.as_ref().map(|bytes| bytes.as_slice()),
+            moves: self.moves.as_ref().map(|bytes| bytes.as_slice()),
+        }
+    }
+}
+
 /// Reads the files that the command names, and does it; the status.
-fn run(rt: &HostRuntime, line: &Line<'_>) -> Result<u8, AllocError> {
-    let named = line.command.named();
-    let text = bytes_of(rt, named.text, MOST_TEXT_BYTES)?;
-    let derivation = bytes_of_named(rt, named.derivation, MOST_TEXT_BYTES)?;
-    let proofs = bytes_of_named(rt, named.proofs, MOST_PROOF_BYTES)?;
-    let files = Files {
-        text: text.as_ref().map(|bytes| bytes.as_slice()),
-        derivation: derivation.as_ref().map(|bytes| bytes.as_slice()),
-        proofs: proofs.as_ref().map(|bytes| bytes.as_slice()),
-    };
-    done(rt, line, &files)
+fn run<R: Threads + Wait + Sync>(
+    rt: &HostRuntime,
+    threads: &R,
+    line: &Line<'_>,
+) -> Result<u8, AllocError> {
+    let mut contents = Contents::empty();
+    contents.read(rt, &line.command.named())?;
+    done_and_drawn(rt, threads, line, &contents.files())
 }
 
 /// The words of the command line, with the program's name as its users know it.
@@ -130,8 +237,8 @@ fn words_of(rt: &HostRuntime) -> io::Result<Vec<String>> {
     Ok(words)
 }
 
-/// Reads the words, and does what they ask for; the status.
-fn work(rt: &HostRuntime) -> Result<u8, AllocError> {
+/// Reads the words, and does what they ask for; the status. The threads of a run are had from `threads`.
+fn work<R: Threads + Wait + Sync>(rt: &HostRuntime, threads: &R) -> Result<u8, AllocError> {
     let words = match words_of(rt) {
         Ok(words) => words,
         Err(error) if error.kind() == io::ErrorKind::OutOfMemory => return Err(AllocError),
@@ -141,13 +248,13 @@ fn work(rt: &HostRuntime) -> Result<u8, AllocError> {
         }
     };
     match Line::read(rt.alloc(), words.as_slice()) {
-        Ok(line) => run(rt, &line),
+        Ok(line) => run(rt, threads, &line),
         Err(fault) => Ok(usage(rt, &fault)),
     }
 }
 
 fn main(rt: HostRuntime) -> ExitCode {
-    match work(&rt) {
+    match work(&rt, &rt) {
         Ok(status) => ExitCode::from(status),
         Err(AllocError) => ExitCode::from(tell(&rt, "refused 99")),
     }

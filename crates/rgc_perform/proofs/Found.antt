@@ -4,7 +4,7 @@ use Rattle.rg_tree.specs.Conditions.{ConditionTree, ConditionHolds}
 use Rattle.rg_clauses.specs.Conditions.{clauses_of_condition}
 use Rattle.rg_find.specs.Judged.{IsJudged}
 use Rattle.rg_find.specs.declared.judgement.Judged.{Judged}
-use Rattle.rg_find.specs.declared.judgement.Judged.TheVariants.{Holds, Fails, GaveUp}
+use Rattle.rg_find.specs.declared.judgement.Judged.TheVariants.{Holds, Fails, GaveUp, TooLarge}
 use Rattle.rgc.specs.Valid.{HasClauses, ShownHolds}
 use Rattle.rgc.specs.Chosen.{IsChosen}
 use Rattle.rgc_perform.specs.Inner.Printed.{PrintsLines}
@@ -23,6 +23,7 @@ lines_of_text text c (Holds lines) old new j has holds went = record {
 }
 lines_of_text text c (Fails first second) old new j has holds went = absurd went
 lines_of_text text c GaveUp old new j has holds went = absurd went
+lines_of_text text c TooLarge old new j has holds went = absurd went
 
 -- lines that a search gave for a condition of a program went out
 pub lines_of_condition : (text derivation : List ℕ) (number : ℕ) (c : ConditionTree) (judged : Judged) (old new : Option (List ℕ)) → IsJudged c judged → IsChosen text derivation number c → PrintsLines judged old new → HasPrintedConditionLines text derivation number old new
@@ -37,3 +38,4 @@ lines_of_condition text derivation number c (Holds lines) old new j chosen went 
 }
 lines_of_condition text derivation number c (Fails first second) old new j chosen went = absurd went
 lines_of_condition text derivation number c GaveUp old new j chosen went = absurd went
+lines_of_condition text derivation number c TooLarge old new j chosen went = absurd went

@@ -20,12 +20,14 @@ use Rattle.rg_code.specs.CodeTrees.{code_blocks, names_of_code}
 use Rattle.rg_code.specs.declared.code.Code.{Code}
 use Rattle.rgc_line.specs.declared.command.Chosen.{Chosen}
 use Rattle.rgc_line.specs.declared.command.Command.{Command}
-use Rattle.rgc_line.specs.declared.command.Command.TheVariants.{Number, Check, Conditions, Prove, Emit, Valid, Clauses, Find}
+use Rattle.rgc_line.specs.declared.command.Command.TheVariants.{Number, Check, Conditions, Prove, Emit, Run, Valid, Clauses, Find}
 use Rattle.rgc.specs.Accepted.{conditions_of, AreAccepted, IsBuiltText}
 use Rattle.rg_parse.specs.Programs.{SpellsProgram}
 use Rattle.rgc.specs.Chosen.{AreDerived, IsChosen}
+use Rattle.rgc_perform.specs.declared.commands.Files.{Files}
 use Rattle.rgc_perform.specs.Conditions.{conditions_text}
 use Rattle.rgc_perform.specs.Numbers.{numbers_text}
+use Rattle.rgc_perform.specs.Running.{HasPrintedNamedRun}
 use Rattle.rgc.specs.Valid.{HasClauses, ShownHolds, IsProved}
 
 -- the text spells a program, and its statements went out with their numbers
@@ -121,14 +123,20 @@ AreLinesDone None text _ old new = HasPrintedLines text old new
 AreLinesDone (Some chosen) text (Some derivation) old new = HasPrintedConditionLines text derivation.now chosen.condition old new
 AreLinesDone (Some chosen) text None old new = ⊥
 
--- the command is done: its output went out, and what it says holds of the files, which are the text, the derivation and the proofs
-abbrev pub IsDone : Command → Option (Bor (List ℕ)) → Option (Bor (List ℕ)) → Option (Bor (List ℕ)) → Option (List ℕ) → Option (List ℕ) → Type 0
-IsDone (Number _) (Some text) _ _ old new = HasPrintedNumbers text.now old new
-IsDone (Check _ _ _) (Some text) (Some derivation) (Some proofs) old new = HasPrintedAccepted text.now derivation.now proofs.now old new
-IsDone (Conditions _ _) (Some text) (Some derivation) _ old new = HasPrintedConditions text.now derivation.now old new
-IsDone (Prove _ _ _) (Some text) (Some derivation) _ old new = HasPrintedProofs text.now derivation.now old new
-IsDone (Emit _ _ _) (Some text) (Some derivation) (Some proofs) old new = HasPrintedListing text.now derivation.now proofs.now old new
-IsDone (Valid _ _) (Some text) _ (Some proofs) old new = HasPrintedHolds text.now proofs.now old new
-IsDone (Clauses _ chosen) (Some text) derivation _ old new = AreClausesDone chosen text.now derivation old new
-IsDone (Find _ _ chosen) (Some text) derivation _ old new = AreLinesDone chosen text.now derivation old new
-IsDone _ _ _ _ _ _ = ⊥
+-- the same of a text, a derivation, proofs, a start and moves
+abbrev pub Does : Command → Option (Bor (List ℕ)) → Option (Bor (List ℕ)) → Option (Bor (List ℕ)) → Option (Bor (List ℕ)) → Option (Bor (List ℕ)) → Option (List ℕ) → Option (List ℕ) → Type 0
+Does (Number _) (Some text) _ _ _ _ old new = HasPrintedNumbers text.now old new
+Does (Check _ _ _) (Some text) (Some derivation) (Some proofs) _ _ old new = HasPrintedAccepted text.now derivation.now proofs.now old new
+Does (Conditions _ _) (Some text) (Some derivation) _ _ _ old new = HasPrintedConditions text.now derivation.now old new
+Does (Prove _ _ _) (Some text) (Some derivation) _ _ _ old new = HasPrintedProofs text.now derivation.now old new
+Does (Run _ _ _ start moves limit _) (Some text) (Some derivation) (Some proofs) first moving old new =
+    HasPrintedNamedRun text.now derivation.now proofs.now start moves limit first moving old new
+Does (Emit _ _ _) (Some text) (Some derivation) (Some proofs) _ _ old new = HasPrintedListing text.now derivation.now proofs.now old new
+Does (Valid _ _) (Some text) _ (Some proofs) _ _ old new = HasPrintedHolds text.now proofs.now old new
+Does (Clauses _ chosen) (Some text) derivation _ _ _ old new = AreClausesDone chosen text.now derivation old new
+Does (Find _ _ chosen) (Some text) derivation _ _ _ old new = AreLinesDone chosen text.now derivation old new
+Does _ _ _ _ _ _ _ _ = ⊥
+
+-- the command is done: its output went out, and what it says holds of the files
+abbrev pub IsDone : Command → Files → Option (List ℕ) → Option (List ℕ) → Type 0
+IsDone command files old new = Does command files.text files.derivation files.proofs files.start files.moves old new

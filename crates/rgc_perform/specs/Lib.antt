@@ -1,4 +1,5 @@
 pub mod Done
+pub mod Running
 pub mod Numbers
 pub mod Conditions
 pub mod Inner

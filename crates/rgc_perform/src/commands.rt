@@ -1,19 +1,23 @@
 //! One command over files in memory, with writers for its output and its faults.
 
-ghost use Rattle.std.specs.Prelude.{◌≡◌, ◌≤◌, ℕ, List, IsTrue, Some, IfOk, OnOk};
+ghost use Rattle.std.specs.Prelude.{◌≡◌, ◌≤◌, ℕ, List, IsTrue, Option, Some, IfOk, OnOk, OnErr};
 ghost use Rattle.std.specs.Borrow.{Bor};
 ghost use Rattle.rg_words.specs.Written.{CanCount};
-ghost use Rattle.rgc_line.specs.declared.command.Command.TheVariants.{Number, Check, Conditions, Prove, Emit, Valid, Clauses, Find};
+ghost use Rattle.rgc_line.specs.declared.command.Command.TheVariants.{Number, Check, Conditions, Prove, Emit, Run, Valid, Clauses, Find};
 ghost use Rattle.rgc_perform.specs.Done.{IsDone};
+ghost use Rattle.rgc_perform.specs.Running.{IsRead};
 
 use crate::printed::{
     print_accepted, print_clauses, print_condition_clauses, print_condition_found,
     print_conditions, print_found, print_listing, print_numbers, print_proofs, print_valid,
 };
+use crate::running::{RunFiles, print_run};
 use rg_find::Watcher;
 use rg_words::{Out, Refusal, RefusalNumber, write_all};
 use rgc_line::{Chosen, Command, Line};
 use std::alloc::Global;
+use std::sync::Wait;
+use std::thread::Threads;
 
 /// The bytes of the files that a command names; none where it isn't named or can't be read.
 #[derive(Clone, Copy)]
@@ -21,6 +25,8 @@ pub struct Files<'a> {
     pub text: Option<&'a [u8]>,
     pub derivation: Option<&'a [u8]>,
     pub proofs: Option<&'a [u8]>,
+    pub start: Option<&'a [u8]>,
+    pub moves: Option<&'a [u8]>,
 }
 
 /// Why a command isn't done.
@@ -66,6 +72,20 @@ fn proofs_of<'a>(files: &Files<'a>) -> Result<&'a [u8], Stop>
     needed(files.proofs, "device proofs\n")
 }
 
+/// The bytes of a file that need not be named: none where it isn't, and else those that can be read.
+fn read_where_named<'a>(
+    name: Option<&str>,
+    file: Option<&'a [u8]>,
+    fault: &'static str,
+) -> Result<Option<&'a [u8]>, Stop>
+    ensures { IfOk result (IsRead name.entry file.entry) }
+{
+    match name {
+        Some(_) => Ok(Some(needed(file, fault)?)),
+        None => Ok(None),
+    }
+}
+
 /// Done only where a proof was found.
 fn proved(is_found: bool) -> Result<(), Stop>
     ensures { OnOk result (IsTrue is_found) }
@@ -79,7 +99,7 @@ fn proved(is_found: bool) -> Result<(), Stop>
 /// Prints the statements of a program with their numbers.
 fn number<W: Out>(alloc: Global, files: &Files<'_>, out: &mut W) -> Result<(), Stop>
     requires { CanCount (W.failures out.old) }
-    ensures done { (t : Bor (List ℕ)) → OnOk result (IsDone (Number t) files.now.text files.now.derivation files.now.proofs (W.contents out.old) (W.contents out.new)) }
+    ensures done { (t : Bor (List ℕ)) → OnOk result (IsDone (Number t) files.now (W.contents out.old) (W.contents out.new)) }
     ensures failures { OnOk result (W.failures out.new ≡ W.failures out.old) }
 {
     print_numbers(alloc, text_of(files)?, out)?;
@@ -89,7 +109,7 @@ fn number<W: Out>(alloc: Global, files: &Files<'_>, out: &mut W) -> Result<(), S
 /// Prints `accepted` for a program.
 fn check<W: Out>(alloc: Global, files: &Files<'_>, out: &mut W) -> Result<(), Stop>
     requires { CanCount (W.failures out.old) }
-    ensures done { (t d p : Bor (List ℕ)) → OnOk result (IsDone (Check t d p) files.now.text files.now.derivation files.now.proofs (W.contents out.old) (W.contents out.new)) }
+    ensures done { (t d p : Bor (List ℕ)) → OnOk result (IsDone (Check t d p) files.now (W.contents out.old) (W.contents out.new)) }
     ensures failures { OnOk result (W.failures out.new ≡ W.failures out.old) }
 {
     let text = text_of(files)?;
@@ -101,7 +121,7 @@ fn check<W: Out>(alloc: Global, files: &Files<'_>, out: &mut W) -> Result<(), St
 /// Prints the names of the conditions of a derivation.
 fn conditions<W: Out>(alloc: Global, files: &Files<'_>, out: &mut W) -> Result<(), Stop>
     requires { CanCount (W.failures out.old) }
-    ensures done { (t d : Bor (List ℕ)) → OnOk result (IsDone (Conditions t d) files.now.text files.now.derivation files.now.proofs (W.contents out.old) (W.contents out.new)) }
+    ensures done { (t d : Bor (List ℕ)) → OnOk result (IsDone (Conditions t d) files.now (W.contents out.old) (W.contents out.new)) }
     ensures failures { OnOk result (W.failures out.new ≡ W.failures out.old) }
 {
     let text = text_of(files)?;
@@ -118,7 +138,7 @@ fn prove<W: Out, P: Watcher>(
     watcher: &mut P,
 ) -> Result<(), Stop>
     requires { CanCount (W.failures out.old) }
-    ensures done { (t d : Bor (List ℕ)) → OnOk result (IsDone (Prove t d steps) files.now.text files.now.derivation files.now.proofs (W.contents out.old) (W.contents out.new)) }
+    ensures done { (t d : Bor (List ℕ)) → OnOk result (IsDone (Prove t d steps) files.now (W.contents out.old) (W.contents out.new)) }
     ensures failures { OnOk result (W.failures out.new ≡ W.failures out.old) }
 {
     let text = text_of(files)?;
@@ -129,7 +149,7 @@ fn prove<W: Out, P: Watcher>(
 /// Prints the listing of the code of an accepted program.
 fn emit<W: Out>(alloc: Global, files: &Files<'_>, out: &mut W) -> Result<(), Stop>
     requires { CanCount (W.failures out.old) }
-    ensures done { (t d p : Bor (List ℕ)) → OnOk result (IsDone (Emit t d p) files.now.text files.now.derivation files.now.proofs (W.contents out.old) (W.contents out.new)) }
+    ensures done { (t d p : Bor (List ℕ)) → OnOk result (IsDone (Emit t d p) files.now (W.contents out.old) (W.contents out.new)) }
     ensures failures { OnOk result (W.failures out.new ≡ W.failures out.old) }
 {
     let text = text_of(files)?;
@@ -138,10 +158,48 @@ fn emit<W: Out>(alloc: Global, files: &Files<'_>, out: &mut W) -> Result<(), Sto
     Ok(())
 }
 
+/// The options of a run.
+#[derive(Clone, Copy)]
+struct RunOptions<'a> {
+    start: Option<&'a str>,
+    moves: Option<&'a str>,
+    limit: u64,
+    is_drawn: bool,
+}
+
+/// Runs an accepted program, and prints a line for each step.
+fn run<R: Threads + Wait + Sync, W: Out, F: Out>(
+    rt: &R,
+    alloc: Global,
+    options: RunOptions<'_>,
+    files: &Files<'_>,
+    out: &mut W,
+    faults: &mut F,
+    picture: &mut Vec<u8>,
+) -> Result<(), Stop>
+    requires out { CanCount (W.failures out.old) }
+    requires faults { CanCount (F.failures faults.old) }
+    ensures done { (t d p : Bor (List ℕ)) → (w : Option (Bor (List ℕ))) → OnOk result (IsDone (Run t d p options.entry.start options.entry.moves options.entry.limit w) files.now (W.contents out.old) (W.contents out.new)) }
+    ensures failures { OnOk result (W.failures out.new ≡ W.failures out.old) }
+    ensures quiet { OnErr result (F.failures faults.new ≡ F.failures faults.old) }
+{
+    let files = RunFiles {
+        text: text_of(files)?,
+        derivation: derivation_of(files)?,
+        proofs: proofs_of(files)?,
+        start: read_where_named(options.start, files.start, "device start\n")?,
+        moves: read_where_named(options.moves, files.moves, "device moves\n")?,
+        limit: options.limit,
+        is_drawn: options.is_drawn,
+    };
+    print_run(rt, alloc, files, out, faults, picture)?;
+    Ok(())
+}
+
 /// Prints `holds` for a formula.
 fn valid<W: Out>(alloc: Global, files: &Files<'_>, out: &mut W) -> Result<(), Stop>
     requires { CanCount (W.failures out.old) }
-    ensures done { (t p : Bor (List ℕ)) → OnOk result (IsDone (Valid t p) files.now.text files.now.derivation files.now.proofs (W.contents out.old) (W.contents out.new)) }
+    ensures done { (t p : Bor (List ℕ)) → OnOk result (IsDone (Valid t p) files.now (W.contents out.old) (W.contents out.new)) }
     ensures failures { OnOk result (W.failures out.new ≡ W.failures out.old) }
 {
     let text = text_of(files)?;
@@ -157,7 +215,7 @@ fn clauses<W: Out>(
     out: &mut W,
 ) -> Result<(), Stop>
     requires { CanCount (W.failures out.old) }
-    ensures done { (t : Bor (List ℕ)) → OnOk result (IsDone (Clauses t chosen.entry) files.now.text files.now.derivation files.now.proofs (W.contents out.old) (W.contents out.new)) }
+    ensures done { (t : Bor (List ℕ)) → OnOk result (IsDone (Clauses t chosen.entry) files.now (W.contents out.old) (W.contents out.new)) }
     ensures failures { OnOk result (W.failures out.new ≡ W.failures out.old) }
 {
     let text = text_of(files)?;
@@ -181,7 +239,7 @@ fn find<W: Out, P: Watcher>(
     watcher: &mut P,
 ) -> Result<(), Stop>
     requires { CanCount (W.failures out.old) }
-    ensures done { (t : Bor (List ℕ)) → OnOk result (IsDone (Find t steps chosen.entry) files.now.text files.now.derivation files.now.proofs (W.contents out.old) (W.contents out.new)) }
+    ensures done { (t : Bor (List ℕ)) → OnOk result (IsDone (Find t steps chosen.entry) files.now (W.contents out.old) (W.contents out.new)) }
     ensures failures { OnOk result (W.failures out.new ≡ W.failures out.old) }
 {
     let text = text_of(files)?;
@@ -196,16 +254,21 @@ fn find<W: Out, P: Watcher>(
 }
 
 /// Does the command, or says why not.
-fn carry_out<W: Out, P: Watcher>(
+fn carry_out<R: Threads + Wait + Sync, W: Out, F: Out, P: Watcher>(
+    rt: &R,
     alloc: Global,
     command: Command<'_>,
     files: &Files<'_>,
     out: &mut W,
+    faults: &mut F,
     watcher: &mut P,
+    picture: &mut Vec<u8>,
 ) -> Result<(), Stop>
-    requires { CanCount (W.failures out.old) }
-    ensures done { OnOk result (IsDone command.entry files.now.text files.now.derivation files.now.proofs (W.contents out.old) (W.contents out.new)) }
+    requires out { CanCount (W.failures out.old) }
+    requires faults { CanCount (F.failures faults.old) }
+    ensures done { OnOk result (IsDone command.entry files.now (W.contents out.old) (W.contents out.new)) }
     ensures failures { OnOk result (W.failures out.new ≡ W.failures out.old) }
+    ensures quiet { OnErr result (F.failures faults.new ≡ F.failures faults.old) }
 {
     match command {
         Command::Number { .. } => number(alloc, files, out),
@@ -213,6 +276,21 @@ fn carry_out<W: Out, P: Watcher>(
         Command::Conditions { .. } => conditions(alloc, files, out),
         Command::Prove { steps, .. } => prove(alloc, steps, files, out, watcher),
         Command::Emit { .. } => emit(alloc, files, out),
+        Command::Run {
+            start,
+            moves,
+            limit,
+            draw,
+            ..
+        } => {
+            let options = RunOptions {
+                start,
+                moves,
+                limit,
+                is_drawn: draw.is_some(),
+            };
+            run(rt, alloc, options, files, out, faults, picture)
+        }
         Command::Valid { .. } => valid(alloc, files, out),
         Command::Clauses { chosen, .. } => clauses(alloc, chosen, files, out),
         Command::Find { steps, chosen, .. } => find(alloc, steps, chosen, files, out, watcher),
@@ -246,23 +324,35 @@ fn tell_device<F: Out>(line: &str, faults: &mut F) -> u8
 }
 
 /// Does the command over the bytes of its files, and answers the program's status: 0 done, 1 refused or no proof found, 3 where a file can't be read,
-/// where the output can't be written, or where memory is refused. A refusal is one line on `faults`. The watcher is told
-/// of a long search.
-pub fn perform<W: Out, F: Out, P: Watcher>(
+/// where the output can't be written, or where memory is refused. A refusal is one line on `faults`; moves of a run that were passed over
+/// are told there, and change no status. The watcher is told of a long search. A run that is drawn has its picture put behind what
+/// `picture` holds; of it nothing is promised.
+pub fn perform<R: Threads + Wait + Sync, W: Out, F: Out, P: Watcher>(
+    rt: &R,
     alloc: Global,
     line: &Line<'_>,
     files: &Files<'_>,
     out: &mut W,
     faults: &mut F,
     watcher: &mut P,
+    picture: &mut Vec<u8>,
 ) -> u8
     requires out { CanCount (W.failures out.old) }
     requires faults { CanCount (F.failures faults.old) }
     ensures status { result ≤ 3 }
     ensures failures { result ≡ 0 → W.failures out.new ≡ W.failures out.old }
-    ensures done { result ≡ 0 → IsDone line.now.command files.now.text files.now.derivation files.now.proofs (W.contents out.old) (W.contents out.new) }
+    ensures done { result ≡ 0 → IsDone line.now.command files.now (W.contents out.old) (W.contents out.new) }
 {
-    match carry_out(alloc, line.command, files, out, watcher) {
+    match carry_out(
+        rt,
+        alloc,
+        line.command,
+        files,
+        out,
+        faults,
+        watcher,
+        picture,
+    ) {
         Ok(()) => 0,
         Err(Stop::Device(line)) => tell_device(line, faults),
         Err(Stop::Told) => 1,

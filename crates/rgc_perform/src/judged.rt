@@ -24,7 +24,8 @@ fn print_lines<W: Out>(alloc: Global, lines: &Lines, out: &mut W) -> Result<(), 
     Ok(())
 }
 
-/// Prints the lines that prove a condition; else, and then it answers false, the states at which it fails or that the search gave up.
+/// Prints the lines that prove a condition; else, and then it answers false, the states at which it fails, that the search gave up, or that the proof is too
+/// large.
 pub(crate) fn print_judged<W: Out>(
     alloc: Global,
     condition: &Condition,
@@ -47,6 +48,10 @@ pub(crate) fn print_judged<W: Out>(
         }
         Judged::GaveUp => {
             write_all(out, b"gave up\n")?;
+            Ok(false)
+        }
+        Judged::TooLarge => {
+            write_all(out, b"its proof is too large\n")?;
             Ok(false)
         }
     }

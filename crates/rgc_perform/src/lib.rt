@@ -6,6 +6,7 @@ mod conditions;
 mod judged;
 mod numbers;
 mod printed;
+mod running;
 
 pub use commands::{Files, perform};
 pub use conditions::{write_conditions, write_listing};

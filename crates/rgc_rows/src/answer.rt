@@ -2,6 +2,7 @@
 
 ghost use Rattle.std.specs.Prelude.{◌≡◌};
 
+use crate::files::Given;
 use clap::error::ErrorKind;
 use rg_find::Unwatched;
 use rg_words::limits::{MOST_PROOF_BYTES, MOST_TEXT_BYTES};
@@ -9,40 +10,16 @@ use rg_words::{Out, Taker, write_all};
 use rgc_line::{Line, LineFault};
 use rgc_perform::{Files, perform};
 use std::alloc::{AllocError, Global};
+use std::sync::Wait;
+use std::thread::Threads;
 
-/// What a command answered: its status, its output and its faults.
+/// What a command answered: its status, its output, its faults, and the picture that it drew.
 #[derive(Drop)]
 pub(crate) struct Answer {
     pub(crate) status: u8,
     pub(crate) out: Taker,
     pub(crate) faults: Taker,
-}
-
-/// The files that a row gives, each by its name in the words.
-#[derive(Clone, Copy)]
-pub(crate) struct Given<'a> {
-    pub(crate) text: Option<&'a [u8]>,
-    pub(crate) derivation: Option<&'a [u8]>,
-    pub(crate) proofs: Option<&'a [u8]>,
-}
-
-impl<'a> Given<'a> {
-    /// The file of this name, if it is given.
-    fn named(&self, name: &str) -> Option<&'a [u8]> {
-        match name {
-            "text" => self.text,
-            "derivation" => self.derivation,
-            "proofs" => self.proofs,
-            _ => None,
-        }
-    }
-
-    /// The file of this name, but no more than one byte past its limit: that one shows that it has too many.
-    fn read(&self, name: Option<&str>, most: usize) -> Option<&'a [u8]> {
-        let bytes = self.named(name?)?;
-        let end = bytes.len().min(most.saturating_add(1));
-        Some(&bytes[..end])
-    }
+    pub(crate) picture: Vec<u8>,
 }
 
 /// A writer that has taken nothing, and takes all at once.
@@ -59,6 +36,7 @@ impl Answer {
             status: 0,
             out: writer(alloc),
             faults: writer(alloc),
+            picture: Vec::new(alloc),
         }
     }
 }
@@ -92,41 +70,62 @@ fn usage(alloc: Global, fault: &LineFault) -> Result<Answer, AllocError> {
             status: 2,
             out: writer(alloc),
             faults: told,
+            picture: Vec::new(alloc),
         });
     }
     Ok(Answer {
         status: 0,
         out: told,
         faults: writer(alloc),
+        picture: Vec::new(alloc),
     })
 }
 
 /// The answer of a command.
-fn performed(alloc: Global, line: &Line<'_>, given: Given<'_>) -> Answer {
+fn performed<R: Threads + Wait + Sync>(
+    threads: &R,
+    alloc: Global,
+    line: &Line<'_>,
+    given: Given<'_>,
+) -> Answer {
     let named = line.command.named();
     let files = Files {
         text: given.read(Some(named.text), MOST_TEXT_BYTES),
         derivation: given.read(named.derivation, MOST_TEXT_BYTES),
         proofs: given.read(named.proofs, MOST_PROOF_BYTES),
+        start: given.read(named.start, MOST_TEXT_BYTES),
+        moves: given.read(named.moves, MOST_TEXT_BYTES),
     };
     let mut out = writer(alloc);
     let mut faults = writer(alloc);
-    let status = perform(alloc, line, &files, &mut out, &mut faults, &mut Unwatched);
+    let mut picture = Vec::new(alloc);
+    let status = perform(
+        threads,
+        alloc,
+        line,
+        &files,
+        &mut out,
+        &mut faults,
+        &mut Unwatched,
+        &mut picture,
+    );
     Answer {
         status,
         out,
         faults,
+        picture,
     }
 }
 
 /// The answer to these words, of which the first is the program's name.
-pub(crate) fn answer_to(
+pub(crate) fn answer_to<R: Threads + Wait + Sync>(
+    threads: &R,
     alloc: Global,
     words: &[&str],
     given: Given<'_>,
 ) -> Result<Answer, AllocError> {
     match Line::read(alloc, words) {
-        Ok(line) => Ok(performed(alloc, &line, given)),
+        Ok(line) => Ok(performed(threads, alloc, &line, given)),
         Err(fault) => usage(alloc, &fault),
     }
 }

@@ -49,6 +49,28 @@ fn has_lines(part: &'static str, found: &[u8], wanted: u64) -> Result<(), Differ
     })
 }
 
+/// The text is one of these, of which there are two at least; else the difference from the last.
+fn is_any<'a>(
+    part: &'static str,
+    found: &'a [u8],
+    texts: &'a [Value],
+) -> Result<(), Difference<'a>> {
+    if texts.len() < 2 {
+        return Err(UNKNOWN_FORM);
+    }
+    let mut last = Err(UNKNOWN_FORM);
+    for text in texts {
+        let Some(wanted) = text.as_str() else {
+            return Err(UNKNOWN_FORM);
+        };
+        last = is_same(part, found, wanted.as_bytes());
+        if last.is_ok() {
+            break;
+        }
+    }
+    last
+}
+
 /// The text of a member of an object. An empty one would ask for nothing.
 fn text_at<'a>(form: &'a Value, name: &str) -> Option<&'a [u8]> {
     let text = form.get(name)?.as_str()?;
@@ -72,6 +94,9 @@ fn is_of_object<'a>(
     }
     if let Some(wanted) = text_at(form, "ends") {
         return ends(part, found, wanted);
+    }
+    if let Some(texts) = form.get("any").and_then(Value::as_array) {
+        return is_any(part, found, texts.as_slice());
     }
     match form.get("lines").and_then(Value::as_u64) {
         Some(wanted) => has_lines(part, found, wanted),
@@ -132,5 +157,6 @@ pub(crate) fn holds<'a>(row: Row<'a>, answer: &'a Answer) -> Result<(), Differen
         });
     }
     part_holds("faults", answer.faults.bytes(), row.field("faults"))?;
-    part_holds("out", answer.out.bytes(), row.field("out"))
+    part_holds("out", answer.out.bytes(), row.field("out"))?;
+    part_holds("picture", &answer.picture, row.field("picture"))
 }

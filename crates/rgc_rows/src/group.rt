@@ -1,13 +1,15 @@
 //! A group of rows, run in order.
 
-use crate::answer::{Answer, Given, answer_to};
-use crate::content::bytes_of;
+use crate::answer::{Answer, answer_to};
 use crate::difference::Difference;
 use crate::expected::holds;
+use crate::files::{Contents, Given};
 use crate::row::{Row, names_fields};
 use crate::tally::Tally;
 use serde_json::Value;
 use std::alloc::{AllocError, Global};
+use std::sync::Wait;
+use std::thread::Threads;
 
 /// The words of a row, behind the program's name.
 fn words_of<'a>(alloc: Global, row: Row<'a>) -> Result<Vec<&'a str>, Difference<'static>> {
@@ -26,32 +28,28 @@ fn words_of<'a>(alloc: Global, row: Row<'a>) -> Result<Vec<&'a str>, Difference<
 }
 
 /// The answer to a row's words and to the files, which are given.
-fn answer_over(
+fn answer_over<R: Threads + Wait + Sync>(
+    threads: &R,
     alloc: Global,
     row: Row<'_>,
     given: Given<'_>,
 ) -> Result<Answer, Difference<'static>> {
     let words = words_of(alloc, row)?;
-    let answer = answer_to(alloc, words.as_slice(), given)?;
+    let answer = answer_to(threads, alloc, words.as_slice(), given)?;
     Ok(answer)
 }
 
 /// The answer to a row, whose fields have names that are known.
-fn answer_of<'a>(
+fn answer_of<'a, R: Threads + Wait + Sync>(
+    threads: &R,
     alloc: Global,
     row: Row<'a>,
     printed: &[Answer],
 ) -> Result<Answer, Difference<'a>> {
     names_fields(row.own, false)?;
-    let text = bytes_of(alloc, row.field("text"), printed)?;
-    let derivation = bytes_of(alloc, row.field("derivation"), printed)?;
-    let proofs = bytes_of(alloc, row.field("proofs"), printed)?;
-    let given = Given {
-        text: text.as_ref().map(|bytes| bytes.as_slice()),
-        derivation: derivation.as_ref().map(|bytes| bytes.as_slice()),
-        proofs: proofs.as_ref().map(|bytes| bytes.as_slice()),
-    };
-    answer_over(alloc, row, given)
+    let mut contents = Contents::empty();
+    contents.read(alloc, row, printed)?;
+    answer_over(threads, alloc, row, contents.given())
 }
 
 /// Where a row stands.
@@ -76,15 +74,16 @@ impl Place<'_> {
 }
 
 /// Runs a row: what it answered, or an empty answer where the row can't be read.
-fn run_row(
+fn run_row<R: Threads + Wait + Sync>(
     rt: &HostRuntime,
+    threads: &R,
     place: Place<'_>,
     own: &Value,
     group: &Value,
     printed: &[Answer],
     tally: &mut Tally,
 ) -> Answer {
-    match answer_of(rt.alloc(), Row { own, group }, printed) {
+    match answer_of(threads, rt.alloc(), Row { own, group }, printed) {
         Ok(answer) => {
             if let Err(difference) = holds(Row { own, group }, &answer) {
                 place.tell(rt, difference, tally);
@@ -99,8 +98,9 @@ fn run_row(
 }
 
 /// Runs the rows of a group in order.
-fn run_rows(
+fn run_rows<R: Threads + Wait + Sync>(
     rt: &HostRuntime,
+    threads: &R,
     file: &str,
     name: &str,
     group: &Value,
@@ -115,7 +115,7 @@ fn run_rows(
             group: name,
             number,
         };
-        let answer = run_row(rt, place, own, group, printed.as_slice(), tally);
+        let answer = run_row(rt, threads, place, own, group, printed.as_slice(), tally);
         if printed.push(answer).is_err() {
             place.tell(rt, AllocError.into(), tally);
         }
@@ -132,15 +132,16 @@ fn rows_of(group: &Value) -> Result<&[Value], Difference<'_>> {
 }
 
 /// Runs the rows of a group.
-pub(crate) fn run_group(
+pub(crate) fn run_group<R: Threads + Wait + Sync>(
     rt: &HostRuntime,
+    threads: &R,
     file: &str,
     name: &str,
     group: &Value,
     tally: &mut Tally,
 ) {
     match rows_of(group) {
-        Ok(rows) => run_rows(rt, file, name, group, rows, tally),
+        Ok(rows) => run_rows(rt, threads, file, name, group, rows, tally),
         Err(difference) => {
             tally.differs();
             let _ = println!(rt; "{file}: {name}: {difference}");

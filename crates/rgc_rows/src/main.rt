@@ -5,6 +5,7 @@ mod answer;
 mod content;
 mod difference;
 mod expected;
+mod files;
 mod group;
 mod row;
 mod tally;
@@ -15,6 +16,8 @@ use serde_json::Value;
 use std::fs::File;
 use std::io::Read;
 use std::process::ExitCode;
+use std::sync::Wait;
+use std::thread::Threads;
 use std::{env, io};
 
 /// A file's bytes.
@@ -26,7 +29,13 @@ fn read(rt: &HostRuntime, name: &str) -> io::Result<Vec<u8>> {
 }
 
 /// Runs the groups of a file that was read as JSON.
-fn run_groups(rt: &HostRuntime, file: &str, groups: &Value, tally: &mut Tally) {
+fn run_groups<R: Threads + Wait + Sync>(
+    rt: &HostRuntime,
+    threads: &R,
+    file: &str,
+    groups: &Value,
+    tally: &mut Tally,
+) {
     let Some(groups) = groups.as_object() else {
         tally.differs();
         let _ = println!(rt; "{file}: no object of groups");
@@ -37,14 +46,20 @@ fn run_groups(rt: &HostRuntime, file: &str, groups: &Value, tally: &mut Tally) {
         let _ = println!(rt; "{file}: no group");
     }
     for (name, group) in groups.iter() {
-        run_group(rt, file, name.as_str(), group, tally);
+        run_group(rt, threads, file, name.as_str(), group, tally);
     }
 }
 
 /// Runs the groups in a file's bytes.
-fn run_text(rt: &HostRuntime, file: &str, bytes: &[u8], tally: &mut Tally) {
+fn run_text<R: Threads + Wait + Sync>(
+    rt: &HostRuntime,
+    threads: &R,
+    file: &str,
+    bytes: &[u8],
+    tally: &mut Tally,
+) {
     match Value::from_slice(rt.alloc(), bytes) {
-        Ok(groups) => run_groups(rt, file, &groups, tally),
+        Ok(groups) => run_groups(rt, threads, file, &groups, tally),
         Err(error) => {
             tally.differs();
             let _ = println!(rt; "{file}: no JSON: {error}");
@@ -53,9 +68,14 @@ fn run_text(rt: &HostRuntime, file: &str, bytes: &[u8], tally: &mut Tally) {
 }
 
 /// Runs the groups of the file of this name.
-fn run_file(rt: &HostRuntime, file: &str, tally: &mut Tally) {
+fn run_file<R: Threads + Wait + Sync>(
+    rt: &HostRuntime,
+    threads: &R,
+    file: &str,
+    tally: &mut Tally,
+) {
     match read(rt, file) {
-        Ok(bytes) => run_text(rt, file, bytes.as_slice(), tally),
+        Ok(bytes) => run_text(rt, threads, file, bytes.as_slice(), tally),
         Err(error) => {
             tally.differs();
             let _ = println!(rt; "{file}: can't be read: {error}");
@@ -64,17 +84,21 @@ fn run_file(rt: &HostRuntime, file: &str, tally: &mut Tally) {
 }
 
 /// Runs the files that the words behind the program's name name.
-fn run_files(rt: &HostRuntime, tally: &mut Tally) -> io::Result<()> {
+fn run_files<R: Threads + Wait + Sync>(
+    rt: &HostRuntime,
+    threads: &R,
+    tally: &mut Tally,
+) -> io::Result<()> {
     let words: Vec<String> = env::args(rt)?.collect(rt.alloc())?;
     for word in words.iter().skip(1) {
-        run_file(rt, word.as_str(), tally);
+        run_file(rt, threads, word.as_str(), tally);
     }
     Ok(())
 }
 
 fn main(rt: HostRuntime) -> ExitCode {
     let mut tally = Tally::new();
-    if run_files(&rt, &mut tally).is_err() {
+    if run_files(&rt, &rt, &mut tally).is_err() {
         tally.differs();
         let _ = println!(rt; "the words can't be read");
     }

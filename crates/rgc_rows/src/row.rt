@@ -4,14 +4,17 @@ use crate::difference::Difference;
 use serde_json::Value;
 
 /// The fields that a row may have. Its group may have them too, as defaults.
-const FIELDS: [&str; 7] = [
+const FIELDS: [&str; 10] = [
     "words",
     "text",
     "derivation",
     "proofs",
+    "start",
+    "moves",
     "status",
     "out",
     "faults",
+    "picture",
 ];
 
 /// A row.

@@ -9,6 +9,8 @@ pub(crate) struct Texts {
     text: &'static str,
     derivation: &'static str,
     proofs: &'static str,
+    start: &'static str,
+    moves: &'static str,
 }
 
 /// A command over files, and what it prints.
@@ -25,6 +27,8 @@ impl Texts {
             text: Some(self.text.as_bytes()),
             derivation: Some(self.derivation.as_bytes()),
             proofs: Some(self.proofs.as_bytes()),
+            start: Some(self.start.as_bytes()),
+            moves: Some(self.moves.as_bytes()),
         }
     }
 }
@@ -45,12 +49,34 @@ const PROGRAM: Texts = Texts {
     text: TEXT,
     derivation: DERIVATION,
     proofs: PROOFS,
+    start: "",
+    moves: "",
 };
 
 const FORMULA: Texts = Texts {
     text: "words x:1 y:1 show (((x = 1) and (y = 1)) implies (x = 1))",
     derivation: "",
     proofs: "8 0 7 5 1 4 0",
+    start: "",
+    moves: "",
+};
+
+/// A part that waits for a move.
+const WAITING: Texts = Texts {
+    text: "words x:2 turn:1\npre true rely true guar true post true\npart p pre true rely true guar true post true\nbegin await (turn = 1) do x := 2; turn := 0 end end\n",
+    derivation: "line 1 atomic 1 pre true rely true guar true post true\n",
+    proofs: "",
+    start: "",
+    moves: "at 0 turn = 1",
+};
+
+/// Two parts, of which the first waits for the second.
+const IN_TURN: Texts = Texts {
+    text: "words x:1 y:1\npre true rely true guar true post true\npart a pre true rely true guar true post true\nbegin await (y = 1) do x := 1 end end\npart b pre true rely true guar true post true\nbegin await (x = 1) do y := 1 end end\n",
+    derivation: "line 1 atomic 1 pre true rely true guar true post true\nline 2 atomic 2 pre true rely true guar true post true\n",
+    proofs: "",
+    start: "x = 1",
+    moves: "",
 };
 
 const NUMBER: Printed = Printed {
@@ -88,6 +114,34 @@ const EMIT: Printed = Printed {
     text: "{\"parts\":[{\"blocks\":[[\"do\",8,1,[[0,[\"num 1\"]]]],[\"end\"]],\"name\":\"a\"},{\"blocks\":[[\"do\",11,1,[[1,[\"num 1\"]]]],[\"end\"]],\"name\":\"b\"}],\"words\":[[\"x\",1],[\"y\",1]]}\n",
 };
 
+const RUN_WITH_A_MOVE: Printed = Printed {
+    command: Command::Run {
+        text: "text",
+        derivation: "derivation",
+        proofs: "proofs",
+        start: None,
+        moves: Some("moves"),
+        limit: 10,
+        draw: None,
+    },
+    texts: WAITING,
+    text: "1 env 0 turn=0>1 in p\n2 p 4 x=0>2 turn=1>0 in p\nended\n",
+};
+
+const RUN_IN_TURN: Printed = Printed {
+    command: Command::Run {
+        text: "text",
+        derivation: "derivation",
+        proofs: "proofs",
+        start: Some("start"),
+        moves: None,
+        limit: 10,
+        draw: Some("draw"),
+    },
+    texts: IN_TURN,
+    text: "1 b 6 y=0>1 in a b\n2 a 4 same in a b\nended\n",
+};
+
 const CONDITION_CLAUSES: Printed = Printed {
     command: Command::Clauses {
         text: "text",
@@ -119,12 +173,14 @@ const CLAUSES: Printed = Printed {
 };
 
 /// A command of each kind whose whole output is known, but for those that search.
-pub(crate) fn rows() -> [Printed; 7] {
+pub(crate) fn rows() -> [Printed; 9] {
     [
         NUMBER,
         CHECK,
         CONDITIONS,
         EMIT,
+        RUN_WITH_A_MOVE,
+        RUN_IN_TURN,
         CONDITION_CLAUSES,
         VALID,
         CLAUSES,

@@ -8,7 +8,9 @@ use rgc::build;
 use rgc_line::Line;
 use rgc_perform::perform;
 use std::alloc::Global;
+use std::sync::Wait;
 use std::test::Fail;
+use std::thread::Threads;
 
 /// The whole text was printed, or refused memory was told.
 fn is_printed_or_told(text: &str, status: u8, out: &[u8], faults: &[u8]) -> bool {
@@ -19,19 +21,21 @@ fn is_printed_or_told(text: &str, status: u8, out: &[u8], faults: &[u8]) -> bool
 }
 
 /// A command prints what it has to, or tells refused memory.
-fn prints_or_tells(alloc: Global, row: &Printed) -> bool {
+fn prints_or_tells<R: Threads + Wait + Sync>(rt: &R, alloc: Global, row: &Printed) -> bool {
     let line = Line {
         command: row.command,
     };
     let mut out = [0u8; 600];
     let mut faults = [0u8; 100];
     let status = perform(
+        rt,
         alloc,
         &line,
         &row.texts.files(),
         &mut Device::new(out.as_mut_slice()),
         &mut Device::new(faults.as_mut_slice()),
         &mut Unwatched,
+        &mut Vec::new(alloc),
     );
     is_printed_or_told(row.text, status, out.as_slice(), faults.as_slice())
 }
@@ -39,7 +43,7 @@ fn prints_or_tells(alloc: Global, row: &Printed) -> bool {
 #[test]
 fn refused_memory_is_told_of_commands(rt: HostRuntime) -> Result<(), Fail> {
     for row in &rows() {
-        assert!(rt; prints_or_tells(rt.alloc(), row));
+        assert!(rt; prints_or_tells(&rt, rt.alloc(), row));
     }
     Ok(())
 }

@@ -6,7 +6,9 @@ use rg_words::{Fuse, Out, Taker};
 use rgc_line::{Command, Line};
 use rgc_perform::{Files, perform};
 use std::alloc::Global;
+use std::sync::Wait;
 use std::test::Fail;
+use std::thread::Threads;
 
 /// A beginning of the text of this length went out, and the status and the faults say whether that is all.
 fn tells_what_went_out(text: &str, kept: usize, status: u8, out: &[u8], faults: &[u8]) -> bool {
@@ -19,19 +21,26 @@ fn tells_what_went_out(text: &str, kept: usize, status: u8, out: &[u8], faults: 
 }
 
 /// A command tells its output's failure after so many bytes.
-fn tells_a_failure(alloc: Global, row: &Printed, kept: usize) -> bool {
+fn tells_a_failure<R: Threads + Wait + Sync>(
+    rt: &R,
+    alloc: Global,
+    row: &Printed,
+    kept: usize,
+) -> bool {
     let line = Line {
         command: row.command,
     };
     let mut out = Fuse::new(Taker::new(alloc, 1), kept as u64);
     let mut faults = Taker::new(alloc, 1);
     let status = perform(
+        rt,
         alloc,
         &line,
         &row.texts.files(),
         &mut out,
         &mut faults,
         &mut Unwatched,
+        &mut Vec::new(alloc),
     );
     tells_what_went_out(row.text, kept, status, out.inner().bytes(), faults.bytes())
 }
@@ -40,14 +49,18 @@ fn tells_a_failure(alloc: Global, row: &Printed, kept: usize) -> bool {
 fn tells_a_failing_output(rt: HostRuntime) -> Result<(), Fail> {
     for row in &rows() {
         for kept in 0..=row.text.len() {
-            assert!(rt; tells_a_failure(rt.alloc(), row, kept));
+            assert!(rt; tells_a_failure(&rt, rt.alloc(), row, kept));
         }
     }
     Ok(())
 }
 
 /// The status of `clauses` on a text, where the writer of faults fails after four bytes; none where other bytes went out.
-fn status_past_faults(alloc: Global, text: Option<&[u8]>) -> Option<u8> {
+fn status_past_faults<R: Threads + Wait + Sync>(
+    rt: &R,
+    alloc: Global,
+    text: Option<&[u8]>,
+) -> Option<u8> {
     let line = Line {
         command: Command::Clauses {
             text: "text",
@@ -58,10 +71,21 @@ fn status_past_faults(alloc: Global, text: Option<&[u8]>) -> Option<u8> {
         text,
         derivation: None,
         proofs: None,
+        start: None,
+        moves: None,
     };
     let mut out = Taker::new(alloc, 1);
     let mut faults = Fuse::new(Taker::new(alloc, 1), 4);
-    let status = perform(alloc, &line, &files, &mut out, &mut faults, &mut Unwatched);
+    let status = perform(
+        rt,
+        alloc,
+        &line,
+        &files,
+        &mut out,
+        &mut faults,
+        &mut Unwatched,
+        &mut Vec::new(alloc),
+    );
     if out.bytes().is_empty() && faults.inner().bytes().len() == 4 {
         return Some(status);
     }
@@ -70,7 +94,7 @@ fn status_past_faults(alloc: Global, text: Option<&[u8]>) -> Option<u8> {
 
 #[test]
 fn passes_over_failing_faults(rt: HostRuntime) -> Result<(), Fail> {
-    assert!(rt; status_past_faults(rt.alloc(), Some(b")".as_slice())) == Some(1));
-    assert!(rt; status_past_faults(rt.alloc(), None) == Some(3));
+    assert!(rt; status_past_faults(&rt, rt.alloc(), Some(b")".as_slice())) == Some(1));
+    assert!(rt; status_past_faults(&rt, rt.alloc(), None) == Some(3));
     Ok(())
 }

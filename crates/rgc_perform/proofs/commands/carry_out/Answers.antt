@@ -15,6 +15,9 @@ returns-in-Prove-clause-done g c = rw c.in-Prove.is (c.prove.ensures.done c.in-P
 pub returns-in-Emit-clause-done : goal.returns-in-Emit-clause-done
 returns-in-Emit-clause-done g c = rw c.in-Emit.is (c.emit.ensures.done c.in-Emit.text c.in-Emit.derivation c.in-Emit.proofs)
 
+pub returns-in-Run-clause-done : goal.returns-in-Run-clause-done
+returns-in-Run-clause-done g c = rw c.in-Run.is (c.run.ensures.done c.in-Run.text c.in-Run.derivation c.in-Run.proofs c.in-Run.draw)
+
 pub returns-in-Valid-clause-done : goal.returns-in-Valid-clause-done
 returns-in-Valid-clause-done g c = rw c.in-Valid.is (c.valid.ensures.done c.in-Valid.text c.in-Valid.proofs)
 
