@@ -30,10 +30,10 @@ text{font:13px ui-monospace,Menlo,Consolas,monospace;fill:#1f2933}
 ";
 
 /// How to read the picture.
-const LEGEND: &str = "<text class='e' x='24' y='58'>Each row is a step, numbered at the left. \
+const LEGEND: &str = "<text class='e' x='24' y='58'>Each row is a step. \
 Its mark stands in the lane of who made it, and holds the line of the statement.</text>
-<text class='e' x='24' y='76'>x=0&gt;1: the step changed the word x from 0 to 1. \
-A ring stands in the lane of each part whose guarantee covers the step.</text>
+<text class='e' x='24' y='76'>x=0&gt;1: the word x changed from 0 to 1. \
+A ring stands in the lane of each part whose guarantee covers it.</text>
 ";
 
 /// Draws the records of a run of this program, as an SVG document, behind what the text already holds. They are those behind the

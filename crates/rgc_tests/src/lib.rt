@@ -1,4 +1,4 @@
-//! What no command shows of the library: writers that fail, refused memory, the stages, typed programs, counts of decisions.
+//! What no command shows of the library: writers that fail, refused memory, the stages, typed programs, counts of decisions, runs whose parts are held.
 #![tactic(auto)]
 
 #[cfg(test)]
@@ -9,6 +9,8 @@ mod line;
 mod memory;
 #[cfg(test)]
 mod programs;
+#[cfg(test)]
+mod runs;
 #[cfg(test)]
 mod stages;
 #[cfg(test)]
