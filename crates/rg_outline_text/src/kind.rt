@@ -1,0 +1,85 @@
+//! The kinds of tokens.
+
+/// What a token is.
+#[derive(Clone, Copy, PartialEq, Eq)]
+pub enum Kind {
+    /// A name; `in`, `but`, `mod` and `aux` are names, too, which the grammar reads as words of its own where no name can stand.
+    Name,
+    /// A number with its value.
+    Number(u64),
+    Keyword(Keyword),
+    Symbol(Symbol),
+    /// The end of the outline, behind its last token.
+    End,
+}
+
+/// A word that names nothing.
+#[derive(Clone, Copy, PartialEq, Eq)]
+pub enum Keyword {
+    Words,
+    Fixed,
+    Pre,
+    Rely,
+    Guar,
+    Post,
+    Part,
+    Begin,
+    End,
+    Skip,
+    Await,
+    Do,
+    If,
+    Then,
+    Else,
+    While,
+    Not,
+    And,
+    Or,
+    Implies,
+    Iff,
+    True,
+    False,
+    Inv,
+    BitAnd,
+    BitOr,
+    BitXor,
+    ShiftLeft,
+    ShiftRight,
+    Atomic,
+    Let,
+    Invariant,
+    Owns,
+    Unchanged,
+    Keeps,
+    All,
+    Some,
+    Sum,
+    For,
+    /// A keyword of the language below that no outline has.
+    Reserved,
+}
+
+/// A sign.
+#[derive(Clone, Copy, PartialEq, Eq)]
+pub enum Symbol {
+    OpenParenthesis,
+    CloseParenthesis,
+    OpenBrace,
+    CloseBrace,
+    OpenBracket,
+    CloseBracket,
+    Colon,
+    Semicolon,
+    Comma,
+    Dots,
+    Assign,
+    Prime,
+    Plus,
+    Minus,
+    Equal,
+    NotEqual,
+    Less,
+    LessOrEqual,
+    Greater,
+    GreaterOrEqual,
+}

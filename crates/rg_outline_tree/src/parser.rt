@@ -1,0 +1,172 @@
+//! What the parser has read, and the tokens before it.
+
+use crate::written::{Expression, ExpressionKind, List, Written};
+use rg_outline_text::{Fault, Keyword, Kind, ShapeFault, Span, Symbol, Token, Tokens};
+use std::alloc::Global;
+
+/// How deep expressions, and blocks, may stand within one another.
+pub(crate) const DEEPEST: u32 = 1_000;
+
+/// A parser: the tokens with the place of the next one, and what was read.
+#[derive(Drop)]
+pub(crate) struct Parser<'a> {
+    pub(crate) source: &'a [u8],
+    pub(crate) tokens: &'a Tokens,
+    pub(crate) place: usize,
+    pub(crate) written: Written,
+    /// The items of the lists that aren't closed yet.
+    pending: Vec<usize>,
+}
+
+impl<'a> Parser<'a> {
+    pub(crate) fn new(alloc: Global, source: &'a [u8], tokens: &'a Tokens) -> Parser<'a> {
+        Parser {
+            source,
+            tokens,
+            place: 0,
+            written: Written::new(alloc),
+            pending: Vec::new(alloc),
+        }
+    }
+
+    /// The next token.
+    pub(crate) fn token(&self) -> Token {
+        self.tokens.at(self.place)
+    }
+
+    /// Where the next token stands.
+    pub(crate) fn span(&self) -> Span {
+        self.token().span
+    }
+
+    /// Goes on behind the next token.
+    pub(crate) fn step(&mut self) {
+        self.place = self.place.saturating_add(1);
+    }
+
+    /// From the beginning of a span to the end of the last token that was read.
+    pub(crate) fn since(&self, start: Span) -> Span {
+        start.to(self.tokens.at(self.place.saturating_sub(1)).span)
+    }
+
+    pub(crate) fn is_keyword(&self, keyword: Keyword) -> bool {
+        self.token().kind == Kind::Keyword(keyword)
+    }
+
+    pub(crate) fn is_symbol(&self, symbol: Symbol) -> bool {
+        self.token().kind == Kind::Symbol(symbol)
+    }
+
+    /// Whether the next token is a name with this text.
+    pub(crate) fn is_word(&self, text: &[u8]) -> bool {
+        self.token().kind == Kind::Name && self.span().of(self.source) == text
+    }
+
+    /// Goes on behind the symbol where it is next; whether it is.
+    pub(crate) fn takes(&mut self, symbol: Symbol) -> bool {
+        let is_next = self.is_symbol(symbol);
+        if is_next {
+            self.step();
+        }
+        is_next
+    }
+
+    /// Goes on behind the keyword where it is next; whether it is.
+    pub(crate) fn takes_keyword(&mut self, keyword: Keyword) -> bool {
+        let is_next = self.is_keyword(keyword);
+        if is_next {
+            self.step();
+        }
+        is_next
+    }
+
+    /// Goes on behind a name with this text where it is next; whether it is.
+    pub(crate) fn takes_word(&mut self, text: &[u8]) -> bool {
+        let is_next = self.is_word(text);
+        if is_next {
+            self.step();
+        }
+        is_next
+    }
+
+    /// What is told where another token is wanted.
+    pub(crate) fn fault(&self, fault: ShapeFault) -> Fault {
+        Fault::shape(fault, self.span())
+    }
+
+    /// Goes on behind the symbol, which has to be next.
+    pub(crate) fn want(&mut self, symbol: Symbol, wanted: &'static str) -> Result<(), Fault> {
+        if self.takes(symbol) {
+            Ok(())
+        } else {
+            Err(self.fault(ShapeFault::Wanted(wanted)))
+        }
+    }
+
+    /// Goes on behind the keyword, which has to be next.
+    pub(crate) fn want_keyword(
+        &mut self,
+        keyword: Keyword,
+        wanted: &'static str,
+    ) -> Result<(), Fault> {
+        if self.takes_keyword(keyword) {
+            Ok(())
+        } else {
+            Err(self.fault(ShapeFault::Wanted(wanted)))
+        }
+    }
+
+    /// Goes on behind `in`, which has to be next.
+    pub(crate) fn want_in(&mut self) -> Result<(), Fault> {
+        if self.takes_word(b"in") {
+            Ok(())
+        } else {
+            Err(self.fault(ShapeFault::Wanted("`in` is wanted here")))
+        }
+    }
+
+    /// A name of what is said, which has to be next.
+    pub(crate) fn name(&mut self, what: &'static str) -> Result<Span, Fault> {
+        match self.token().kind {
+            Kind::Name => {
+                let span = self.span();
+                self.step();
+                Ok(span)
+            }
+            Kind::Keyword(_) => Err(self.fault(ShapeFault::KeywordIsNoName(what))),
+            _ => Err(self.fault(ShapeFault::NameWanted(what))),
+        }
+    }
+
+    /// Adds an expression that ends with the last token that was read.
+    pub(crate) fn add(&mut self, start: Span, kind: ExpressionKind) -> Result<usize, Fault> {
+        let span = self.since(start);
+        let index = self.written.expressions.len();
+        self.written.expressions.push(Expression { kind, span })?;
+        Ok(index)
+    }
+
+    /// Where a new list begins among the items that aren't in closed lists.
+    pub(crate) fn mark(&self) -> usize {
+        self.pending.len()
+    }
+
+    /// Adds an item to the list that was opened last.
+    pub(crate) fn hold(&mut self, item: usize) -> Result<(), Fault> {
+        self.pending.push(item)?;
+        Ok(())
+    }
+
+    /// Closes the list that began at the mark.
+    pub(crate) fn close(&mut self, mark: usize) -> Result<List, Fault> {
+        let start = self.written.listed.len();
+        if let Some(items) = self.pending.get(mark..) {
+            self.written.listed.extend_from_slice(items)?;
+        }
+        self.pending.truncate(mark);
+        Ok(List {
+            start,
+            end: self.written.listed.len(),
+        })
+    }
+}
