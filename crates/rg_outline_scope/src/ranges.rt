@@ -1,0 +1,167 @@
+//! Numbers, ranges, and the instances of a tree.
+
+use crate::elaborate::{DEEPEST, Sort, fault};
+use crate::scope::Scope;
+use rg_outline_forest::Root;
+use rg_outline_text::{Fault, MeaningFault, Span};
+use rg_outline_tree::{Binder, Junction, List, Operator, Range};
+
+/// The most numbers of a range.
+const MOST_NUMBERS: u32 = 1_000;
+
+/// A quantifier or a sum.
+#[derive(Clone, Copy)]
+pub(crate) struct Quantifier {
+    pub(crate) binder: Binder,
+    pub(crate) index: Span,
+    pub(crate) range: usize,
+    pub(crate) body: usize,
+    pub(crate) span: Span,
+}
+
+impl Scope<'_> {
+    /// The number that an expression stands for.
+    pub(crate) fn known_number(&mut self, index: usize, what: &'static str) -> Result<i128, Fault> {
+        self.number_of(index, what, DEEPEST)
+    }
+
+    /// The numbers of a range, as places in `numbers`.
+    pub fn numbers_of(&mut self, range: usize) -> Result<List, Fault> {
+        self.range_of(range, DEEPEST)
+    }
+
+    /// The number at a place of `numbers`.
+    pub fn number_at(&self, place: usize) -> i128 {
+        self.numbers.get(place).copied().unwrap_or(0)
+    }
+
+    /// The number that an expression stands for.
+    #[cycle(elaborate)]
+    pub(crate) fn number_of(
+        &mut self,
+        index: usize,
+        what: &'static str,
+        depth: u32,
+    ) -> Result<i128, Fault> {
+        let tree = self.elaborate(index, depth)?;
+        match self.forest.number(tree) {
+            Some(number) => Ok(number),
+            None => Err(fault(
+                MeaningFault::NumberWanted(what),
+                self.expression(index).span,
+            )),
+        }
+    }
+
+    /// The range of an index.
+    fn written_range(&self, index: usize) -> Option<Range> {
+        self.written.ranges.get(index).copied()
+    }
+
+    /// The numbers of a range, as places in `numbers`.
+    #[cycle(elaborate)]
+    pub(crate) fn range_of(&mut self, index: usize, depth: u32) -> Result<List, Fault> {
+        let Some(range) = self.written_range(index) else {
+            return Ok(List::EMPTY);
+        };
+        let first = self.number_of(range.first, "a bound of a range", depth)?;
+        let last = self.number_of(range.last, "a bound of a range", depth)?;
+        let left_out = self.numbers.len();
+        for place in range.without.start..range.without.end {
+            let number = self.written.listed.get(place).copied().unwrap_or(0);
+            let number = self.number_of(number, "what is left out", depth)?;
+            self.numbers.push(number)?;
+        }
+        self.add_numbers(first, last, left_out, range.span)
+    }
+
+    /// Adds the numbers from one to another but for those that stand behind a place of `numbers`.
+    fn add_numbers(
+        &mut self,
+        first: i128,
+        last: i128,
+        left_out: usize,
+        span: Span,
+    ) -> Result<List, Fault> {
+        if last.saturating_sub(first) >= i128::from(MOST_NUMBERS) {
+            return Err(fault(MeaningFault::RangeTooLong, span));
+        }
+        let start = self.numbers.len();
+        let mut number = first;
+        for _ in 0..MOST_NUMBERS {
+            if number > last {
+                break;
+            }
+            if !self.is_left_out(number, left_out, start) {
+                self.numbers.push(number)?;
+            }
+            number = number.saturating_add(1);
+        }
+        Ok(List {
+            start,
+            end: self.numbers.len(),
+        })
+    }
+
+    fn is_left_out(&self, number: i128, from: usize, to: usize) -> bool {
+        let numbers = self.numbers.get(from..to).unwrap_or(&[]);
+        numbers.iter().any(|other| *other == number)
+    }
+
+    /// The instances of a tree, joined.
+    #[cycle(elaborate)]
+    pub(crate) fn quantified(
+        &mut self,
+        quantifier: Quantifier,
+        depth: u32,
+    ) -> Result<usize, Fault> {
+        self.refuse_taken(quantifier.index)?;
+        let numbers = self.range_of(quantifier.range, depth)?;
+        let mark = self.names.len();
+        let sort = match quantifier.binder {
+            Binder::Sum => Sort::Value,
+            _ => Sort::Formula,
+        };
+        let mut made = None;
+        for place in numbers.start..numbers.end {
+            self.forget(mark);
+            let number = self.number_at(place);
+            self.know_number(quantifier.index, quantifier.span, number)?;
+            let instance = self.sorted(quantifier.body, sort, depth)?;
+            made = Some(match made {
+                None => instance,
+                Some(before) => self.collected(quantifier, before, instance)?,
+            });
+        }
+        self.forget(mark);
+        match made {
+            Some(tree) => Ok(tree),
+            None => self.of_nothing(quantifier),
+        }
+    }
+
+    /// The next instance behind the ones before it.
+    fn collected(
+        &mut self,
+        quantifier: Quantifier,
+        before: usize,
+        instance: usize,
+    ) -> Result<usize, Fault> {
+        let span = quantifier.span;
+        match quantifier.binder {
+            Binder::All => self.forest.joined(Junction::And, before, instance, span),
+            Binder::Some => self.forest.joined(Junction::Or, before, instance, span),
+            Binder::Sum => { self.forest.operated(Operator::Add, before, instance, span) }
+        }
+    }
+
+    /// What an empty range makes.
+    fn of_nothing(&mut self, quantifier: Quantifier) -> Result<usize, Fault> {
+        let root = match quantifier.binder {
+            Binder::All => Root::Truth(true),
+            Binder::Some => Root::Truth(false),
+            Binder::Sum => Root::Number(0),
+        };
+        self.forest.leaf(root, quantifier.span)
+    }
+}
