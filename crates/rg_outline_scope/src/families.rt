@@ -1,16 +1,11 @@
 //! Words and families of words.
 
-use crate::scope::{Family, Meaning, Scope, Word};
-use rg_outline_text::{Fault, MeaningFault, Span, push_number};
+use crate::scope::Scope;
+use rg_outline_names::{Family, Meaning, Word, count_of, narrowed, push_member};
+use rg_outline_text::{Fault, MeaningFault, Span};
 use rg_outline_tree::{Declaration, Head, HeadKind, Let};
 use rg_words::limits::{MOST_WIDTH, MOST_WORDS};
 use std::alloc::AllocError;
-
-/// How many numbers there are from one to another.
-fn size_of(range: (i128, i128)) -> usize {
-    let size = range.1.saturating_sub(range.0).saturating_add(1);
-    usize::try_from(size).unwrap_or(0)
-}
 
 impl Scope<'_> {
     /// The family of a number; past the last one, a word without a name.
@@ -40,11 +35,7 @@ impl Scope<'_> {
     /// The first word of a family, and how many it has.
     pub(crate) fn all_members(&self, family: usize) -> (usize, usize) {
         let family = self.family(family);
-        let mut count: usize = 1;
-        for range in self.ranges_of(family) {
-            count = count.saturating_mul(size_of(*range));
-        }
-        (family.first_word, count)
+        (family.first_word, count_of(self.ranges_of(family)))
     }
 
     /// Of these members of a family those with the number as the index of this place.
@@ -58,20 +49,8 @@ impl Scope<'_> {
     ) -> Result<(usize, usize), Fault> {
         let family = self.family(family);
         let range = self.ranges_of(family).get(place).copied();
-        let (first, last) = range.unwrap_or((0, 0));
-        if number < first || number > last {
-            let kind = MeaningFault::OutsideFamily {
-                name: family.name,
-                index: number,
-                first,
-                last,
-            };
-            return Err(Fault::meaning(kind, self.span_of(index)));
-        }
-        let each = members.1.checked_div(size_of((first, last))).unwrap_or(0);
-        let before = usize::try_from(number.saturating_sub(first)).unwrap_or(0);
-        let start = members.0.saturating_add(before.saturating_mul(each));
-        Ok((start, each))
+        let span = self.span_of(index);
+        narrowed(family.name, range.unwrap_or((0, 0)), number, members, span)
     }
 
     /// Where an expression stands.
@@ -218,26 +197,16 @@ impl Scope<'_> {
     fn add_member(&mut self, family: usize, place: usize, count: usize) -> Result<(), AllocError> {
         let family = self.family(family);
         let name = self.text(family.name);
-        self.shown.unended().extend_from_slice(name)?;
-        self.members.unended().extend_from_slice(name)?;
-        let (mut rest, mut each) = (place, count);
-        for range in family.ranges.0..family.ranges.1 {
-            let (first, last) = self.ranges.get(range).copied().unwrap_or((0, 0));
-            each = each.checked_div(size_of((first, last))).unwrap_or(0);
-            let before = rest.checked_div(each).unwrap_or(0);
-            rest = rest.checked_rem(each).unwrap_or(0);
-            self.push_index(first.saturating_add(before as i128))?;
-        }
-        self.shown.end()?;
-        self.members.end()
-    }
-
-    /// Adds an index to the names of a member.
-    fn push_index(&mut self, index: i128) -> Result<(), AllocError> {
-        self.shown.unended().push(b'[')?;
-        push_number(self.shown.unended(), index)?;
-        self.shown.unended().push(b']')?;
-        self.members.unended().push(b'_')?;
-        push_number(self.members.unended(), index)
+        let ranges = self
+            .ranges
+            .get(family.ranges.0..family.ranges.1)
+            .unwrap_or(&[]);
+        push_member(
+            &mut self.shown,
+            &mut self.members,
+            name,
+            ranges,
+            (place, count),
+        )
     }
 }

@@ -3,11 +3,11 @@
 
 mod elaborate;
 mod families;
-mod groups;
 mod ranges;
 mod scope;
 mod uses;
 mod words;
 
 pub use rg_outline_forest::{Forest, Form, Reads, Root, Tree, bit_of};
-pub use scope::{Family, ListedWord, Meaning, Named, Scope, Word};
+pub use rg_outline_names::{Family, ListedWord, Meaning, Named, Word};
+pub use scope::Scope;

@@ -3,11 +3,9 @@
 use crate::elaborate::{DEEPEST, Sort, fault};
 use crate::scope::Scope;
 use rg_outline_forest::Root;
+use rg_outline_names::push_numbers;
 use rg_outline_text::{Fault, MeaningFault, Span};
 use rg_outline_tree::{Binder, Junction, List, Operator, Range};
-
-/// The most numbers of a range.
-const MOST_NUMBERS: u32 = 1_000;
 
 /// A quantifier or a sum.
 #[derive(Clone, Copy)]
@@ -72,40 +70,7 @@ impl Scope<'_> {
             let number = self.number_of(number, "what is left out", depth)?;
             self.numbers.push(number)?;
         }
-        self.add_numbers(first, last, left_out, range.span)
-    }
-
-    /// Adds the numbers from one to another but for those that stand behind a place of `numbers`.
-    fn add_numbers(
-        &mut self,
-        first: i128,
-        last: i128,
-        left_out: usize,
-        span: Span,
-    ) -> Result<List, Fault> {
-        if last.saturating_sub(first) >= i128::from(MOST_NUMBERS) {
-            return Err(fault(MeaningFault::RangeTooLong, span));
-        }
-        let start = self.numbers.len();
-        let mut number = first;
-        for _ in 0..MOST_NUMBERS {
-            if number > last {
-                break;
-            }
-            if !self.is_left_out(number, left_out, start) {
-                self.numbers.push(number)?;
-            }
-            number = number.saturating_add(1);
-        }
-        Ok(List {
-            start,
-            end: self.numbers.len(),
-        })
-    }
-
-    fn is_left_out(&self, number: i128, from: usize, to: usize) -> bool {
-        let numbers = self.numbers.get(from..to).unwrap_or(&[]);
-        numbers.iter().any(|other| *other == number)
+        push_numbers(&mut self.numbers, (first, last), left_out, range.span)
     }
 
     /// The instances of a tree, joined.

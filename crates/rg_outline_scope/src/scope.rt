@@ -1,56 +1,15 @@
 //! The names of an outline, each with the piece of the outline in which it is known.
 
 use rg_outline_forest::Forest;
+use rg_outline_names::{
+    Family, Meaning, Named, Word, find, near, push_bindings, refuse_widths, word_at,
+};
 use rg_outline_text::{Binding, Fault, MeaningFault, Span, Texts};
-use rg_outline_tree::{Let, Standing, Written};
+use rg_outline_tree::Written;
 use std::alloc::Global;
 
 /// The most steps of working out an outline.
 const MOST_STEPS: u64 = 20_000_000;
-
-/// What a name stands for.
-#[derive(Clone, Copy)]
-pub enum Meaning {
-    /// A word or a family of words, by its number.
-    Family(usize),
-    /// A formula or a value under a name, perhaps with parameters.
-    Let(Let),
-    /// A tree: an argument, or the number of an index.
-    Tree(usize),
-}
-
-/// A name, where it is known, and what it stands for.
-#[derive(Clone, Copy)]
-pub struct Named {
-    pub name: Span,
-    pub known: Span,
-    pub meaning: Meaning,
-}
-
-/// A word or a family of words.
-#[derive(Clone, Copy)]
-pub struct Family {
-    pub name: Span,
-    /// Its ranges: from here to there in the list of ranges.
-    pub ranges: (usize, usize),
-    /// The number of its first word.
-    pub first_word: usize,
-}
-
-/// A word of the text.
-#[derive(Clone, Copy)]
-pub struct Word {
-    pub width: u32,
-    pub standing: Standing,
-    pub family: usize,
-}
-
-/// A word in a list of words, and where it stands there.
-#[derive(Clone, Copy)]
-pub struct ListedWord {
-    pub word: usize,
-    pub span: Span,
-}
 
 /// What is known of an outline while it is worked out.
 #[derive(Drop)]
@@ -114,36 +73,14 @@ impl<'a> Scope<'a> {
         span.of(self.source)
     }
 
-    /// Whether a name is known at a place.
-    fn is_known(named: Named, place: Span) -> bool {
-        named.known.start <= place.start && place.start < named.known.end
-    }
-
     /// What has the name that stands here.
     pub(crate) fn find(&self, name: Span) -> Option<Named> {
-        let text = self.text(name);
-        for named in self.names.iter().rev() {
-            if Self::is_known(*named, name) && self.text(named.name) == text {
-                return Some(*named);
-            }
-        }
-        None
-    }
-
-    /// A name that is known here and nearly the one that stands here.
-    fn near(&self, name: Span) -> Option<Span> {
-        let text = self.text(name);
-        for named in &self.names {
-            if Self::is_known(*named, name) && is_near(self.text(named.name), text) {
-                return Some(named.name);
-            }
-        }
-        None
+        find(&self.names, self.source, name)
     }
 
     /// What is told where nothing has the name.
     pub(crate) fn nothing_named(&self, name: Span, span: Span) -> Fault {
-        let near = self.near(name);
+        let near = near(&self.names, self.source, name);
         Fault::meaning(MeaningFault::NothingNamed { near }, span)
     }
 
@@ -192,35 +129,21 @@ impl<'a> Scope<'a> {
     ///
     /// `FaultKind::Memory`.
     pub fn bindings(&self, bindings: &mut Vec<Binding>, place: Span) -> Result<(), Fault> {
-        for named in &self.names {
-            if let Meaning::Tree(tree) = named.meaning
-                && let Some(number) = self.forest.number(tree)
-                && Self::is_known(*named, place)
-            {
-                bindings.push(Binding {
-                    name: named.name,
-                    number,
-                })?;
-            }
-        }
-        Ok(())
+        push_bindings(bindings, &self.names, &self.forest, place)
     }
 
     /// The word of a number; past the last one, a word without bits.
     pub fn word(&self, word: usize) -> Word {
-        match self.words.get(word) {
-            Some(word) => *word,
-            None => Word {
-                width: 0,
-                standing: Standing::Fixed,
-                family: 0,
-            },
-        }
+        word_at(&self.words, word)
     }
-}
 
-/// Whether one of two names begins with the other, or they differ in case alone.
-fn is_near(known: &[u8], text: &[u8]) -> bool {
-    known.eq_ignore_ascii_case(text)
-        || (known.len() > 2 && (known.starts_with(text) || text.starts_with(known)))
+    /// Refuses two values that aren't of one width.
+    pub(crate) fn refuse_widths(
+        &self,
+        first: usize,
+        second: usize,
+        span: Span,
+    ) -> Result<(), Fault> {
+        refuse_widths(&self.forest, &self.words, self.alloc, (first, second), span)
+    }
 }

@@ -1,8 +1,9 @@
 //! Names as they are used: the trees for which they stand.
 
 use crate::elaborate::fault;
-use crate::scope::{Meaning, Scope};
+use crate::scope::Scope;
 use rg_outline_forest::Root;
+use rg_outline_names::Meaning;
 use rg_outline_text::{Fault, MeaningFault, Span};
 use rg_outline_tree::{Let, List};
 

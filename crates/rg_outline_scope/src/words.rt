@@ -1,10 +1,11 @@
 //! Words and lists of words, and that they keep their values.
 
 use crate::elaborate::{DEEPEST, fault};
-use crate::scope::{ListedWord, Meaning, Named, Scope};
+use crate::scope::Scope;
 use rg_outline_forest::Root;
+use rg_outline_names::{ListedWord, Meaning, Named, all_same, push_words, same, words_but};
 use rg_outline_text::{Fault, MeaningFault, Span};
-use rg_outline_tree::{Comparison, Expression, ExpressionKind, List, Standing};
+use rg_outline_tree::{Expression, ExpressionKind, List};
 
 impl Scope<'_> {
     /// The words of a list, each once; a family without its last indices stands for all members that fit.
@@ -119,7 +120,7 @@ impl Scope<'_> {
                 self.member(family, listed, span, depth)?;
             }
             let (first, count) = self.members(family, listed, depth)?;
-            add_words(words, first, count, span)?;
+            push_words(words, (first, count), span)?;
         }
         Ok(())
     }
@@ -153,11 +154,7 @@ impl Scope<'_> {
     /// All words but these and the fixed ones, each with its equation.
     fn all_same_but(&mut self, but: &[ListedWord], span: Span) -> Result<usize, Fault> {
         let mut listed = Vec::new(self.alloc);
-        for word in 0..self.words.len() {
-            if self.word(word).standing != Standing::Fixed && !is_listed(but, word) {
-                listed.push(ListedWord { word, span })?;
-            }
-        }
+        words_but(&mut listed, &self.words, but, span)?;
         self.all_same(&listed, span)
     }
 
@@ -168,12 +165,7 @@ impl Scope<'_> {
 
     /// The equations of words, conjoined.
     pub fn all_same(&mut self, words: &[ListedWord], span: Span) -> Result<usize, Fault> {
-        let mut equations = Vec::new(self.alloc);
-        for listed in words {
-            let equation = self.same(listed.word, span)?;
-            equations.push(equation)?;
-        }
-        self.forest.conjoined(&equations, span)
+        all_same(&mut self.forest, self.alloc, words, span)
     }
 
     /// A word in the first state.
@@ -187,37 +179,6 @@ impl Scope<'_> {
 
     /// That a word keeps its value.
     pub fn same(&mut self, word: usize, span: Span) -> Result<usize, Fault> {
-        let primed = Root::Word {
-            word,
-            is_primed: true,
-        };
-        let plain = Root::Word {
-            word,
-            is_primed: false,
-        };
-        let first = self.forest.leaf(primed, span)?;
-        let second = self.forest.leaf(plain, span)?;
-        self.forest
-            .binary(Root::Compare(Comparison::Equal), first, second, span)
+        same(&mut self.forest, word, span)
     }
-}
-
-/// Whether a word is in the list.
-pub(crate) fn is_listed(words: &[ListedWord], word: usize) -> bool {
-    words.iter().any(|listed| listed.word == word)
-}
-
-/// Adds words from one on, where they aren't in the list.
-fn add_words(
-    words: &mut Vec<ListedWord>,
-    first: usize,
-    count: usize,
-    span: Span,
-) -> Result<(), Fault> {
-    for word in first..first.saturating_add(count) {
-        if !is_listed(words, word) {
-            words.push(ListedWord { word, span })?;
-        }
-    }
-    Ok(())
 }
