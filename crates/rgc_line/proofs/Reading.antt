@@ -6,7 +6,7 @@ use Rattle.rgc_line.specs.Inner.Table.{rule_of_form, rule_at, shape_at, id_at, I
 use Rattle.rgc_line.proofs.Build.{no_field, no_row}
 use Rattle.rgc_line.specs.declared.commands.Field.{Field}
 use Rattle.rgc_line.specs.declared.commands.Form.{Form}
-use Rattle.rgc_line.specs.declared.commands.Form.TheVariants.{File, OptionalFile, OptionalNumber, NumberOrMillion}
+use Rattle.rgc_line.specs.declared.commands.Form.TheVariants.{File, OptionalFile, OptionalNumber, NeededNumber, NumberOrMillion}
 use Rattle.rgc_line.specs.declared.commands.Row.{Row}
 
 -- the argument of a form and an id has the id
@@ -14,6 +14,7 @@ rule_of_form-id : (form : Form) (id : Text) → (rule_of_form form id).id ≡ id
 rule_of_form-id File id = refl
 rule_of_form-id OptionalFile id = refl
 rule_of_form-id OptionalNumber id = refl
+rule_of_form-id NeededNumber id = refl
 rule_of_form-id NumberOrMillion id = refl
 
 -- the id at a place of a row's fields

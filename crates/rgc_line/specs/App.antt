@@ -5,7 +5,7 @@ use Rattle.clap.specs.Simple.{new_shape}
 use Rattle.clap.specs.declared.builder.value_parser.ValueParser.{ValueParser}
 use Rattle.clap.specs.declared.builder.value_parser.ValueParser.TheVariants as parser
 use Rattle.rgc_line.specs.declared.commands.Kind.{Kind}
-use Rattle.rgc_line.specs.declared.commands.Kind.TheVariants.{Number, Check, Conditions, Prove, Emit, Run, Valid, Clauses, Find}
+use Rattle.rgc_line.specs.declared.commands.Kind.TheVariants.{Number, Check, Conditions, Prove, Emit, Run, Valid, Clauses, Find, Explain}
 
 -- a file that has to be named
 abbrev pub file_rule : Text → Rule
@@ -25,6 +25,10 @@ numbers = parser.Unsigned 0 18446744073709551615
 -- an option with a number, which may be left out
 abbrev pub number_rule : Text → Rule
 number_rule id = record (option_rule id) { parser = Some numbers }
+
+-- a number that has to be given
+abbrev pub needed_rule : Text → Rule
+needed_rule id = record (file_rule id) { parser = Some numbers }
 
 -- an option with a number, which is 1000000 where it isn't given
 abbrev pub default_rule : Text → Rule
@@ -70,6 +74,10 @@ draw = option_rule (codes "draw")
 abbrev pub limit : Rule
 limit = default_rule (codes "limit")
 
+-- the number of a refusal
+abbrev pub refusal : Rule
+refusal = needed_rule (codes "NUMBER")
+
 -- a command with these arguments and no subcommands
 abbrev pub leaf : Text → List Rule → Shape
 leaf name rules = record (new_shape name) { rules = rules }
@@ -85,10 +93,11 @@ row_of Run = leaf (codes "run") (text ∷ derivation ∷ proofs ∷ start ∷ mo
 row_of Valid = leaf (codes "valid") (text ∷ proofs ∷ [])
 row_of Clauses = leaf (codes "clauses") (text ∷ chosen_derivation ∷ chosen_condition ∷ [])
 row_of Find = leaf (codes "find") (text ∷ chosen_derivation ∷ chosen_condition ∷ steps ∷ [])
+row_of Explain = leaf (codes "explain") (refusal ∷ [])
 
 -- the commands in the order in which the help lists them
 abbrev pub kinds : List Kind
-kinds = Number ∷ Check ∷ Conditions ∷ Prove ∷ Emit ∷ Run ∷ Valid ∷ Clauses ∷ Find ∷ []
+kinds = Number ∷ Check ∷ Conditions ∷ Prove ∷ Emit ∷ Run ∷ Valid ∷ Clauses ∷ Find ∷ Explain ∷ []
 
 -- the command with no subcommands
 abbrev pub rgc_top : App

@@ -22,6 +22,9 @@ fn argument<'a>(alloc: Global, field: &Field) -> Arg<'a>
             .long(field.id)
             .value_name("K")
             .value_parser(clap::value_parser!(u64)),
+        Form::NeededNumber => argument
+            .required(true)
+            .value_parser(clap::value_parser!(u64)),
         Form::NumberOrMillion => argument
             .long(field.id)
             .value_name("N")

@@ -70,12 +70,16 @@ pub enum Command<'a> {
         steps: u64,
         chosen: Option<Chosen<'a>>,
     },
+    /// What a refusal of this number means.
+    Explain {
+        number: u64,
+    },
 }
 
 /// The files that a command reads, each by its path as given; none where it has none.
 #[derive(Clone, Copy)]
 pub struct Named<'a> {
-    pub text: &'a str,
+    pub text: Option<&'a str>,
     pub derivation: Option<&'a str>,
     pub proofs: Option<&'a str>,
     pub start: Option<&'a str>,
@@ -88,7 +92,7 @@ impl<'a> Command<'a> {
         ensures { result ≡ named self.now }
     {
         let (text, derivation, proofs) = match *self {
-            Command::Number { text } => (text, None, None),
+            Command::Number { text } => (Some(text), None, None),
             Command::Check {
                 text,
                 derivation,
@@ -104,17 +108,18 @@ impl<'a> Command<'a> {
                 derivation,
                 proofs,
                 ..
-            } => (text, Some(derivation), Some(proofs)),
+            } => (Some(text), Some(derivation), Some(proofs)),
             Command::Conditions { text, derivation }
             | Command::Prove {
                 text,
                 derivation,
                 ..
-            } => (text, Some(derivation), None),
-            Command::Valid { text, proofs } => (text, None, Some(proofs)),
+            } => (Some(text), Some(derivation), None),
+            Command::Valid { text, proofs } => (Some(text), None, Some(proofs)),
             Command::Clauses { text, chosen } | Command::Find { text, chosen, .. } => {
-                (text, chosen.map(|chosen| chosen.derivation), None)
+                (Some(text), chosen.map(|chosen| chosen.derivation), None)
             }
+            Command::Explain { .. } => (None, None, None),
         };
         let (start, moves) = match *self {
             Command::Run { start, moves, .. } => (start, moves),

@@ -12,6 +12,7 @@ pub enum Kind {
     Valid,
     Clauses,
     Find,
+    Explain,
 }
 
 /// How a field is written on a line.
@@ -23,6 +24,8 @@ pub enum Form {
     OptionalFile,
     /// A number that may be left out, after `--` and the field's id.
     OptionalNumber,
+    /// A number that has to be given, by its place.
+    NeededNumber,
     /// A number after `--` and the field's id, which is 1,000,000 where it isn't given.
     NumberOrMillion,
 }
@@ -116,6 +119,12 @@ const LIMIT: Field = Field {
     help: "the most steps of the parts",
 };
 
+const REFUSAL: Field = Field {
+    form: Form::NeededNumber,
+    id: "NUMBER",
+    help: "the number of a refusal",
+};
+
 const DRAW: Field = Field {
     form: Form::OptionalFile,
     id: "draw",
@@ -123,7 +132,7 @@ const DRAW: Field = Field {
 };
 
 /// The commands, in the order in which the help lists them.
-pub static COMMANDS: [Row; 9] = [
+pub static COMMANDS: [Row; 10] = [
     Row {
         kind: Kind::Number,
         name: "number",
@@ -182,5 +191,11 @@ pub static COMMANDS: [Row; 9] = [
             CHOSEN_CONDITION,
             STEPS,
         ],
+    },
+    Row {
+        kind: Kind::Explain,
+        name: "explain",
+        about: "Says what a refusal means and what to do, with an example that meets it",
+        fields: &[REFUSAL],
     },
 ];

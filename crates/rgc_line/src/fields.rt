@@ -148,6 +148,9 @@ impl<'a> Given<'_, 'a> {
                 chosen: chosen(self.matches)?,
                 steps: self.number(3)?,
             }),
+            Kind::Explain => Ok(Command::Explain {
+                number: self.number(0)?,
+            }),
         }
     }
 }

@@ -197,7 +197,7 @@ impl Contents {
 
     /// Reads the files.
     fn read(&mut self, rt: &HostRuntime, named: &Named<'_>) -> Result<(), AllocError> {
-        self.text = bytes_of(rt, named.text, MOST_TEXT_BYTES)?;
+        self.text = bytes_of_named(rt, named.text, MOST_TEXT_BYTES)?;
         self.derivation = bytes_of_named(rt, named.derivation, MOST_TEXT_BYTES)?;
         self.proofs = bytes_of_named(rt, named.proofs, MOST_PROOF_BYTES)?;
         self.start = bytes_of_named(rt, named.start, MOST_TEXT_BYTES)?;

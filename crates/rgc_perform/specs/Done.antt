@@ -20,7 +20,9 @@ use Rattle.rg_code.specs.CodeTrees.{code_blocks, names_of_code}
 use Rattle.rg_code.specs.declared.code.Code.{Code}
 use Rattle.rgc_line.specs.declared.command.Chosen.{Chosen}
 use Rattle.rgc_line.specs.declared.command.Command.{Command}
-use Rattle.rgc_line.specs.declared.command.Command.TheVariants.{Number, Check, Conditions, Prove, Emit, Run, Valid, Clauses, Find}
+use Rattle.rgc_line.specs.declared.command.Command.TheVariants.{Number, Check, Conditions, Prove, Emit, Run, Valid, Clauses, Find, Explain}
+use Rattle.rgc_explain.specs.Explanation.{explanation_text}
+use Rattle.rgc_explain.specs.declared.entries.Entry.{Entry}
 use Rattle.rgc.specs.Accepted.{conditions_of, AreAccepted, IsBuiltText}
 use Rattle.rg_parse.specs.Programs.{SpellsProgram}
 use Rattle.rgc.specs.Chosen.{AreDerived, IsChosen}
@@ -111,6 +113,11 @@ pub record HasPrintedConditionLines (text derivation : List ℕ) (number : ℕ) 
   pub holds : ConditionHolds condition
   pub printed : Appends old new (section_text section)
 
+-- what a refusal of this number means went out
+pub record HasPrintedExplanation (number : ℕ) (old new : Option (List ℕ)) : Type 0 where
+  pub entry : Entry
+  pub printed : Appends old new (explanation_text number entry)
+
 -- the clauses of the formula went out, or those of the chosen condition
 abbrev pub AreClausesDone : Option Chosen → List ℕ → Option (Bor (List ℕ)) → Option (List ℕ) → Option (List ℕ) → Type 0
 AreClausesDone None text _ old new = HasPrintedClauses text old new
@@ -135,6 +142,7 @@ Does (Emit _ _ _) (Some text) (Some derivation) (Some proofs) _ _ old new = HasP
 Does (Valid _ _) (Some text) _ (Some proofs) _ _ old new = HasPrintedHolds text.now proofs.now old new
 Does (Clauses _ chosen) (Some text) derivation _ _ _ old new = AreClausesDone chosen text.now derivation old new
 Does (Find _ _ chosen) (Some text) derivation _ _ _ old new = AreLinesDone chosen text.now derivation old new
+Does (Explain number) _ _ _ _ _ old new = HasPrintedExplanation number old new
 Does _ _ _ _ _ _ _ _ = ⊥
 
 -- the command is done: its output went out, and what it says holds of the files

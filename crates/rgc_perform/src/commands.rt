@@ -3,17 +3,19 @@
 ghost use Rattle.std.specs.Prelude.{◌≡◌, ◌≤◌, ℕ, List, IsTrue, Option, Some, IfOk, OnOk, OnErr};
 ghost use Rattle.std.specs.Borrow.{Bor};
 ghost use Rattle.rg_words.specs.Written.{CanCount};
-ghost use Rattle.rgc_line.specs.declared.command.Command.TheVariants.{Number, Check, Conditions, Prove, Emit, Run, Valid, Clauses, Find};
+ghost use Rattle.rgc_line.specs.declared.command.Command.TheVariants.{Number, Check, Conditions, Prove, Emit, Run, Valid, Clauses, Find, Explain};
 ghost use Rattle.rgc_perform.specs.Done.{IsDone};
 ghost use Rattle.rgc_perform.specs.Running.{IsRead};
 
 use crate::printed::{
     print_accepted, print_clauses, print_condition_clauses, print_condition_found,
-    print_conditions, print_found, print_listing, print_numbers, print_proofs, print_valid,
+    print_conditions, print_explanation, print_found, print_listing, print_numbers, print_proofs,
+    print_valid,
 };
 use crate::running::{RunFiles, print_run};
 use rg_find::Watcher;
 use rg_words::{Out, Refusal, RefusalNumber, write_all};
+use rgc_explain::entry_of;
 use rgc_line::{Chosen, Command, Line};
 use std::alloc::Global;
 use std::sync::Wait;
@@ -34,6 +36,8 @@ enum Stop {
     /// A file can't be read; the line that says so.
     Device(&'static str),
     Refused(Refusal),
+    /// No refusal has the number to explain.
+    Unknown,
     /// The output says that no proof was found.
     Told,
 }
@@ -253,6 +257,20 @@ fn find<W: Out, P: Watcher>(
     }
 }
 
+/// Prints what a refusal means.
+fn explain<W: Out>(alloc: Global, number: u64, files: &Files<'_>, out: &mut W) -> Result<(), Stop>
+    requires { CanCount (W.failures out.old) }
+    ensures done { OnOk result (IsDone (Explain number) files.now (W.contents out.old) (W.contents out.new)) }
+    ensures failures { OnOk result (W.failures out.new ≡ W.failures out.old) }
+{
+    let _ = files;
+    let Some(entry) = entry_of(number) else {
+        return Err(Stop::Unknown);
+    };
+    print_explanation(alloc, number, entry, out)?;
+    Ok(())
+}
+
 /// Does the command, or says why not.
 fn carry_out<R: Threads + Wait + Sync, W: Out, F: Out, P: Watcher>(
     rt: &R,
@@ -294,6 +312,7 @@ fn carry_out<R: Threads + Wait + Sync, W: Out, F: Out, P: Watcher>(
         Command::Valid { .. } => valid(alloc, files, out),
         Command::Clauses { chosen, .. } => clauses(alloc, chosen, files, out),
         Command::Find { steps, chosen, .. } => find(alloc, steps, chosen, files, out, watcher),
+        Command::Explain { number } => explain(alloc, number, files, out),
     }
 }
 
@@ -323,8 +342,17 @@ fn tell_device<F: Out>(line: &str, faults: &mut F) -> u8
     3
 }
 
-/// Does the command over the bytes of its files, and answers the program's status: 0 done, 1 refused or no proof found, 3 where a file can't be read,
-/// where the output can't be written, or where memory is refused. A refusal is one line on `faults`; moves of a run that were passed over
+/// Tells that no refusal has the number; the status. A failing write is passed over.
+fn tell_unknown<F: Out>(faults: &mut F) -> u8
+    requires { CanCount (F.failures faults.old) }
+    ensures { result ≡ 2 }
+{
+    let _ = write_all(faults, b"error: no refusal has this number\n");
+    2
+}
+
+/// Does the command over the bytes of its files, and answers the program's status: 0 done, 1 refused or no proof found, 2 where no
+/// refusal has the number to explain, 3 where a file can't be read, where the output can't be written, or where memory is refused. A refusal is one line on `faults`; moves of a run that were passed over
 /// are told there, and change no status. The watcher is told of a long search. A run that is drawn has its picture put behind what
 /// `picture` holds; of it nothing is promised.
 pub fn perform<R: Threads + Wait + Sync, W: Out, F: Out, P: Watcher>(
@@ -356,6 +384,7 @@ pub fn perform<R: Threads + Wait + Sync, W: Out, F: Out, P: Watcher>(
         Ok(()) => 0,
         Err(Stop::Device(line)) => tell_device(line, faults),
         Err(Stop::Told) => 1,
+        Err(Stop::Unknown) => tell_unknown(faults),
         Err(Stop::Refused(refusal)) => tell_refusal(alloc, refusal, faults),
     }
 }

@@ -6,7 +6,7 @@ ghost use Rattle.rg_words.specs.Written.{CanCount};
 ghost use Rattle.rg_hints.specs.Proved.{AreProved};
 ghost use Rattle.rgc.specs.Accepted.{conditions_of};
 ghost use Rattle.rgc.specs.Stages.{derived_program, derived_lines};
-ghost use Rattle.rgc_perform.specs.Done.{HasPrintedNumbers, HasPrintedAccepted, HasPrintedConditions, HasPrintedProofs, HasPrintedListing, HasPrintedHolds, HasPrintedClauses, HasPrintedConditionClauses, HasPrintedLines, HasPrintedConditionLines};
+ghost use Rattle.rgc_perform.specs.Done.{HasPrintedNumbers, HasPrintedAccepted, HasPrintedConditions, HasPrintedProofs, HasPrintedListing, HasPrintedHolds, HasPrintedClauses, HasPrintedConditionClauses, HasPrintedLines, HasPrintedConditionLines, HasPrintedExplanation};
 
 use crate::conditions::{write_conditions, write_listing};
 use crate::judged::print_judged;
@@ -18,6 +18,7 @@ use rgc::{
     Derived, Parsed, ProofsFound, accept, build, clauses, condition_clauses, derive_program, find,
     find_condition, find_proofs, valid,
 };
+use rgc_explain::{Entry, explanation};
 use std::alloc::Global;
 
 /// Prints the statements of a program with their numbers.
@@ -195,4 +196,20 @@ pub(crate) fn print_condition_found<W: Out, P: Watcher>(
 {
     let (condition, judged) = find_condition(alloc, text, derivation, number, steps, watcher)?;
     print_judged(alloc, &condition, &judged, out)
+}
+
+/// Prints what a refusal of this number means.
+pub(crate) fn print_explanation<W: Out>(
+    alloc: Global,
+    number: u64,
+    entry: Entry,
+    out: &mut W,
+) -> Result<(), Refusal>
+    requires { CanCount (W.failures out.old) }
+    ensures printed { OnOk result (HasPrintedExplanation number (W.contents out.old) (W.contents out.new)) }
+    ensures failures { OnOk result (W.failures out.new ≡ W.failures out.old) }
+{
+    let text = explanation(alloc, number, entry)?;
+    write_all(out, text.as_bytes())?;
+    Ok(())
 }

@@ -90,7 +90,7 @@ fn performed<R: Threads + Wait + Sync>(
 ) -> Answer {
     let named = line.command.named();
     let files = Files {
-        text: given.read(Some(named.text), MOST_TEXT_BYTES),
+        text: given.read(named.text, MOST_TEXT_BYTES),
         derivation: given.read(named.derivation, MOST_TEXT_BYTES),
         proofs: given.read(named.proofs, MOST_PROOF_BYTES),
         start: given.read(named.start, MOST_TEXT_BYTES),

@@ -4,19 +4,20 @@ use Rattle.std.specs.Borrow.{Bor}
 use Rattle.clap.specs.Words.{App, Rule, Row as Given, Shape, Text, app_of, first_of, with_subcommand}
 use Rattle.clap.specs.declared.builder.command.Command.{Command}
 use Rattle.clap.specs.declared.builder.command.Command.TheViews.{out-Command}
-use Rattle.rgc_line.specs.App.{file_rule, option_rule, number_rule, default_rule, leaf, row_of, chosen_derivation, chosen_condition}
+use Rattle.rgc_line.specs.App.{file_rule, option_rule, number_rule, needed_rule, default_rule, leaf, row_of, chosen_derivation, chosen_condition}
 use Rattle.rgc_line.specs.Line.{HasFile, HasNumber, HasNo}
 use Rattle.rgc_line.specs.declared.command.Chosen.{Chosen}
 use Rattle.rgc_line.specs.declared.commands.Field.{Field}
 use Rattle.rgc_line.specs.declared.commands.Row.{Row}
 use Rattle.rgc_line.specs.declared.commands.Form.{Form}
-use Rattle.rgc_line.specs.declared.commands.Form.TheVariants.{File, OptionalFile, OptionalNumber, NumberOrMillion}
+use Rattle.rgc_line.specs.declared.commands.Form.TheVariants.{File, OptionalFile, OptionalNumber, NeededNumber, NumberOrMillion}
 
 -- the argument of a form and an id
 abbrev pub rule_of_form : Form → Text → Rule
 rule_of_form File id = file_rule id
 rule_of_form OptionalFile id = option_rule id
 rule_of_form OptionalNumber id = number_rule id
+rule_of_form NeededNumber id = needed_rule id
 rule_of_form NumberOrMillion id = default_rule id
 
 -- the argument that a field is
