@@ -1,0 +1,7 @@
+//! From the bytes of an outline to the two files that stand for it, a program's text and its derivation; or to the lines that tell its first fault.
+#![tactic(auto)]
+
+mod files;
+mod told;
+
+pub use files::{NoFiles, OutlineFiles};
