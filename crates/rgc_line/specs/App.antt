@@ -5,7 +5,7 @@ use Rattle.clap.specs.Simple.{new_shape}
 use Rattle.clap.specs.declared.builder.value_parser.ValueParser.{ValueParser}
 use Rattle.clap.specs.declared.builder.value_parser.ValueParser.TheVariants as parser
 use Rattle.rgc_line.specs.declared.commands.Kind.{Kind}
-use Rattle.rgc_line.specs.declared.commands.Kind.TheVariants.{Number, Check, Conditions, Prove, Emit, Run, Valid, Clauses, Find, Explain}
+use Rattle.rgc_line.specs.declared.commands.Kind.TheVariants.{Number, Check, Conditions, Prove, Emit, Run, Valid, Clauses, Find, Outline, Explain}
 
 -- a file that has to be named
 abbrev pub file_rule : Text → Rule
@@ -74,6 +74,14 @@ draw = option_rule (codes "draw")
 abbrev pub limit : Rule
 limit = default_rule (codes "limit")
 
+-- the file with an outline
+abbrev pub outline : Rule
+outline = file_rule (codes "OUTLINE")
+
+-- the option with a file to write a derivation to
+abbrev pub written_derivation : Rule
+written_derivation = option_rule (codes "derivation")
+
 -- the number of a refusal
 abbrev pub refusal : Rule
 refusal = needed_rule (codes "NUMBER")
@@ -93,11 +101,12 @@ row_of Run = leaf (codes "run") (text ∷ derivation ∷ proofs ∷ start ∷ mo
 row_of Valid = leaf (codes "valid") (text ∷ proofs ∷ [])
 row_of Clauses = leaf (codes "clauses") (text ∷ chosen_derivation ∷ chosen_condition ∷ [])
 row_of Find = leaf (codes "find") (text ∷ chosen_derivation ∷ chosen_condition ∷ steps ∷ [])
+row_of Outline = leaf (codes "outline") (outline ∷ written_derivation ∷ [])
 row_of Explain = leaf (codes "explain") (refusal ∷ [])
 
 -- the commands in the order in which the help lists them
 abbrev pub kinds : List Kind
-kinds = Number ∷ Check ∷ Conditions ∷ Prove ∷ Emit ∷ Run ∷ Valid ∷ Clauses ∷ Find ∷ Explain ∷ []
+kinds = Number ∷ Check ∷ Conditions ∷ Prove ∷ Emit ∷ Run ∷ Valid ∷ Clauses ∷ Find ∷ Outline ∷ Explain ∷ []
 
 -- the command with no subcommands
 abbrev pub rgc_top : App

@@ -5,7 +5,7 @@ use Rattle.clap.specs.Words.{Text}
 use Rattle.rgc_line.specs.declared.command.Named.{Named}
 use Rattle.rgc_line.specs.declared.command.Chosen.{Chosen}
 use Rattle.rgc_line.specs.declared.command.Command.{Command}
-use Rattle.rgc_line.specs.declared.command.Command.TheVariants.{Number, Check, Conditions, Prove, Emit, Run, Valid, Clauses, Find, Explain}
+use Rattle.rgc_line.specs.declared.command.Command.TheVariants.{Number, Check, Conditions, Prove, Emit, Run, Valid, Clauses, Find, Outline, Explain}
 
 -- a text, a derivation and proofs
 abbrev pub files : Bor Text → Option (Bor Text) → Option (Bor Text) → Named
@@ -33,6 +33,7 @@ named (Run text derivation proofs start moves _ _) =
 named (Valid text proofs) = files text None (Some proofs)
 named (Clauses text chosen) = files text (derivation_of chosen) None
 named (Find text _ chosen) = files text (derivation_of chosen) None
+named (Outline outline _) = files outline None None
 named (Explain _) = record {
   text = None;
   derivation = None;

@@ -70,13 +70,18 @@ pub enum Command<'a> {
         steps: u64,
         chosen: Option<Chosen<'a>>,
     },
+    /// The text that an outline stands for; its derivation goes to a file where one is named, which is written and not read.
+    Outline {
+        outline: &'a str,
+        derivation: Option<&'a str>,
+    },
     /// What a refusal of this number means.
     Explain {
         number: u64,
     },
 }
 
-/// The files that a command reads, each by its path as given; none where it has none.
+/// The files that a command reads, each by its path as given; none where it has none. An outline is read in the place of the text.
 #[derive(Clone, Copy)]
 pub struct Named<'a> {
     pub text: Option<&'a str>,
@@ -119,6 +124,7 @@ impl<'a> Command<'a> {
             Command::Clauses { text, chosen } | Command::Find { text, chosen, .. } => {
                 (Some(text), chosen.map(|chosen| chosen.derivation), None)
             }
+            Command::Outline { outline, .. } => (Some(outline), None, None),
             Command::Explain { .. } => (None, None, None),
         };
         let (start, moves) = match *self {

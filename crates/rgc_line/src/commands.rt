@@ -12,6 +12,7 @@ pub enum Kind {
     Valid,
     Clauses,
     Find,
+    Outline,
     Explain,
 }
 
@@ -119,6 +120,18 @@ const LIMIT: Field = Field {
     help: "the most steps of the parts",
 };
 
+const OUTLINE: Field = Field {
+    form: Form::File,
+    id: "OUTLINE",
+    help: "a program with assertions between its statements",
+};
+
+const WRITTEN_DERIVATION: Field = Field {
+    form: Form::OptionalFile,
+    id: "derivation",
+    help: "a file to write the derivation to",
+};
+
 const REFUSAL: Field = Field {
     form: Form::NeededNumber,
     id: "NUMBER",
@@ -132,7 +145,7 @@ const DRAW: Field = Field {
 };
 
 /// The commands, in the order in which the help lists them.
-pub static COMMANDS: [Row; 10] = [
+pub static COMMANDS: [Row; 11] = [
     Row {
         kind: Kind::Number,
         name: "number",
@@ -191,6 +204,12 @@ pub static COMMANDS: [Row; 10] = [
             CHOSEN_CONDITION,
             STEPS,
         ],
+    },
+    Row {
+        kind: Kind::Outline,
+        name: "outline",
+        about: "Prints the program that an outline stands for, and writes its derivation",
+        fields: &[OUTLINE, WRITTEN_DERIVATION],
     },
     Row {
         kind: Kind::Explain,

@@ -148,6 +148,10 @@ impl<'a> Given<'_, 'a> {
                 chosen: chosen(self.matches)?,
                 steps: self.number(3)?,
             }),
+            Kind::Outline => Ok(Command::Outline {
+                outline: self.file(0)?,
+                derivation: self.option(1),
+            }),
             Kind::Explain => Ok(Command::Explain {
                 number: self.number(0)?,
             }),

@@ -84,13 +84,13 @@ fn is_printed_at_once(command: &Command<'_>) -> bool {
     )
 }
 
-/// Does the command over its files, and writes what it printed; the status. The picture of a run is put into `picture`.
+/// Does the command over its files, and writes what it printed; the status. The picture of a run, or the derivation of an outline, is put into `side`.
 fn done<R: Threads + Wait + Sync>(
     rt: &HostRuntime,
     threads: &R,
     line: &Line<'_>,
     files: &Files<'_>,
-    picture: &mut Vec<u8>,
+    side: &mut Vec<u8>,
 ) -> Result<u8, AllocError> {
     let alloc = rt.alloc();
     let mut faults = Device::new(rt.stderr());
@@ -109,7 +109,7 @@ fn done<R: Threads + Wait + Sync>(
             &mut out,
             &mut faults,
             &mut watcher,
-            picture,
+            side,
         );
         return Ok(status);
     }
@@ -122,7 +122,7 @@ fn done<R: Threads + Wait + Sync>(
         &mut out,
         &mut faults,
         &mut watcher,
-        picture,
+        side,
     );
     if status == 0 && out.flush().is_err() {
         return Ok(tell(rt, "refused 63"));
@@ -130,19 +130,27 @@ fn done<R: Threads + Wait + Sync>(
     Ok(status)
 }
 
-/// Writes the picture of a run to the file that the command names for it, if it names one; the status.
-fn write_picture(rt: &HostRuntime, command: &Command<'_>, picture: &[u8]) -> u8 {
-    let Command::Run {
-        draw: Some(name),
-        ..
-    } = *command
-    else {
-        return 0;
-    };
-    match fs::write(rt, name, picture) {
+/// Writes the second file of a command; the status.
+fn write_side(rt: &HostRuntime, name: &str, side: &[u8], fault: &str) -> u8 {
+    match fs::write(rt, name, side) {
         Ok(()) => 0,
         Err(error) if error.kind() == io::ErrorKind::OutOfMemory => tell(rt, "refused 99"),
-        Err(_) => tell(rt, "device draw"),
+        Err(_) => tell(rt, fault),
+    }
+}
+
+/// Writes the picture of a run, or the derivation of an outline, to the file that the command names for it, if it names one; the status.
+fn write_side_of(rt: &HostRuntime, command: &Command<'_>, side: &[u8]) -> u8 {
+    match *command {
+        Command::Run {
+            draw: Some(name),
+            ..
+        } => write_side(rt, name, side, "device draw"),
+        Command::Outline {
+            derivation: Some(name),
+            ..
+        } => write_side(rt, name, side, "device derivation"),
+        _ => 0,
     }
 }
 
@@ -153,12 +161,12 @@ fn done_and_drawn<R: Threads + Wait + Sync>(
     line: &Line<'_>,
     files: &Files<'_>,
 ) -> Result<u8, AllocError> {
-    let mut picture = Vec::new(rt.alloc());
-    let status = done(rt, threads, line, files, &mut picture)?;
+    let mut side = Vec::new(rt.alloc());
+    let status = done(rt, threads, line, files, &mut side)?;
     if status != 0 {
         return Ok(status);
     }
-    Ok(write_picture(rt, &line.command, &picture))
+    Ok(write_side_of(rt, &line.command, &side))
 }
 
 /// The bytes of the files that a command names: none where one isn't named or can't be read.

@@ -20,7 +20,7 @@ use Rattle.rg_code.specs.CodeTrees.{code_blocks, names_of_code}
 use Rattle.rg_code.specs.declared.code.Code.{Code}
 use Rattle.rgc_line.specs.declared.command.Chosen.{Chosen}
 use Rattle.rgc_line.specs.declared.command.Command.{Command}
-use Rattle.rgc_line.specs.declared.command.Command.TheVariants.{Number, Check, Conditions, Prove, Emit, Run, Valid, Clauses, Find, Explain}
+use Rattle.rgc_line.specs.declared.command.Command.TheVariants.{Number, Check, Conditions, Prove, Emit, Run, Valid, Clauses, Find, Outline, Explain}
 use Rattle.rgc_explain.specs.Explanation.{explanation_text}
 use Rattle.rgc_explain.specs.declared.entries.Entry.{Entry}
 use Rattle.rgc.specs.Accepted.{conditions_of, AreAccepted, IsBuiltText}
@@ -113,6 +113,15 @@ pub record HasPrintedConditionLines (text derivation : List ℕ) (number : ℕ) 
   pub holds : ConditionHolds condition
   pub printed : Appends old new (section_text section)
 
+-- a text went out that spells a program, whose parts some derivation derives
+pub record HasPrintedOutline (old new : Option (List ℕ)) : Type 0 where
+  pub text : List ℕ
+  pub derivation : List ℕ
+  pub program : ProgramTree
+  pub lines : List LineTree
+  pub derived : AreDerived text derivation program lines
+  pub printed : Appends old new text
+
 -- what a refusal of this number means went out
 pub record HasPrintedExplanation (number : ℕ) (old new : Option (List ℕ)) : Type 0 where
   pub entry : Entry
@@ -142,6 +151,7 @@ Does (Emit _ _ _) (Some text) (Some derivation) (Some proofs) _ _ old new = HasP
 Does (Valid _ _) (Some text) _ (Some proofs) _ _ old new = HasPrintedHolds text.now proofs.now old new
 Does (Clauses _ chosen) (Some text) derivation _ _ _ old new = AreClausesDone chosen text.now derivation old new
 Does (Find _ _ chosen) (Some text) derivation _ _ _ old new = AreLinesDone chosen text.now derivation old new
+Does (Outline _ _) (Some outline) _ _ _ _ old new = HasPrintedOutline old new
 Does (Explain number) _ _ _ _ _ old new = HasPrintedExplanation number old new
 Does _ _ _ _ _ _ _ _ = ⊥
 

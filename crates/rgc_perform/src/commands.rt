@@ -3,21 +3,22 @@
 ghost use Rattle.std.specs.Prelude.{◌≡◌, ◌≤◌, ℕ, List, IsTrue, Option, Some, IfOk, OnOk, OnErr};
 ghost use Rattle.std.specs.Borrow.{Bor};
 ghost use Rattle.rg_words.specs.Written.{CanCount};
-ghost use Rattle.rgc_line.specs.declared.command.Command.TheVariants.{Number, Check, Conditions, Prove, Emit, Run, Valid, Clauses, Find, Explain};
+ghost use Rattle.rgc_line.specs.declared.command.Command.TheVariants.{Number, Check, Conditions, Prove, Emit, Run, Valid, Clauses, Find, Outline, Explain};
 ghost use Rattle.rgc_perform.specs.Done.{IsDone};
 ghost use Rattle.rgc_perform.specs.Running.{IsRead};
 
 use crate::printed::{
     print_accepted, print_clauses, print_condition_clauses, print_condition_found,
-    print_conditions, print_explanation, print_found, print_listing, print_numbers, print_proofs,
-    print_valid,
+    print_conditions, print_explanation, print_found, print_listing, print_numbers, print_outline,
+    print_proofs, print_valid,
 };
 use crate::running::{RunFiles, print_run};
 use rg_find::Watcher;
+use rg_outline_files::{NoFiles, OutlineFiles};
 use rg_words::{Out, Refusal, RefusalNumber, write_all};
 use rgc_explain::entry_of;
 use rgc_line::{Chosen, Command, Line};
-use std::alloc::Global;
+use std::alloc::{AllocError, Global};
 use std::sync::Wait;
 use std::thread::Threads;
 
@@ -36,10 +37,21 @@ enum Stop {
     /// A file can't be read; the line that says so.
     Device(&'static str),
     Refused(Refusal),
+    /// An outline is refused; the lines that say why.
+    Outline(Vec<u8>),
     /// No refusal has the number to explain.
     Unknown,
     /// The output says that no proof was found.
     Told,
+}
+
+impl From<NoFiles> for Stop {
+    fn from(none: NoFiles) -> Stop {
+        match none {
+            NoFiles::Told(lines) => Stop::Outline(lines),
+            NoFiles::Memory => Stop::Refused(Refusal::from(AllocError)),
+        }
+    }
 }
 
 impl From<Refusal> for Stop {
@@ -179,7 +191,7 @@ fn run<R: Threads + Wait + Sync, W: Out, F: Out>(
     files: &Files<'_>,
     out: &mut W,
     faults: &mut F,
-    picture: &mut Vec<u8>,
+    side: &mut Vec<u8>,
 ) -> Result<(), Stop>
     requires out { CanCount (W.failures out.old) }
     requires faults { CanCount (F.failures faults.old) }
@@ -196,7 +208,7 @@ fn run<R: Threads + Wait + Sync, W: Out, F: Out>(
         limit: options.limit,
         is_drawn: options.is_drawn,
     };
-    print_run(rt, alloc, files, out, faults, picture)?;
+    print_run(rt, alloc, files, out, faults, side)?;
     Ok(())
 }
 
@@ -257,6 +269,24 @@ fn find<W: Out, P: Watcher>(
     }
 }
 
+/// Prints the text that an outline stands for, and puts its derivation behind what `side` holds.
+fn outline<W: Out>(
+    alloc: Global,
+    name: &str,
+    files: &Files<'_>,
+    out: &mut W,
+    side: &mut Vec<u8>,
+) -> Result<(), Stop>
+    requires { CanCount (W.failures out.old) }
+    ensures done { (o : Bor (List ℕ)) → (d : Option (Bor (List ℕ))) → OnOk result (IsDone (Outline o d) files.now (W.contents out.old) (W.contents out.new)) }
+    ensures failures { OnOk result (W.failures out.new ≡ W.failures out.old) }
+{
+    let source = needed(files.text, "device outline\n")?;
+    let made = OutlineFiles::of(alloc, name, source)?;
+    print_outline(alloc, &made, out, side)?;
+    Ok(())
+}
+
 /// Prints what a refusal means.
 fn explain<W: Out>(alloc: Global, number: u64, files: &Files<'_>, out: &mut W) -> Result<(), Stop>
     requires { CanCount (W.failures out.old) }
@@ -280,7 +310,7 @@ fn carry_out<R: Threads + Wait + Sync, W: Out, F: Out, P: Watcher>(
     out: &mut W,
     faults: &mut F,
     watcher: &mut P,
-    picture: &mut Vec<u8>,
+    side: &mut Vec<u8>,
 ) -> Result<(), Stop>
     requires out { CanCount (W.failures out.old) }
     requires faults { CanCount (F.failures faults.old) }
@@ -307,11 +337,12 @@ fn carry_out<R: Threads + Wait + Sync, W: Out, F: Out, P: Watcher>(
                 limit,
                 is_drawn: draw.is_some(),
             };
-            run(rt, alloc, options, files, out, faults, picture)
+            run(rt, alloc, options, files, out, faults, side)
         }
         Command::Valid { .. } => valid(alloc, files, out),
         Command::Clauses { chosen, .. } => clauses(alloc, chosen, files, out),
         Command::Find { steps, chosen, .. } => find(alloc, steps, chosen, files, out, watcher),
+        Command::Outline { outline: name, .. } => outline(alloc, name, files, out, side),
         Command::Explain { number } => explain(alloc, number, files, out),
     }
 }
@@ -342,6 +373,15 @@ fn tell_device<F: Out>(line: &str, faults: &mut F) -> u8
     3
 }
 
+/// Tells by these lines why an outline is refused; the status. A failing write is passed over.
+fn tell_outline<F: Out>(lines: &[u8], faults: &mut F) -> u8
+    requires { CanCount (F.failures faults.old) }
+    ensures { result ≡ 1 }
+{
+    let _ = write_all(faults, lines);
+    1
+}
+
 /// Tells that no refusal has the number; the status. A failing write is passed over.
 fn tell_unknown<F: Out>(faults: &mut F) -> u8
     requires { CanCount (F.failures faults.old) }
@@ -354,7 +394,7 @@ fn tell_unknown<F: Out>(faults: &mut F) -> u8
 /// Does the command over the bytes of its files, and answers the program's status: 0 done, 1 refused or no proof found, 2 where no
 /// refusal has the number to explain, 3 where a file can't be read, where the output can't be written, or where memory is refused. A refusal is one line on `faults`; moves of a run that were passed over
 /// are told there, and change no status. The watcher is told of a long search. A run that is drawn has its picture put behind what
-/// `picture` holds; of it nothing is promised.
+/// `side` holds, and an outline its derivation; of what is put there nothing is promised.
 pub fn perform<R: Threads + Wait + Sync, W: Out, F: Out, P: Watcher>(
     rt: &R,
     alloc: Global,
@@ -363,7 +403,7 @@ pub fn perform<R: Threads + Wait + Sync, W: Out, F: Out, P: Watcher>(
     out: &mut W,
     faults: &mut F,
     watcher: &mut P,
-    picture: &mut Vec<u8>,
+    side: &mut Vec<u8>,
 ) -> u8
     requires out { CanCount (W.failures out.old) }
     requires faults { CanCount (F.failures faults.old) }
@@ -371,19 +411,11 @@ pub fn perform<R: Threads + Wait + Sync, W: Out, F: Out, P: Watcher>(
     ensures failures { result ≡ 0 → W.failures out.new ≡ W.failures out.old }
     ensures done { result ≡ 0 → IsDone line.now.command files.now (W.contents out.old) (W.contents out.new) }
 {
-    match carry_out(
-        rt,
-        alloc,
-        line.command,
-        files,
-        out,
-        faults,
-        watcher,
-        picture,
-    ) {
+    match carry_out(rt, alloc, line.command, files, out, faults, watcher, side) {
         Ok(()) => 0,
         Err(Stop::Device(line)) => tell_device(line, faults),
         Err(Stop::Told) => 1,
+        Err(Stop::Outline(lines)) => tell_outline(&lines, faults),
         Err(Stop::Unknown) => tell_unknown(faults),
         Err(Stop::Refused(refusal)) => tell_refusal(alloc, refusal, faults),
     }

@@ -6,13 +6,14 @@ ghost use Rattle.rg_words.specs.Written.{CanCount};
 ghost use Rattle.rg_hints.specs.Proved.{AreProved};
 ghost use Rattle.rgc.specs.Accepted.{conditions_of};
 ghost use Rattle.rgc.specs.Stages.{derived_program, derived_lines};
-ghost use Rattle.rgc_perform.specs.Done.{HasPrintedNumbers, HasPrintedAccepted, HasPrintedConditions, HasPrintedProofs, HasPrintedListing, HasPrintedHolds, HasPrintedClauses, HasPrintedConditionClauses, HasPrintedLines, HasPrintedConditionLines, HasPrintedExplanation};
+ghost use Rattle.rgc_perform.specs.Done.{HasPrintedNumbers, HasPrintedAccepted, HasPrintedConditions, HasPrintedProofs, HasPrintedListing, HasPrintedHolds, HasPrintedClauses, HasPrintedConditionClauses, HasPrintedLines, HasPrintedConditionLines, HasPrintedOutline, HasPrintedExplanation};
 
 use crate::conditions::{write_conditions, write_listing};
 use crate::judged::print_judged;
 use crate::numbers::write_numbers;
 use rg_code::checked::Checked;
 use rg_find::Watcher;
+use rg_outline_files::OutlineFiles;
 use rg_words::{Out, Refusal, write_all};
 use rgc::{
     Derived, Parsed, ProofsFound, accept, build, clauses, condition_clauses, derive_program, find,
@@ -196,6 +197,23 @@ pub(crate) fn print_condition_found<W: Out, P: Watcher>(
 {
     let (condition, judged) = find_condition(alloc, text, derivation, number, steps, watcher)?;
     print_judged(alloc, &condition, &judged, out)
+}
+
+/// Prints the text of an outline, and puts its derivation behind what `side` holds. Both are read first, as any files are.
+pub(crate) fn print_outline<W: Out>(
+    alloc: Global,
+    files: &OutlineFiles,
+    out: &mut W,
+    side: &mut Vec<u8>,
+) -> Result<(), Refusal>
+    requires { CanCount (W.failures out.old) }
+    ensures printed { OnOk result (HasPrintedOutline (W.contents out.old) (W.contents out.new)) }
+    ensures failures { OnOk result (W.failures out.new ≡ W.failures out.old) }
+{
+    let _derived = derive_program(alloc, &files.text, &files.derivation)?;
+    side.extend_from_slice(&files.derivation)?;
+    write_all(out, &files.text)?;
+    Ok(())
 }
 
 /// Prints what a refusal of this number means.

@@ -13,13 +13,13 @@ use std::alloc::{AllocError, Global};
 use std::sync::Wait;
 use std::thread::Threads;
 
-/// What a command answered: its status, its output, its faults, and the picture that it drew.
+/// What a command answered: its status, its output, its faults, and the file that it wrote.
 #[derive(Drop)]
 pub(crate) struct Answer {
     pub(crate) status: u8,
     pub(crate) out: Taker,
     pub(crate) faults: Taker,
-    pub(crate) picture: Vec<u8>,
+    pub(crate) written: Vec<u8>,
 }
 
 /// A writer that has taken nothing, and takes all at once.
@@ -36,7 +36,7 @@ impl Answer {
             status: 0,
             out: writer(alloc),
             faults: writer(alloc),
-            picture: Vec::new(alloc),
+            written: Vec::new(alloc),
         }
     }
 }
@@ -70,14 +70,14 @@ fn usage(alloc: Global, fault: &LineFault) -> Result<Answer, AllocError> {
             status: 2,
             out: writer(alloc),
             faults: told,
-            picture: Vec::new(alloc),
+            written: Vec::new(alloc),
         });
     }
     Ok(Answer {
         status: 0,
         out: told,
         faults: writer(alloc),
-        picture: Vec::new(alloc),
+        written: Vec::new(alloc),
     })
 }
 
@@ -98,7 +98,7 @@ fn performed<R: Threads + Wait + Sync>(
     };
     let mut out = writer(alloc);
     let mut faults = writer(alloc);
-    let mut picture = Vec::new(alloc);
+    let mut written = Vec::new(alloc);
     let status = perform(
         threads,
         alloc,
@@ -107,13 +107,13 @@ fn performed<R: Threads + Wait + Sync>(
         &mut out,
         &mut faults,
         &mut Unwatched,
-        &mut picture,
+        &mut written,
     );
     Answer {
         status,
         out,
         faults,
-        picture,
+        written,
     }
 }
 

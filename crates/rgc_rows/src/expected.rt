@@ -158,5 +158,5 @@ pub(crate) fn holds<'a>(row: Row<'a>, answer: &'a Answer) -> Result<(), Differen
     }
     part_holds("faults", answer.faults.bytes(), row.field("faults"))?;
     part_holds("out", answer.out.bytes(), row.field("out"))?;
-    part_holds("picture", &answer.picture, row.field("picture"))
+    part_holds("written", &answer.written, row.field("written"))
 }

@@ -14,7 +14,7 @@ const FIELDS: [&str; 10] = [
     "status",
     "out",
     "faults",
-    "picture",
+    "written",
 ];
 
 /// A row.

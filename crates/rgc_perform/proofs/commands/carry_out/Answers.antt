@@ -26,3 +26,6 @@ returns-in-Clauses-clause-done g c = rw c.in-Clauses.is (c.clauses.ensures.done 
 
 pub returns-in-Find-clause-done : goal.returns-in-Find-clause-done
 returns-in-Find-clause-done g c = rw c.in-Find.is (c.find.ensures.done c.in-Find.text)
+
+pub returns-in-Outline-clause-done : goal.returns-in-Outline-clause-done
+returns-in-Outline-clause-done g c = rw c.in-Outline.is (c.outline.ensures.done c.in-Outline.name c.in-Outline.derivation)
