@@ -65,6 +65,17 @@ fn number_sentence(fault: MeaningFault, span: Span) -> Sentence {
     }
 }
 
+/// What is told of a wrong count.
+fn count_sentence(name: Span, wanted: usize, what: &'static str, given: usize) -> Sentence {
+    said(&[
+        Piece::Quoted(name),
+        Piece::Text(" has "),
+        Piece::Number(wanted as i128),
+        Piece::Text(what),
+        Piece::Number(given as i128),
+    ])
+}
+
 /// What is told of indices and arguments.
 fn index_sentence(fault: MeaningFault, span: Span) -> Sentence {
     match fault {
@@ -72,13 +83,7 @@ fn index_sentence(fault: MeaningFault, span: Span) -> Sentence {
             name,
             wanted,
             given,
-        } => said(&[
-            Piece::Quoted(name),
-            Piece::Text(" has "),
-            Piece::Number(wanted as i128),
-            Piece::Text(" indices, not "),
-            Piece::Number(given as i128),
-        ]),
+        } => count_sentence(name, wanted, " indices, not ", given),
         MeaningFault::NoIndex { name } => said(&[
             Piece::Quoted(name),
             Piece::Text(" is one word and has no index"),
@@ -104,13 +109,7 @@ fn index_sentence(fault: MeaningFault, span: Span) -> Sentence {
             name,
             wanted,
             given,
-        } => said(&[
-            Piece::Quoted(name),
-            Piece::Text(" has "),
-            Piece::Number(wanted as i128),
-            Piece::Text(" parameters, not "),
-            Piece::Number(given as i128),
-        ]),
+        } => count_sentence(name, wanted, " parameters, not ", given),
         _ => use_sentence(fault, span),
     }
 }
