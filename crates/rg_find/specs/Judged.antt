@@ -38,9 +38,9 @@ JudgedFits (Fails first second) = Unit {0}
 JudgedFits GaveUp = Unit {0}
 JudgedFits TooLarge = Unit {0}
 
--- why nothing is said of it: for want of memory, for its variables, and for the decisions
+-- why nothing is said of it: for want of memory; or else for its variables; or else for the decisions
 abbrev pub IsJudgeRefusal : ConditionTree → SourceFile → ℕ → ℕ → Refusal → Type 0
 IsJudgeRefusal c file number steps r =
     (r ≡ no_memory)
     ⊎ ((MOST_VARIABLES < (clauses_of_condition c).variables) × (r ≡ refused_in Limit file (Condition number)))
-    ⊎ ((MOST_DECISIONS < steps) × (r ≡ refused Limit))
+    ⊎ (((clauses_of_condition c).variables ≤ MOST_VARIABLES) × (MOST_DECISIONS < steps) × (r ≡ refused Limit))

@@ -1,7 +1,7 @@
 //! Whether a condition is true, by a search: lines that prove it, or states at which it fails.
 
-ghost use Rattle.std.specs.Prelude.{◌≡◌, ◌≤◌, IfOk, IfErr};
-ghost use Rattle.rg_words.specs.declared.limits.TheConstants.{MOST_VARIABLES};
+ghost use Rattle.std.specs.Prelude.{◌≡◌, ◌≤◌, IfOk, IfErr, OnOk};
+ghost use Rattle.rg_words.specs.declared.limits.TheConstants.{MOST_VARIABLES, MOST_DECISIONS};
 ghost use Rattle.rg_words.specs.declared.refusal.Place.TheVariants.{Condition as the_condition};
 ghost use Rattle.rg_tree.specs.Conditions.{condition_tree};
 ghost use Rattle.rg_clauses.specs.Conditions.{clauses_of_condition};
@@ -51,6 +51,7 @@ pub fn judge<W: Watcher>(
     // Lines fit into a proofs file.
     ensures fits { IfOk result JudgedFits }
     ensures within { IfOk result (λ _. (clauses_of_condition (condition_tree condition.now)).variables ≤ MOST_VARIABLES) }
+    ensures steps { OnOk result (steps ≤ MOST_DECISIONS) }
     ensures refusal { IfErr result (IsJudgeRefusal (condition_tree condition.now) file number steps) }
 {
     let clauses = match Clauses::of(alloc, condition, file, number) {

@@ -4,6 +4,7 @@ use crate::told::{told_of_expansion, told_of_source};
 use rg_outline::{Expansion, work_out};
 use rg_outline_print::{push_derivation, push_text};
 use rg_outline_text::{Fault, Tokens};
+use rg_outline_told::{Failed, push_told};
 use rg_outline_tree::{Written, parse};
 use std::alloc::{AllocError, Global};
 
@@ -66,4 +67,28 @@ impl OutlineFiles {
             Err(fault) => Err(told_of_expansion(alloc, name, &expansion, fault)),
         }
     }
+}
+
+/// What is told of conditions of an outline's derivation that aren't proved. `name` is the outline's file, as the places name it.
+///
+/// # Errors
+///
+/// As `OutlineFiles::of`.
+pub fn failures_told(
+    alloc: Global,
+    name: &str,
+    source: &[u8],
+    failed: &[Failed<'_>],
+) -> Result<Vec<u8>, NoFiles> {
+    let written = match written_in(alloc, source) {
+        Ok(written) => written,
+        Err(fault) => return Err(told_of_source(alloc, name, source, fault)),
+    };
+    let mut expansion = Expansion::new(alloc, source, &written);
+    let mut told = Vec::new(alloc);
+    match work_out(&mut expansion) {
+        Ok(()) => push_told(&expansion, name.as_bytes(), failed, &mut told)?,
+        Err(fault) => return Err(told_of_expansion(alloc, name, &expansion, fault)),
+    }
+    Ok(told)
 }

@@ -4,4 +4,5 @@
 mod files;
 mod told;
 
-pub use files::{NoFiles, OutlineFiles};
+pub use files::{NoFiles, OutlineFiles, failures_told};
+pub use rg_outline_told::{Failed, Failing};

@@ -4,6 +4,7 @@ use crate::print::{push_flat, too_large};
 use rg_outline_bodies::{Expansion, Line, Rule};
 use rg_outline_text::{Fault, push_count, push_phrase};
 use rg_words::limits::MOST_TEXT_BYTES;
+use std::alloc::AllocError;
 
 /// The most bytes of a phrase in the map.
 const MOST_PHRASE: usize = 70;
@@ -151,7 +152,11 @@ fn push_place(
 }
 
 /// Adds what stands at a place, in one row that isn't long.
-fn push_clipped(text: &mut Vec<u8>, bytes: &[u8]) -> Result<(), Fault> {
+///
+/// # Errors
+///
+/// `AllocError` where memory is refused.
+pub fn push_clipped(text: &mut Vec<u8>, bytes: &[u8]) -> Result<(), AllocError> {
     let start = text.len();
     push_phrase(text, bytes)?;
     let most = start.saturating_add(MOST_PHRASE);

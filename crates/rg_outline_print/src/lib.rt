@@ -5,5 +5,6 @@ mod derivation;
 mod print;
 mod text;
 
-pub use derivation::{push_derivation, push_map};
+pub use derivation::{push_clipped, push_derivation, push_map};
+pub use print::middle;
 pub use text::push_text;

@@ -48,7 +48,7 @@ fn comparison_text(comparison: Comparison) -> &'static str {
 }
 
 /// What stands between the two operands of a root, or before the count of a shift.
-fn middle(root: Root) -> &'static str {
+pub fn middle(root: Root) -> &'static str {
     match root {
         Root::Operate(operator) | Root::Shift(operator, _) => operator_text(operator),
         Root::Compare(comparison) => comparison_text(comparison),

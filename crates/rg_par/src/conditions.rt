@@ -1,6 +1,6 @@
 //! The conditions of the parallel rule.
 
-ghost use Rattle.std.specs.Prelude.{◌≡◌, ◌++◌, ◌≤◌, ◌==◌, if◌then◌else◌, [], ◌∷◌, map, length, OnOk, IfOk};
+ghost use Rattle.std.specs.Prelude.{◌≡◌, ◌++◌, ◌≤◌, ◌==◌, if◌then◌else◌, [], ◌∷◌, map, length, OnOk, OnErr, IfOk};
 ghost use Rattle.rg_words.specs.Layout.{widths_of};
 ghost use Rattle.rg_words.specs.declared.limits.TheConstants.{MOST_PARTS};
 ghost use Rattle.rg_tree.specs.View.{formula};
@@ -164,16 +164,8 @@ fn add_post(
     Ok(())
 }
 
-/// Adds the conditions of the parallel rule for parts 1 to n, in this order: for each part, the pre gives its pre; for each part,
-/// the rely gives its rely; for each part and then each other one, the other's guarantee gives its rely; for each part, its
-/// guarantee gives the guarantee; last, the posts together give the post. Relies and guarantees are read with "or no change".
-///
-/// Refused only where memory was refused.
-pub fn add_conditions(
-    alloc: Global,
-    all: &mut Vec<Condition>,
-    program: &Program,
-) -> Result<(), AllocError>
+/// Adds the conditions in their order. Where memory is refused, some may have been added.
+fn add_all(alloc: Global, all: &mut Vec<Condition>, program: &Program) -> Result<(), AllocError>
     // Exactly the rule's list, behind what was there.
     ensures { OnOk result (map condition_tree all.new.items ≡ map condition_tree all.old.items ++ map (as_condition program.now.layout) (parallel_conditions (specification program.now.spec) (map part program.now.parts.items))) }
 {
@@ -187,7 +179,9 @@ pub fn add_conditions(
     Ok(())
 }
 
-/// The conditions of the parallel rule alone, as `add_conditions` has them.
+/// The conditions of the parallel rule for parts 1 to n, in this order: for each part, the pre gives its pre; for each part,
+/// the rely gives its rely; for each part and then each other one, the other's guarantee gives its rely; for each part, its
+/// guarantee gives the guarantee; last, the posts together give the post. Relies and guarantees are read with "or no change".
 ///
 /// Refused only where memory was refused.
 pub fn conditions(alloc: Global, program: &Program) -> Result<Vec<Condition>, AllocError>
@@ -197,6 +191,22 @@ pub fn conditions(alloc: Global, program: &Program) -> Result<Vec<Condition>, Al
     ensures sound { IfOk result (λ all. AllConditionsHold (map condition_tree all.items) → PartsSatisfy (program_tree program.now) → IsSatisfied (program_tree program.now)) }
 {
     let mut all = Vec::new(alloc);
-    add_conditions(alloc, &mut all, program)?;
+    add_all(alloc, &mut all, program)?;
     Ok(all)
+}
+
+/// Adds the conditions of the parallel rule, as `conditions` has them.
+///
+/// Refused only where memory was refused, and then nothing is added.
+pub fn add_conditions(
+    alloc: Global,
+    all: &mut Vec<Condition>,
+    program: &Program,
+) -> Result<(), AllocError>
+    // Exactly the rule's list, behind what was there.
+    ensures list { OnOk result (map condition_tree all.new.items ≡ map condition_tree all.old.items ++ map (as_condition program.now.layout) (parallel_conditions (specification program.now.spec) (map part program.now.parts.items))) }
+    ensures unchanged { OnErr result (all.new.items ≡ all.old.items) }
+{
+    let mut own = conditions(alloc, program)?;
+    all.append(&mut own)
 }

@@ -1,6 +1,6 @@
 //! The printed names of the conditions of the parallel rule.
 
-ghost use Rattle.std.specs.Prelude.{◌≡◌, ◌++◌, ◌≤◌, ◌==◌, if◌then◌else◌, [], ◌∷◌, map, length, codes, string_bytes, OnOk, IfOk};
+ghost use Rattle.std.specs.Prelude.{◌≡◌, ◌++◌, ◌≤◌, ◌==◌, if◌then◌else◌, [], ◌∷◌, map, length, codes, string_bytes, OnOk, OnErr, IfOk};
 ghost use Rattle.rg_words.specs.declared.limits.TheConstants.{MOST_PARTS};
 ghost use Rattle.rg_tree.specs.ProgramView.{specification, part};
 ghost use Rattle.rg_par.specs.Parallel.{parallel_conditions};
@@ -85,11 +85,8 @@ fn add_text(alloc: Global, all: &mut Vec<String>, text: &str) -> Result<(), Allo
     Ok(())
 }
 
-/// Adds the name of each condition, in the order of `conditions`: `all pre P`, `all rely P`, `all guar Q rely P`, `all guar P` and
-/// `all post`, where P and Q are names of parts.
-///
-/// Refused only where memory was refused.
-pub fn add_names(alloc: Global, all: &mut Vec<String>, program: &Program) -> Result<(), AllocError>
+/// Adds the names in their order. Where memory is refused, some may have been added.
+fn add_all(alloc: Global, all: &mut Vec<String>, program: &Program) -> Result<(), AllocError>
     // Exactly these, behind what was there.
     ensures { OnOk result (map string_bytes all.new.items ≡ map string_bytes all.old.items ++ parallel_names (map part program.now.parts.items)) }
 {
@@ -102,7 +99,8 @@ pub fn add_names(alloc: Global, all: &mut Vec<String>, program: &Program) -> Res
     Ok(())
 }
 
-/// The names of the conditions alone, as `add_names` has them.
+/// The name of each condition, in the order of `conditions`: `all pre P`, `all rely P`, `all guar Q rely P`, `all guar P` and
+/// `all post`, where P and Q are names of parts.
 ///
 /// Refused only where memory was refused.
 pub fn names(alloc: Global, program: &Program) -> Result<Vec<String>, AllocError>
@@ -111,6 +109,18 @@ pub fn names(alloc: Global, program: &Program) -> Result<Vec<String>, AllocError
     ensures count { IfOk result (λ all. length all.items ≡ length (parallel_conditions (specification program.now.spec) (map part program.now.parts.items))) }
 {
     let mut all = Vec::new(alloc);
-    add_names(alloc, &mut all, program)?;
+    add_all(alloc, &mut all, program)?;
     Ok(all)
+}
+
+/// Adds the name of each condition, as `names` has them.
+///
+/// Refused only where memory was refused, and then nothing is added.
+pub fn add_names(alloc: Global, all: &mut Vec<String>, program: &Program) -> Result<(), AllocError>
+    // Exactly these, behind what was there.
+    ensures list { OnOk result (map string_bytes all.new.items ≡ map string_bytes all.old.items ++ parallel_names (map part program.now.parts.items)) }
+    ensures unchanged { OnErr result (all.new.items ≡ all.old.items) }
+{
+    let mut own = names(alloc, program)?;
+    all.append(&mut own)
 }

@@ -1,5 +1,5 @@
 -- A derivation of a text's program, and conditions that are chosen by their numbers.
-use Rattle.std.specs.Prelude.{◌≡◌, ◌⊎◌, ℕ, ◌<◌, List, Some, None}
+use Rattle.std.specs.Prelude.{◌≡◌, ◌⊎◌, ℕ, ◌<◌, ◌≤◌, List, Some, None}
 use Rattle.rg_words.specs.declared.limits.TheConstants.{MOST_VARIABLES, MOST_DECISIONS}
 use Rattle.rg_words.specs.declared.refusal.Refusal.{Refusal}
 use Rattle.rg_words.specs.declared.refusal.RefusalNumber.TheVariants.{Limit, UnknownCondition}
@@ -52,7 +52,8 @@ IsChosenClausesRefusal text derivation number e =
     IsChoiceRefusal text derivation number e
     ⊎ ((c : ConditionTree) × IsChosen text derivation number c × (MOST_VARIABLES < (clauses_of_condition c).variables) × (e ≡ refused_in Limit Derivation (Condition number)))
 
--- why nothing is said of it: it has no clauses, or too many decisions are asked for
+-- why nothing is said of it: it has no clauses; or else too many decisions are asked for
 abbrev pub IsChosenFindRefusal : List ℕ → List ℕ → ℕ → ℕ → Refusal → Type 0
 IsChosenFindRefusal text derivation number steps e =
-    IsChosenClausesRefusal text derivation number e ⊎ ((MOST_DECISIONS < steps) × (e ≡ refused Limit))
+    IsChosenClausesRefusal text derivation number e
+    ⊎ ((c : ConditionTree) × IsChosen text derivation number c × ((clauses_of_condition c).variables ≤ MOST_VARIABLES) × (MOST_DECISIONS < steps) × (e ≡ refused Limit))

@@ -45,9 +45,10 @@ pub record IsShown (text : List ℕ) (c : ConditionTree) : Type 0 where
   pub spells : SpellsShow text words formula
   pub is : c ≡ shown words formula
 
--- the text spells no formula to show, or one with too many variables, or too many decisions are asked for
+-- the text spells no formula to show, or one with too many variables; or else too many decisions are asked for
 abbrev pub IsFindRefusal : List ℕ → ℕ → Refusal → Type 0
-IsFindRefusal text steps e = IsClausesRefusal text e ⊎ ((MOST_DECISIONS < steps) × (e ≡ refused Limit))
+IsFindRefusal text steps e =
+    IsClausesRefusal text e ⊎ ((clauses : Cnf) × HasClauses text clauses × (MOST_DECISIONS < steps) × (e ≡ refused Limit))
 
 -- the text spells a formula to show, and the proofs, within their size, have the form of hint lines and close its clauses
 pub record IsProved (text proofs : List ℕ) : Type 0 where

@@ -1,7 +1,7 @@
 //! A derivation of a text's program, and one of its conditions, chosen by its number.
 
-ghost use Rattle.std.specs.Prelude.{◌≡◌, ◌≤◌, None, Some, map, IfOk, IfErr};
-ghost use Rattle.rg_words.specs.declared.limits.TheConstants.{MOST_VARIABLES};
+ghost use Rattle.std.specs.Prelude.{◌≡◌, ◌≤◌, None, Some, map, IfOk, IfErr, OnOk};
+ghost use Rattle.rg_words.specs.declared.limits.TheConstants.{MOST_VARIABLES, MOST_DECISIONS};
 ghost use Rattle.rg_words.specs.declared.refusal.RefusalNumber.TheVariants.{UnknownCondition};
 ghost use Rattle.rg_words.specs.declared.refusal.SourceFile.TheVariants.{Derivation};
 ghost use Rattle.rg_words.specs.declared.refusal.Place.TheVariants.{Condition as the_condition};
@@ -124,6 +124,7 @@ pub fn find_condition<W: Watcher>(
     ensures chosen { IfOk result (λ r. IsChosen text.now derivation.now number (condition_tree r.0)) }
     ensures judged { IfOk result (λ r. IsJudged (condition_tree r.0) r.1) }
     ensures fits { IfOk result (λ r. JudgedFits r.1) }
+    ensures steps { OnOk result (steps ≤ MOST_DECISIONS) }
     ensures refused { IfErr result (IsChosenFindRefusal text.now derivation.now number steps) }
 {
     let condition = match chosen_condition(alloc, text, derivation, number) {

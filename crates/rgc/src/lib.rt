@@ -11,6 +11,6 @@ mod stages;
 pub use acceptance::{accept, accept_program, build, build_program};
 pub use chosen::{chosen_condition, condition_clauses, derive_program, find_condition};
 pub use failures::failure_text;
-pub use proofs_found::{ProofsFound, find_proofs};
+pub use proofs_found::{ProofsFound, Unproved, failures_text, find_proofs};
 pub use shown::{clauses, find, valid};
 pub use stages::{Accepted, Derived, Emitted, Parsed};

@@ -1,7 +1,7 @@
 //! Formulas to show: their clauses, and whether hint lines prove them.
 
 ghost use Rattle.std.specs.Prelude.{◌≡◌, ◌≤◌, List, IfOk, IfErr, OnOk};
-ghost use Rattle.rg_words.specs.declared.limits.TheConstants.{MOST_VARIABLES};
+ghost use Rattle.rg_words.specs.declared.limits.TheConstants.{MOST_VARIABLES, MOST_DECISIONS};
 ghost use Rattle.rg_words.specs.Layout.{Word};
 ghost use Rattle.rg_words.specs.Refusals.{no_memory};
 ghost use Rattle.rg_tree.specs.Trees.{Proposition};
@@ -65,6 +65,7 @@ pub fn find<W: Watcher>(
     ensures fits { IfOk result (λ r. JudgedFits r.1) }
     ensures clauses { IfOk result (λ r. HasClauses text.now (clauses_of_condition (condition_tree r.0))) }
     ensures holds { IfOk result (λ r. ConditionHolds (condition_tree r.0) → ShownHolds text.now) }
+    ensures steps { OnOk result (steps ≤ MOST_DECISIONS) }
     ensures refused { IfErr result (IsFindRefusal text.now steps) }
 {
     // The text spells one formula.

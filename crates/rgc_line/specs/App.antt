@@ -5,7 +5,7 @@ use Rattle.clap.specs.Simple.{new_shape}
 use Rattle.clap.specs.declared.builder.value_parser.ValueParser.{ValueParser}
 use Rattle.clap.specs.declared.builder.value_parser.ValueParser.TheVariants as parser
 use Rattle.rgc_line.specs.declared.commands.Kind.{Kind}
-use Rattle.rgc_line.specs.declared.commands.Kind.TheVariants.{Number, Check, Conditions, Prove, Emit, Run, Valid, Clauses, Find, Outline, Explain}
+use Rattle.rgc_line.specs.declared.commands.Kind.TheVariants.{Number, Check, Conditions, Prove, Emit, Run, Valid, Clauses, Find, Outline, Verify, Explain}
 
 -- a file that has to be named
 abbrev pub file_rule : Text → Rule
@@ -102,11 +102,12 @@ row_of Valid = leaf (codes "valid") (text ∷ proofs ∷ [])
 row_of Clauses = leaf (codes "clauses") (text ∷ chosen_derivation ∷ chosen_condition ∷ [])
 row_of Find = leaf (codes "find") (text ∷ chosen_derivation ∷ chosen_condition ∷ steps ∷ [])
 row_of Outline = leaf (codes "outline") (outline ∷ written_derivation ∷ [])
+row_of Verify = leaf (codes "verify") (outline ∷ steps ∷ [])
 row_of Explain = leaf (codes "explain") (refusal ∷ [])
 
 -- the commands in the order in which the help lists them
 abbrev pub kinds : List Kind
-kinds = Number ∷ Check ∷ Conditions ∷ Prove ∷ Emit ∷ Run ∷ Valid ∷ Clauses ∷ Find ∷ Outline ∷ Explain ∷ []
+kinds = Number ∷ Check ∷ Conditions ∷ Prove ∷ Emit ∷ Run ∷ Valid ∷ Clauses ∷ Find ∷ Outline ∷ Verify ∷ Explain ∷ []
 
 -- the command with no subcommands
 abbrev pub rgc_top : App

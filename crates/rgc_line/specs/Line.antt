@@ -10,7 +10,7 @@ use Rattle.rgc_line.specs.declared.fields.FieldFault.{FieldFault}
 use Rattle.rgc_line.specs.declared.fields.FieldFault.TheVariants.{Incomplete, Apart}
 use Rattle.rgc_line.specs.declared.command.Chosen.{Chosen}
 use Rattle.rgc_line.specs.declared.command.Command.{Command}
-use Rattle.rgc_line.specs.declared.command.Command.TheVariants.{Number, Check, Conditions, Prove, Emit, Run, Valid, Clauses, Find, Outline, Explain}
+use Rattle.rgc_line.specs.declared.command.Command.TheVariants.{Number, Check, Conditions, Prove, Emit, Run, Valid, Clauses, Find, Outline, Verify, Explain}
 use Rattle.rgc_line.specs.declared.commands.Kind.{Kind}
 use Rattle.rgc_line.specs.declared.commands.Kind.TheVariants as kind
 
@@ -77,6 +77,7 @@ contents_of (Valid text proofs) = contents kind.Valid (file text ∷ file proofs
 contents_of (Clauses text chosen) = contents kind.Clauses (file text ∷ chosen_values chosen [])
 contents_of (Find text steps chosen) = contents kind.Find (file text ∷ chosen_values chosen (number steps ∷ []))
 contents_of (Outline outline derivation) = contents kind.Outline (file outline ∷ optional derivation ∷ [])
+contents_of (Verify outline steps) = contents kind.Verify (file outline ∷ number steps ∷ [])
 contents_of (Explain n) = contents kind.Explain (number n ∷ [])
 
 -- the subcommand is the row's, and its matches have the values of the row's files and options

@@ -5,7 +5,7 @@ use Rattle.clap.specs.Words.{Text}
 use Rattle.rgc_line.specs.declared.command.Named.{Named}
 use Rattle.rgc_line.specs.declared.command.Chosen.{Chosen}
 use Rattle.rgc_line.specs.declared.command.Command.{Command}
-use Rattle.rgc_line.specs.declared.command.Command.TheVariants.{Number, Check, Conditions, Prove, Emit, Run, Valid, Clauses, Find, Outline, Explain}
+use Rattle.rgc_line.specs.declared.command.Command.TheVariants.{Number, Check, Conditions, Prove, Emit, Run, Valid, Clauses, Find, Outline, Verify, Explain}
 
 -- a text, a derivation and proofs
 abbrev pub files : Bor Text → Option (Bor Text) → Option (Bor Text) → Named
@@ -34,6 +34,7 @@ named (Valid text proofs) = files text None (Some proofs)
 named (Clauses text chosen) = files text (derivation_of chosen) None
 named (Find text _ chosen) = files text (derivation_of chosen) None
 named (Outline outline _) = files outline None None
+named (Verify outline _) = files outline None None
 named (Explain _) = record {
   text = None;
   derivation = None;

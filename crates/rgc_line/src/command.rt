@@ -75,6 +75,11 @@ pub enum Command<'a> {
         outline: &'a str,
         derivation: Option<&'a str>,
     },
+    /// Whether what an outline stands for is proved, with at most so many decisions for each condition.
+    Verify {
+        outline: &'a str,
+        steps: u64,
+    },
     /// What a refusal of this number means.
     Explain {
         number: u64,
@@ -124,7 +129,9 @@ impl<'a> Command<'a> {
             Command::Clauses { text, chosen } | Command::Find { text, chosen, .. } => {
                 (Some(text), chosen.map(|chosen| chosen.derivation), None)
             }
-            Command::Outline { outline, .. } => (Some(outline), None, None),
+            Command::Outline { outline, .. } | Command::Verify { outline, .. } => {
+                (Some(outline), None, None)
+            }
             Command::Explain { .. } => (None, None, None),
         };
         let (start, moves) = match *self {

@@ -13,6 +13,7 @@ pub enum Kind {
     Clauses,
     Find,
     Outline,
+    Verify,
     Explain,
 }
 
@@ -145,7 +146,7 @@ const DRAW: Field = Field {
 };
 
 /// The commands, in the order in which the help lists them.
-pub static COMMANDS: [Row; 11] = [
+pub static COMMANDS: [Row; 12] = [
     Row {
         kind: Kind::Number,
         name: "number",
@@ -210,6 +211,12 @@ pub static COMMANDS: [Row; 11] = [
         name: "outline",
         about: "Prints the program that an outline stands for, and writes its derivation",
         fields: &[OUTLINE, WRITTEN_DERIVATION],
+    },
+    Row {
+        kind: Kind::Verify,
+        name: "verify",
+        about: "Proves that an outline's program meets its specification, or says where it doesn't",
+        fields: &[OUTLINE, STEPS],
     },
     Row {
         kind: Kind::Explain,

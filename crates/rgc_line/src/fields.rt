@@ -152,6 +152,10 @@ impl<'a> Given<'_, 'a> {
                 outline: self.file(0)?,
                 derivation: self.option(1),
             }),
+            Kind::Verify => Ok(Command::Verify {
+                outline: self.file(0)?,
+                steps: self.number(1)?,
+            }),
             Kind::Explain => Ok(Command::Explain {
                 number: self.number(0)?,
             }),

@@ -80,7 +80,7 @@ impl Watcher for Terminal<'_> {
 fn is_printed_at_once(command: &Command<'_>) -> bool {
     matches!(
         command,
-        Command::Find { .. } | Command::Prove { .. } | Command::Run { .. }
+        Command::Find { .. } | Command::Prove { .. } | Command::Run { .. } | Command::Verify { .. }
     )
 }
 

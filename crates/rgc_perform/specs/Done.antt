@@ -1,5 +1,5 @@
 -- What a command has done where its status is 0.
-use Rattle.std.specs.Prelude.{◌≡◌, ℕ, ◌≤◌, List, ◌++◌, length, Option, Some, None, map, codes}
+use Rattle.std.specs.Prelude.{◌≡◌, ℕ, ◌≤◌, List, ◌++◌, length, Option, Some, None, map, codes, decimal}
 use Rattle.std.specs.Borrow.{Bor}
 use Rattle.std.specs.Io.KnownBytes.{Appends}
 use Rattle.serde_json.specs.Written.{compact_text}
@@ -20,7 +20,7 @@ use Rattle.rg_code.specs.CodeTrees.{code_blocks, names_of_code}
 use Rattle.rg_code.specs.declared.code.Code.{Code}
 use Rattle.rgc_line.specs.declared.command.Chosen.{Chosen}
 use Rattle.rgc_line.specs.declared.command.Command.{Command}
-use Rattle.rgc_line.specs.declared.command.Command.TheVariants.{Number, Check, Conditions, Prove, Emit, Run, Valid, Clauses, Find, Outline, Explain}
+use Rattle.rgc_line.specs.declared.command.Command.TheVariants.{Number, Check, Conditions, Prove, Emit, Run, Valid, Clauses, Find, Outline, Verify, Explain}
 use Rattle.rgc_explain.specs.Explanation.{explanation_text}
 use Rattle.rgc_explain.specs.declared.entries.Entry.{Entry}
 use Rattle.rgc.specs.Accepted.{conditions_of, AreAccepted, IsBuiltText}
@@ -122,6 +122,21 @@ pub record HasPrintedOutline (old new : Option (List ℕ)) : Type 0 where
   pub derived : AreDerived text derivation program lines
   pub printed : Appends old new text
 
+-- how many conditions were proved, and for how many of them a search found lines
+abbrev pub verified_text : ℕ → ℕ → List ℕ
+verified_text conditions found = codes "verified: " ++ (decimal conditions ++ (codes " conditions, " ++ (decimal found ++ codes " by search\n")))
+
+-- some text, derivation and proofs are accepted for a program, which therefore satisfies its specification, and the count of its conditions went out
+pub record HasPrintedVerified (old new : Option (List ℕ)) : Type 0 where
+  pub text : List ℕ
+  pub derivation : List ℕ
+  pub proofs : List ℕ
+  pub program : ProgramTree
+  pub accepted : AreAccepted text derivation proofs program
+  pub satisfied : IsSatisfied program
+  pub found : ℕ
+  pub printed : Appends old new (verified_text (length (conditions_of program accepted.accepted.lines)) found)
+
 -- what a refusal of this number means went out
 pub record HasPrintedExplanation (number : ℕ) (old new : Option (List ℕ)) : Type 0 where
   pub entry : Entry
@@ -152,6 +167,7 @@ Does (Valid _ _) (Some text) _ (Some proofs) _ _ old new = HasPrintedHolds text.
 Does (Clauses _ chosen) (Some text) derivation _ _ _ old new = AreClausesDone chosen text.now derivation old new
 Does (Find _ _ chosen) (Some text) derivation _ _ _ old new = AreLinesDone chosen text.now derivation old new
 Does (Outline _ _) (Some outline) _ _ _ _ old new = HasPrintedOutline old new
+Does (Verify _ _) (Some outline) _ _ _ _ old new = HasPrintedVerified old new
 Does (Explain number) _ _ _ _ _ old new = HasPrintedExplanation number old new
 Does _ _ _ _ _ _ _ _ = ⊥
 

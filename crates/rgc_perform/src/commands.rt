@@ -3,7 +3,7 @@
 ghost use Rattle.std.specs.Prelude.{◌≡◌, ◌≤◌, ℕ, List, IsTrue, Option, Some, IfOk, OnOk, OnErr};
 ghost use Rattle.std.specs.Borrow.{Bor};
 ghost use Rattle.rg_words.specs.Written.{CanCount};
-ghost use Rattle.rgc_line.specs.declared.command.Command.TheVariants.{Number, Check, Conditions, Prove, Emit, Run, Valid, Clauses, Find, Outline, Explain};
+ghost use Rattle.rgc_line.specs.declared.command.Command.TheVariants.{Number, Check, Conditions, Prove, Emit, Run, Valid, Clauses, Find, Outline, Verify, Explain};
 ghost use Rattle.rgc_perform.specs.Done.{IsDone};
 ghost use Rattle.rgc_perform.specs.Running.{IsRead};
 
@@ -13,9 +13,11 @@ use crate::printed::{
     print_proofs, print_valid,
 };
 use crate::running::{RunFiles, print_run};
+use crate::verify::{failed_of, print_verified};
 use rg_find::Watcher;
-use rg_outline_files::{NoFiles, OutlineFiles};
-use rg_words::{Out, Refusal, RefusalNumber, write_all};
+use rg_outline_files::{NoFiles, OutlineFiles, failures_told};
+use rg_words::{Out, Refusal, RefusalNumber, WriteFault, write_all};
+use rgc::Unproved;
 use rgc_explain::entry_of;
 use rgc_line::{Chosen, Command, Line};
 use std::alloc::{AllocError, Global};
@@ -51,6 +53,18 @@ impl From<NoFiles> for Stop {
             NoFiles::Told(lines) => Stop::Outline(lines),
             NoFiles::Memory => Stop::Refused(Refusal::from(AllocError)),
         }
+    }
+}
+
+impl From<WriteFault> for Stop {
+    fn from(fault: WriteFault) -> Stop {
+        Stop::Refused(Refusal::from(fault))
+    }
+}
+
+impl From<AllocError> for Stop {
+    fn from(fault: AllocError) -> Stop {
+        Stop::Refused(Refusal::from(fault))
     }
 }
 
@@ -287,6 +301,46 @@ fn outline<W: Out>(
     Ok(())
 }
 
+/// Tells on the output which conditions of an outline have no proof.
+fn print_unproved<W: Out>(
+    alloc: Global,
+    name: &str,
+    source: &[u8],
+    unproved: &[Unproved],
+    out: &mut W,
+) -> Result<(), Stop>
+    requires { CanCount (W.failures out.old) }
+{
+    let failed = failed_of(alloc, unproved)?;
+    let told = failures_told(alloc, name, source, &failed)?;
+    write_all(out, &told)?;
+    Ok(())
+}
+
+/// Prints how many conditions of an outline's program were proved; else which have no proof.
+fn verify<W: Out, P: Watcher>(
+    alloc: Global,
+    name: &str,
+    steps: u64,
+    files: &Files<'_>,
+    out: &mut W,
+    watcher: &mut P,
+) -> Result<(), Stop>
+    requires { CanCount (W.failures out.old) }
+    ensures done { (o : Bor (List ℕ)) → OnOk result (IsDone (Verify o steps) files.now (W.contents out.old) (W.contents out.new)) }
+    ensures failures { OnOk result (W.failures out.new ≡ W.failures out.old) }
+{
+    let source = needed(files.text, "device outline\n")?;
+    let made = OutlineFiles::of(alloc, name, source)?;
+    match print_verified(alloc, &made, steps, out, watcher)? {
+        None => Ok(()),
+        Some(unproved) => {
+            print_unproved(alloc, name, source, &unproved, out)?;
+            Err(Stop::Told)
+        }
+    }
+}
+
 /// Prints what a refusal means.
 fn explain<W: Out>(alloc: Global, number: u64, files: &Files<'_>, out: &mut W) -> Result<(), Stop>
     requires { CanCount (W.failures out.old) }
@@ -343,6 +397,10 @@ fn carry_out<R: Threads + Wait + Sync, W: Out, F: Out, P: Watcher>(
         Command::Clauses { chosen, .. } => clauses(alloc, chosen, files, out),
         Command::Find { steps, chosen, .. } => find(alloc, steps, chosen, files, out, watcher),
         Command::Outline { outline: name, .. } => outline(alloc, name, files, out, side),
+        Command::Verify {
+            outline: name,
+            steps,
+        } => verify(alloc, name, steps, files, out, watcher),
         Command::Explain { number } => explain(alloc, number, files, out),
     }
 }

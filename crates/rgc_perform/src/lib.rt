@@ -7,6 +7,7 @@ mod judged;
 mod numbers;
 mod printed;
 mod running;
+mod verify;
 
 pub use commands::{Files, perform};
 pub use conditions::{write_conditions, write_listing};

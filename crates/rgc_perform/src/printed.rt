@@ -16,8 +16,8 @@ use rg_find::Watcher;
 use rg_outline_files::OutlineFiles;
 use rg_words::{Out, Refusal, write_all};
 use rgc::{
-    Derived, Parsed, ProofsFound, accept, build, clauses, condition_clauses, derive_program, find,
-    find_condition, find_proofs, valid,
+    Derived, Parsed, ProofsFound, accept, build, clauses, condition_clauses, derive_program,
+    failures_text, find, find_condition, find_proofs, valid,
 };
 use rgc_explain::{Entry, explanation};
 use std::alloc::Global;
@@ -81,7 +81,8 @@ fn print_proofs_of<W: Out, P: Watcher>(
             write_all(out, proofs.as_bytes())?;
             Ok(true)
         }
-        ProofsFound::Failures(told) => {
+        ProofsFound::Failures(unproved) => {
+            let told = failures_text(alloc, derived, &unproved)?;
             write_all(out, told.as_bytes())?;
             Ok(false)
         }

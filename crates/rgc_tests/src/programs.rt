@@ -11,7 +11,9 @@ use rg_tree::program::Program;
 use rg_tree::statement::Stmt;
 use rg_tree::tree::Formula;
 use rg_words::{Fuse, Layout, Place, Refusal, RefusalNumber, SourceFile, Taker};
-use rgc::{Derived, Emitted, ProofsFound, accept_program, build_program, find_proofs};
+use rgc::{
+    Derived, Emitted, ProofsFound, accept_program, build_program, failures_text, find_proofs,
+};
 use rgc_perform::{write_conditions, write_listing};
 use std::alloc::{AllocError, Global};
 use std::test::Fail;
@@ -149,17 +151,26 @@ fn a_failing_writer_of_conditions_is_told(rt: HostRuntime) -> Result<(), Fail> {
 }
 
 /// Whether proofs were found with this text, or failures told with it.
-fn is_found(found: &ProofsFound, proofs: bool, text: &str) -> bool {
+fn is_found(
+    alloc: Global,
+    derived: &Derived,
+    found: &ProofsFound,
+    proofs: bool,
+    text: &str,
+) -> bool {
     match found {
         ProofsFound::Proofs(found) => proofs && found.as_str() == text,
-        ProofsFound::Failures(found) => !proofs && found.as_str() == text,
+        ProofsFound::Failures(unproved) => match failures_text(alloc, derived, unproved) {
+            Ok(told) => !proofs && told.as_str() == text,
+            Err(_) => false,
+        },
     }
 }
 
 /// Whether the search for proofs of a derivation ends so.
 fn finds(alloc: Global, derived: &Derived, proofs: bool, text: &str) -> bool {
     match find_proofs(alloc, derived, 100, &mut Unwatched) {
-        Ok(found) => is_found(&found, proofs, text),
+        Ok(found) => is_found(alloc, derived, &found, proofs, text),
         Err(_) => false,
     }
 }

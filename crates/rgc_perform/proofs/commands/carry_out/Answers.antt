@@ -29,3 +29,6 @@ returns-in-Find-clause-done g c = rw c.in-Find.is (c.find.ensures.done c.in-Find
 
 pub returns-in-Outline-clause-done : goal.returns-in-Outline-clause-done
 returns-in-Outline-clause-done g c = rw c.in-Outline.is (c.outline.ensures.done c.in-Outline.name c.in-Outline.derivation)
+
+pub returns-in-Verify-clause-done : goal.returns-in-Verify-clause-done
+returns-in-Verify-clause-done g c = rw c.in-Verify.is (c.verify.ensures.done c.in-Verify.name)

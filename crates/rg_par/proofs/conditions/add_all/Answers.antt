@@ -4,7 +4,7 @@ use Rattle.rg_tree.specs.ProgramView.{specification, part}
 use Rattle.rg_tree.specs.RuleConditions.{as_condition, reaches}
 use Rattle.rg_par.specs.Parallel.{pre_conditions, rely_conditions, guar_conditions, cross_conditions}
 use Rattle.rg_par.proofs.Joined.{six}
-use Rattle.rg_par.proofs.conditions.add_conditions.Goals as goal
+use Rattle.rg_par.proofs.conditions.add_all.Goals as goal
 
 pub returns : goal.returns
 returns c =

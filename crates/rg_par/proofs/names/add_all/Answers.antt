@@ -3,7 +3,7 @@ use Rattle.std.specs.Prelude.{codes, string_bytes}
 use Rattle.rg_tree.specs.ProgramView.{part}
 use Rattle.rg_par.specs.Names.{of_part, cross_names}
 use Rattle.rg_par.proofs.Joined.{six_lists}
-use Rattle.rg_par.proofs.names.add_names.Goals as goal
+use Rattle.rg_par.proofs.names.add_all.Goals as goal
 
 pub returns : goal.returns
 returns c =

@@ -1,0 +1,156 @@
+//! The first conjunct of a formula that is false.
+
+use crate::show::{push_name, push_shown};
+use crate::values::{Moment, Values};
+use crate::words::Words;
+use rg_outline::Expansion;
+use rg_outline_scope::Root;
+use rg_outline_text::{Span, push_count};
+use rg_outline_tree::{Conditional, Junction};
+use std::alloc::AllocError;
+
+/// Where a formula is false.
+#[derive(Drop)]
+pub(crate) struct Falsity {
+    /// The first conjunct that is false.
+    pub(crate) conjunct: usize,
+    /// The named formulas within which it stands, the outermost first.
+    names: Vec<usize>,
+    /// The premises of those implications whose right side it stands in.
+    premises: Vec<usize>,
+}
+
+/// Whether something stands at a place.
+fn is_somewhere(span: Span) -> bool {
+    span.start < span.end
+}
+
+/// Whether a place lies within another, if one is given.
+fn is_inside(place: Span, around: Option<Span>) -> bool {
+    match around {
+        Some(around) => around.start <= place.start && place.end <= around.end,
+        None => true,
+    }
+}
+
+/// The line of a place, from 1.
+pub(crate) fn line_of(expansion: &Expansion<'_>, span: Span) -> u64 {
+    span.position(expansion.scope.source).line as u64
+}
+
+/// Where to go on below a formula that is false, and whether its first operand is then a premise.
+fn below(expansion: &Expansion<'_>, values: &Values, tree: usize) -> Option<(usize, bool)> {
+    let forest = &expansion.scope.forest;
+    let first = forest.operand(tree, 0);
+    let second = forest.operand(tree, 1);
+    match forest.root(tree) {
+        Root::Join(Junction::And) if !values.holds(forest, first) => Some((first, false)),
+        Root::Join(Junction::And) if !values.holds(forest, second) => Some((second, false)),
+        Root::Imply(Conditional::Implies)
+            if forest.root(second) == Root::Join(Junction::And)
+                || forest.tree(second).name.is_some() => { Some((second, true)) }
+        _ => None,
+    }
+}
+
+impl Falsity {
+    /// Where a formula is false in two states.
+    pub(crate) fn of(
+        expansion: &Expansion<'_>,
+        formula: usize,
+        moment: Moment<'_>,
+    ) -> Result<Falsity, AllocError> {
+        let values = Values::of(expansion, formula, moment)?;
+        let mut falsity = Falsity {
+            conjunct: formula,
+            names: Vec::new(expansion.scope.alloc),
+            premises: Vec::new(expansion.scope.alloc),
+        };
+        falsity.descend(expansion, &values)?;
+        Ok(falsity)
+    }
+
+    fn descend(&mut self, expansion: &Expansion<'_>, values: &Values) -> Result<(), AllocError> {
+        let forest = &expansion.scope.forest;
+        for _ in 0..forest.trees.len() {
+            let tree = self.conjunct;
+            if forest.tree(tree).name.is_some() {
+                self.names.push(tree)?;
+            }
+            let Some((next, is_premised)) = below(expansion, values, tree) else {
+                break;
+            };
+            if is_premised {
+                self.premises.push(forest.operand(tree, 0))?;
+            }
+            self.conjunct = next;
+        }
+        Ok(())
+    }
+
+    /// The outermost place of the conjunct, within a place where one is given.
+    pub(crate) fn place(&self, expansion: &Expansion<'_>, around: Option<Span>) -> Span {
+        let forest = &expansion.scope.forest;
+        for tree in &self.names {
+            if let Some(name) = forest.tree(*tree).name
+                && is_inside(name, around)
+            {
+                return name;
+            }
+        }
+        let span = forest.span(self.conjunct);
+        match around {
+            Some(around) if !is_somewhere(span) || !is_inside(span, Some(around)) => around,
+            _ => span,
+        }
+    }
+
+    /// Where the conjunct is written.
+    pub(crate) fn span(&self, expansion: &Expansion<'_>) -> Span {
+        expansion.scope.forest.span(self.conjunct)
+    }
+
+    /// The words of the conjunct and of its premises.
+    pub(crate) fn words(&self, expansion: &Expansion<'_>) -> Result<Words, AllocError> {
+        let mut words = Words::new(expansion);
+        words.add_tree(expansion, self.conjunct)?;
+        for premise in &self.premises {
+            words.add_tree(expansion, *premise)?;
+        }
+        Ok(words)
+    }
+
+    /// Adds rows that tell the conjunct, the premises that hold, and the names within which it stands.
+    pub(crate) fn push_rows(
+        &self,
+        expansion: &Expansion<'_>,
+        text: &mut Vec<u8>,
+    ) -> Result<(), AllocError> {
+        text.extend_from_slice(b"    false: ")?;
+        push_shown(expansion, text, self.conjunct, 0, false)?;
+        let mut before: &[u8] = b"   where ";
+        for premise in &self.premises {
+            text.extend_from_slice(before)?;
+            push_shown(expansion, text, *premise, 3, true)?;
+            before = b" and ";
+        }
+        text.push(b'\n')?;
+        self.push_names(expansion, text)
+    }
+
+    fn push_names(&self, expansion: &Expansion<'_>, text: &mut Vec<u8>) -> Result<(), AllocError> {
+        let mut before: &[u8] = b"    it stands in ";
+        for tree in self.names.iter().rev() {
+            text.extend_from_slice(before)?;
+            push_name(expansion, text, *tree)?;
+            text.extend_from_slice(b" (line ")?;
+            push_count(text, line_of(expansion, expansion.scope.forest.span(*tree)))?;
+            text.push(b')')?;
+            before = b", in ";
+        }
+        if !self.names.is_empty() {
+            text.push(b'\n')?;
+        }
+        Ok(())
+    }
+}
