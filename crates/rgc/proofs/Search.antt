@@ -1,5 +1,5 @@
 -- What a search for proofs of conditions keeps is true.
-use Rattle.std.proofs.Common.{◌≡◌, ℕ, List, [], ◌∷◌, ◌++◌, Some, All, rules, subst, sym, ⊎_elim}
+use Rattle.std.proofs.Common.{◌≡◌, ℕ, List, [], ◌∷◌, Some, All, rules, subst, sym, ⊎_elim}
 use Rattle.std.proofs.lemmas.List.Elements.{All-append, All-cons}
 use Rattle.rg_tree.specs.ConditionTrees.{ConditionTree}
 use Rattle.rg_tree.specs.Programs.{nth}

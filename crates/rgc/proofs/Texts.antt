@@ -9,7 +9,7 @@ use Rattle.rg_hints.specs.Proved.{AreProved, IsProofsRefusal}
 use Rattle.rg_code.specs.Code.{BlockTree, HasRunsOf}
 use Rattle.rg_tree.specs.Programs.{IsSatisfied}
 use Rattle.rg_parse.specs.Programs.{SpellsProgram, OneSpelledProgram}
-use Rattle.rgc.specs.Accepted.{conditions_of, IsAccepted, IsAcceptRefusal, AreAccepted, IsAcceptedText, IsAcceptTextRefusal, IsBuiltText}
+use Rattle.rgc.specs.Accepted.{conditions_of, IsAccepted, AreAccepted, IsAcceptedText, IsAcceptTextRefusal, IsBuiltText}
 use Rattle.rgc.proofs.Accepting.{proved_read, kept_proved, proofs_refused}
 
 -- a text that is accepted spells the program that was read, for which the other two files are accepted

@@ -15,12 +15,33 @@ use std::sync::Wait;
 use std::thread::Threads;
 use std::{env, io};
 
-/// A file's bytes, but no more than one past its limit: that one shows that it has too many.
+/// The name of a file that stands for standard input.
+const INPUT: &str = "-";
+
+/// A file's bytes, or those of standard input, but no more than one past the limit: that one shows that there are too many.
 fn read(rt: &HostRuntime, name: &str, most: usize) -> io::Result<Vec<u8>> {
     let mut bytes = Vec::new(rt.alloc());
-    let mut file = File::open(rt, name)?.take((most as u64).saturating_add(1));
-    file.read_to_end(&mut bytes)?;
+    let limit = (most as u64).saturating_add(1);
+    if name == INPUT {
+        let mut input = rt.reader().take(limit);
+        input.read_to_end(&mut bytes)?;
+    } else {
+        let mut file = File::open(rt, name)?.take(limit);
+        file.read_to_end(&mut bytes)?;
+    }
     Ok(bytes)
+}
+
+/// Whether more than one file is standard input.
+fn reads_input_twice(named: &Named<'_>) -> bool {
+    let files = [
+        named.text,
+        named.derivation,
+        named.proofs,
+        named.start,
+        named.moves,
+    ];
+    files.iter().filter(|name| **name == Some(INPUT)).count() > 1
 }
 
 /// A file's bytes, or none where it can't be read.
@@ -231,8 +252,13 @@ fn run<R: Threads + Wait + Sync>(
     threads: &R,
     line: &Line<'_>,
 ) -> Result<u8, AllocError> {
+    let named = line.command.named();
+    if reads_input_twice(&named) {
+        let _ = eprintln!(rt; "error: `-` names standard input, which is read once");
+        return Ok(2);
+    }
     let mut contents = Contents::empty();
-    contents.read(rt, &line.command.named())?;
+    contents.read(rt, &named)?;
     done_and_drawn(rt, threads, line, &contents.files())
 }
 

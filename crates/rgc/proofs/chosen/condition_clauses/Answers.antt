@@ -1,4 +1,4 @@
-use Rattle.std.proofs.Common.{inl, inr}
+use Rattle.std.proofs.Common.{inl}
 use Rattle.rgc.proofs.chosen.condition_clauses.Goals as goal
 
 pub returns-in-Err-clause-refused : goal.returns-in-Err-clause-refused
