@@ -1,6 +1,6 @@
 //! The files that an outline stands for.
 
-use crate::told::{told_of_expansion, told_of_source};
+use crate::told::{printable, told_of_expansion, told_of_source};
 use rg_outline::{Expansion, work_out};
 use rg_outline_print::{push_derivation, push_text};
 use rg_outline_text::{Fault, Tokens};
@@ -90,5 +90,5 @@ pub fn failures_told(
         Ok(()) => push_told(&expansion, name.as_bytes(), failed, &mut told)?,
         Err(fault) => return Err(told_of_expansion(alloc, name, &expansion, fault)),
     }
-    Ok(told)
+    Ok(printable(alloc, &told)?)
 }

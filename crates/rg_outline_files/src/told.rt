@@ -3,13 +3,53 @@
 use crate::files::NoFiles;
 use rg_outline::Expansion;
 use rg_outline_text::{Fault, FaultKind, Names, Texts, tell};
-use std::alloc::Global;
+use std::alloc::{AllocError, Global};
+
+/// The most bytes of a line that is printed.
+const MOST_PRINTED: usize = 2_000;
+
+/// A byte as it is printed: a control byte of an outline does nothing to the terminal.
+fn printed(byte: u8) -> u8 {
+    match byte {
+        b'\n' | b'\t' => byte,
+        0..=31 | 127 => b'?',
+        _ => byte,
+    }
+}
+
+/// The lines as they are printed: without control bytes, and of each line so many bytes at most.
+pub(crate) fn printable(alloc: Global, lines: &[u8]) -> Result<Vec<u8>, AllocError> {
+    let mut shown = Vec::new(alloc);
+    let mut count = 0usize;
+    for byte in lines {
+        count = if *byte == b'\n' {
+            0
+        } else {
+            count.saturating_add(1)
+        };
+        if count <= MOST_PRINTED {
+            shown.push(printed(*byte))?;
+        }
+    }
+    Ok(shown)
+}
+
+/// The lines that tell a fault by what it may name.
+fn lines_of(
+    alloc: Global,
+    name: &str,
+    fault: Fault,
+    names: Names<'_>,
+) -> Result<Vec<u8>, AllocError> {
+    let mut lines = Vec::new(alloc);
+    tell(&mut lines, name.as_bytes(), fault, names)?;
+    printable(alloc, &lines)
+}
 
 /// Tells a fault by what it may name.
 fn told(alloc: Global, name: &str, fault: Fault, names: Names<'_>) -> NoFiles {
-    let mut lines = Vec::new(alloc);
-    match tell(&mut lines, name.as_bytes(), fault, names) {
-        Ok(()) => NoFiles::Told(lines),
+    match lines_of(alloc, name, fault, names) {
+        Ok(lines) => NoFiles::Told(lines),
         Err(_) => NoFiles::Memory,
     }
 }
