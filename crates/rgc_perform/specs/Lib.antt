@@ -1,5 +1,1 @@
 pub mod Done
-pub mod Running
-pub mod Numbers
-pub mod Conditions
-pub mod Inner

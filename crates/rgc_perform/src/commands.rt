@@ -5,21 +5,21 @@ ghost use Rattle.std.specs.Borrow.{Bor};
 ghost use Rattle.rg_words.specs.Written.{CanCount};
 ghost use Rattle.rgc_line.specs.declared.command.Command.TheVariants.{Number, Check, Conditions, Prove, Emit, Run, Valid, Clauses, Find, Outline, Verify, Explain};
 ghost use Rattle.rgc_perform.specs.Done.{IsDone};
-ghost use Rattle.rgc_perform.specs.Running.{IsRead};
+ghost use Rattle.rgc_running.specs.Running.{IsRead};
 
-use crate::printed::{
-    print_accepted, print_clauses, print_condition_clauses, print_condition_found,
-    print_conditions, print_explanation, print_found, print_listing, print_numbers, print_outline,
-    print_proofs, print_valid,
-};
-use crate::running::{RunFiles, print_run};
-use crate::verify::{failed_of, print_verified};
+use crate::explaining::print_explanation;
 use rg_find::Watcher;
 use rg_outline_files::{NoFiles, OutlineFiles, failures_told};
 use rg_words::{Out, Refusal, RefusalNumber, WriteFault, write_all};
 use rgc::Unproved;
 use rgc_explain::entry_of;
 use rgc_line::{Chosen, Command, Line};
+use rgc_print::{
+    print_accepted, print_clauses, print_condition_clauses, print_condition_found,
+    print_conditions, print_found, print_listing, print_numbers, print_proofs, print_valid,
+};
+use rgc_running::{RunFiles, print_run};
+use rgc_verify::{failed_of, print_outline, print_verified};
 use std::alloc::{AllocError, Global};
 use std::sync::Wait;
 use std::thread::Threads;

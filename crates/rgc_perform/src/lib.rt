@@ -1,14 +1,7 @@
-//! The commands of `rgc` over files in memory: what each does and prints.
+//! The commands of `rgc` over files in memory.
 #![tactic(auto)]
 
 mod commands;
-mod conditions;
-mod judged;
-mod numbers;
-mod printed;
-mod running;
-mod verify;
+mod explaining;
 
 pub use commands::{Files, perform};
-pub use conditions::{write_conditions, write_listing};
-pub use numbers::write_numbers;

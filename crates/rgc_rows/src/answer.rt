@@ -1,45 +1,15 @@
 //! What a command answers to its words and its files.
 
-ghost use Rattle.std.specs.Prelude.{◌≡◌};
-
-use crate::files::Given;
 use clap::error::ErrorKind;
 use rg_find::Unwatched;
 use rg_words::limits::{MOST_PROOF_BYTES, MOST_TEXT_BYTES};
-use rg_words::{Out, Taker, write_all};
+use rg_words::write_all;
 use rgc_line::{Line, LineFault};
 use rgc_perform::{Files, perform};
+use rgc_row_data::{Answer, Given, writer};
 use std::alloc::{AllocError, Global};
 use std::sync::Wait;
 use std::thread::Threads;
-
-/// What a command answered: its status, its output, its faults, and the file that it wrote.
-#[derive(Drop)]
-pub(crate) struct Answer {
-    pub(crate) status: u8,
-    pub(crate) out: Taker,
-    pub(crate) faults: Taker,
-    pub(crate) written: Vec<u8>,
-}
-
-/// A writer that has taken nothing, and takes all at once.
-fn writer(alloc: Global) -> Taker
-    ensures { ⟦<Taker as Out>⟧.failures result ≡ 0 }
-{
-    Taker::new(alloc, usize::MAX)
-}
-
-impl Answer {
-    /// The answer to a row that can't be read.
-    pub(crate) fn empty(alloc: Global) -> Answer {
-        Answer {
-            status: 0,
-            out: writer(alloc),
-            faults: writer(alloc),
-            written: Vec::new(alloc),
-        }
-    }
-}
 
 /// What the program says of a fault of its words.
 fn usage_text(alloc: Global, fault: &LineFault) -> Result<String, AllocError> {

@@ -1,11 +1,8 @@
 //! A group of rows, run in order.
 
-use crate::answer::{Answer, answer_to};
-use crate::difference::Difference;
-use crate::expected::holds;
-use crate::files::{Contents, Given};
-use crate::row::{Row, names_fields};
+use crate::answer::answer_to;
 use crate::tally::Tally;
+use rgc_row_data::{Answer, Contents, Difference, Given, Row, holds, names_fields};
 use serde_json::Value;
 use std::alloc::{AllocError, Global};
 use std::sync::Wait;

@@ -2,12 +2,7 @@
 #![tactic(auto)]
 
 mod answer;
-mod content;
-mod difference;
-mod expected;
-mod files;
 mod group;
-mod row;
 mod tally;
 
 use crate::group::run_group;

@@ -14,7 +14,7 @@ use rg_words::{Fuse, Layout, Place, Refusal, RefusalNumber, SourceFile, Taker};
 use rgc::{
     Derived, Emitted, ProofsFound, accept_program, build_program, failures_text, find_proofs,
 };
-use rgc_perform::{write_conditions, write_listing};
+use rgc_print::{write_conditions, write_listing};
 use std::alloc::{AllocError, Global};
 use std::test::Fail;
 

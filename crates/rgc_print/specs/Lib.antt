@@ -1,0 +1,4 @@
+pub mod Printed
+pub mod Numbers
+pub mod Conditions
+pub mod Inner

@@ -1,0 +1,16 @@
+-- What is printed of a program all of whose conditions are proved.
+use Rattle.std.specs.Prelude.{ℕ, List, length, Option}
+use Rattle.std.specs.Io.KnownBytes.{Appends}
+use Rattle.rg_tree.specs.Lines.{LineTree}
+use Rattle.rg_tree.specs.Statements.{ProgramTree}
+use Rattle.rg_tree.specs.Programs.{IsSatisfied}
+use Rattle.rg_hints.specs.Proved.{AreProved}
+use Rattle.rgc.specs.Accepted.{conditions_of}
+use Rattle.rgc_verify.specs.Verified.{verified_text}
+
+-- the proofs prove all conditions, so the program satisfies its specification, and their count went out
+pub record HasPrintedCounts (program : ProgramTree) (lines : List LineTree) (proofs : List ℕ) (old new : Option (List ℕ)) : Type 0 where
+  pub proved : AreProved (conditions_of program lines) proofs
+  pub satisfied : IsSatisfied program
+  pub found : ℕ
+  pub printed : Appends old new (verified_text (length (conditions_of program lines)) found)
