@@ -2,6 +2,7 @@ pub mod Assigned
 pub mod Blocks
 pub mod Chain
 pub mod Declared
+pub mod Faultless
 pub mod Layouts
 pub mod Lines
 pub mod Lists

@@ -1,4 +1,5 @@
 pub mod Derivations
+pub mod Faultless
 pub mod Faults
 pub mod ProgramTyping
 pub mod Programs

@@ -19,6 +19,7 @@ ghost use Rattle.rg_resolve.specs.Derivations.{derivation_faults, DerivationStan
 ghost use Rattle.rg_syntax.specs.ProgramLimits.{IsWithinLimits};
 ghost use Rattle.rg_resolve.specs.Programs.{program_faults};
 ghost use Rattle.rg_resolve.specs.ProgramTyping.{ProgramStandsFor, OneProgramTree};
+ghost use Rattle.rg_resolve.specs.Faultless.{FaultlessWords, FaultlessShown, FaultlessProgram};
 ghost use Rattle.rg_resolve.specs.Faults.{claim_faults, IsRefusal};
 ghost use Rattle.rg_resolve.specs.Typing.{ClaimStandsFor, OneTree, FaultlessStand};
 ghost use Rattle.rg_resolve.specs.Settings.{settings_faults, moves_faults, StartStandsFor, MovesStandFor, OneStateOfSettings, OneListOfMoves, FaultlessStart, FaultlessMoves};
@@ -124,6 +125,14 @@ pub fn resolve_shown(
 pub fn formulas_stand_for_one_tree()
     ensures one_tree { OneTree }
     ensures faultless { FaultlessStand }
+{}
+
+/// Declared words are those of a layout exactly where none of their tokens is at fault, and a text to show stands for a formula over
+/// the words of a layout exactly where none of its tokens is; the formula is one by `formulas_stand_for_one_tree`.
+#[tactic(auto, using(crate::proofs::Faultless::faultless_words, crate::proofs::Faultless::faultless_shown))]
+pub fn shown_texts_stand()
+    ensures words { FaultlessWords }
+    ensures faultless { FaultlessShown }
 {}
 
 /// The state that a start's settings stand for: each named word has its value, and every other word is 0.
@@ -243,10 +252,11 @@ pub fn resolve_program(
     })
 }
 
-/// A program stands for one tree at most.
-#[tactic(auto, using(crate::proofs::ResolvedStands::one_program_tree))]
+/// A program stands for one tree at most, and within the limits for one exactly where none of its tokens is at fault.
+#[tactic(auto, using(crate::proofs::ResolvedStands::one_program_tree, crate::proofs::Faultless::faultless_program))]
 pub fn programs_stand_for_one_tree()
-    ensures { OneProgramTree }
+    ensures one_tree { OneProgramTree }
+    ensures faultless { FaultlessProgram }
 {}
 
 /// The lines of a derivation over declared words, in order.
