@@ -1,4 +1,5 @@
 pub mod Derivations
+pub mod Faultless
 pub mod Inner
 pub mod Inputs
 pub mod Parse

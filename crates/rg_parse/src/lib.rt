@@ -5,6 +5,7 @@
 #![tactic(auto)]
 
 mod derivations;
+mod faultless;
 mod formulas;
 mod inputs;
 pub mod parse;
@@ -14,6 +15,7 @@ mod programs;
 mod reader;
 
 pub use derivations::{derivation, one_derivation};
+pub use faultless::faultless_texts_spell;
 pub use formulas::{formula, one_meaning, show};
 pub use inputs::{moves, one_reading, start};
 pub use parse_programs::{beginnings_have_one_list, parse_program, programs_have_one_tree};
