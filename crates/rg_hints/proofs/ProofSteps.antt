@@ -7,7 +7,7 @@ use Rattle.std.proofs.Math.Seq.{drop-cons}
 use Rattle.rg_clauses.specs.ClauseLists.{SatisfiesClause, IsUnsatisfiable}
 use Rattle.rg_hints.specs.declared.sections.SectionBytes.{SectionBytes}
 use Rattle.rg_hints.specs.Proved.{section_for}
-use Rattle.rg_hints.specs.Inner.SectionForms.{text_of, HasRoom, AreFrom}
+use Rattle.rg_hints.specs.Placed.{text_of, HasRoom, AreFrom}
 
 found_behind : (s : SectionBytes) (rest : List SectionBytes) (k : ℕ) → s.condition ≢ k → section_for (map text_of (s ∷ rest)) k ≡ section_for (map text_of rest) k
 found_behind s rest k n = cond-false (eqb s.condition k) (Some (text_of s)) (section_for (map text_of rest) k) (ne_eqb s.condition k n)

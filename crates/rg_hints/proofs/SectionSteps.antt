@@ -12,7 +12,8 @@ use Rattle.rg_words.specs.declared.refusal.RefusalNumber.{RefusalNumber}
 use Rattle.rg_hints.specs.declared.sections.SectionBytes.{SectionBytes}
 use Rattle.rg_hints.specs.Text.{fields_of}
 use Rattle.rg_hints.specs.Sections.{SectionText, Headed, is_head, with_line, headed_lines, head_number, named_condition, with_section, then_sections, sections_under, behind_front, sections_of}
-use Rattle.rg_hints.specs.Inner.SectionForms.{text_of, IsPlain, BeginsWithHead, AreLinesBeforeHead, AreRising, sections_behind}
+use Rattle.rg_hints.specs.Placed.{text_of, AreRising}
+use Rattle.rg_hints.specs.Inner.SectionForms.{IsPlain, BeginsWithHead, AreLinesBeforeHead, sections_behind}
 
 -- sections in front of what the rest of a text gives
 abbrev pub with_sections : List SectionText → Result (List SectionText) Refusal → Result (List SectionText) Refusal

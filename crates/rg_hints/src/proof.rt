@@ -1,24 +1,26 @@
 //! Whether a proofs file proves conditions.
 
-ghost use Rattle.std.specs.Prelude.{◌≡◌, ◌⊎◌, ℕ, ◌+◌, ◌^◌, ◌<◌, length, map, drop, option_map, IfOk, OnOk, IfErr, IfSome};
+ghost use Rattle.std.specs.Prelude.{◌≡◌, ◌⊎◌, ℕ, ◌+◌, ◌^◌, ◌<◌, List, length, map, drop, option_map, vec_len, IfOk, OnOk, IfErr, IfSome};
 ghost use Rattle.rg_words.specs.Refusals.{no_memory};
 ghost use Rattle.rg_tree.specs.Conditions.{condition_tree, ConditionHolds};
 ghost use Rattle.rg_tree.specs.RuleConditions.{AllConditionsHold};
 ghost use Rattle.rg_clauses.specs.ClauseLists.{IsUnsatisfiable};
 ghost use Rattle.rg_hints.specs.Proved.{section_for, Closes, AreClosedBy, IsProvedBy, AllProvedFrom, AreProved, IsUnclosed, IsConditionRefusal, IsFirstRefusal, IsProofsRefusal};
-ghost use Rattle.rg_hints.specs.Inner.SectionForms.{text_of, HasRoom, AreFrom};
+ghost use Rattle.rg_hints.specs.Sections.{SectionText};
+ghost use Rattle.rg_hints.specs.Placed.{text_of, HasRoom, AreFrom, HasSections, IsHeadsRefusal, ArePlaced};
 
 use crate::lines::Lines;
-use crate::section::{check, has_empty_clause};
+use crate::section::{Checker, OneThread, has_empty_clause};
 use crate::sections::{SectionBytes, read_sections};
 use rg_clauses::Clauses;
 use rg_tree::condition::Condition;
 use rg_words::limits::MOST_PROOF_BYTES;
 use rg_words::{Place, Refusal, RefusalNumber, SourceFile};
-use std::alloc::Global;
+use std::alloc::{AllocError, Global};
 
 /// Whether the lines of a section close the clauses of its condition.
-fn close_by(
+fn close_by<C: Checker>(
+    checker: &C,
     alloc: Global,
     clauses: &Clauses,
     number: u64,
@@ -34,12 +36,13 @@ fn close_by(
         Ok(lines) => lines,
         Err(refusal) => return Err(refusal),
     };
-    check(alloc, number, clauses, &lines)
+    checker.check(alloc, number, clauses, &lines)
 }
 
 /// Whether clauses, which are those of the condition with this number, are closed by its section; without one,
 /// whether one of them is empty.
-fn close(
+fn close<C: Checker>(
+    checker: &C,
     alloc: Global,
     clauses: &Clauses,
     number: u64,
@@ -52,7 +55,7 @@ fn close(
     ensures only { AreClosedBy clauses.now.clauses (option_map text_of section.entry) → IfErr result (λ e. e ≡ no_memory) }
 {
     if let Some(section) = section {
-        return close_by(alloc, clauses, number, section);
+        return close_by(checker, alloc, clauses, number, section);
     }
     if has_empty_clause(clauses) {
         return Ok(());
@@ -64,8 +67,15 @@ fn close(
     ))
 }
 
-/// Whether the condition with this number is proved by its section, or without one.
-fn prove_condition(
+/// Whether the condition with this number, from 1, is proved by its section, or without one.
+///
+/// # Errors
+///
+/// `Limit` at the condition in file `derivation` (too many variables); then, in file `proofs`, `NoSection` at the condition;
+/// `Unreadable` or `IdOrder` at the first faulty line of its section; `HintNotEarlier`, `HintNotUnit` or `NoConflict` at
+/// its least line that doesn't follow; `NoEmptyClause` at the condition. `Memory` where memory is refused.
+pub fn prove_condition<C: Checker>(
+    checker: &C,
     alloc: Global,
     condition: &Condition,
     number: u64,
@@ -81,7 +91,7 @@ fn prove_condition(
         Ok(clauses) => clauses,
         Err(refusal) => return Err(refusal),
     };
-    close(alloc, &clauses, number, section)
+    close(checker, alloc, &clauses, number, section)
 }
 
 /// The section of the condition with this number, if it has one, and the place of the first section behind it. From the
@@ -108,6 +118,30 @@ fn take_section<'a>(
     (None, from)
 }
 
+/// The section of each of so many conditions, in their order, where a condition has one.
+///
+/// # Errors
+///
+/// Only where memory is refused.
+pub fn place_sections<'a>(
+    alloc: Global,
+    sections: &[SectionBytes<'a>],
+    count: usize,
+) -> Result<Vec<Option<SectionBytes<'a>>>, AllocError>
+    requires { AreFrom 1 sections.now }
+    ensures len { IfOk result (λ placed. vec_len placed ≡ count) }
+    ensures each { IfOk result (λ placed. ArePlaced sections.now placed.items) }
+{
+    let mut placed = Vec::with_capacity(alloc, count)?;
+    let mut place = 0;
+    for index in 0..count {
+        let (section, behind) = take_section(sections, place, index as u64 + 1);
+        placed.push(section)?;
+        place = behind;
+    }
+    Ok(placed)
+}
+
 /// Whether each condition is proved by its section, or without one.
 fn prove_each(
     alloc: Global,
@@ -125,7 +159,7 @@ fn prove_each(
     let mut number = 1;
     while let [condition, others @ ..] = left {
         let (section, behind) = take_section(sections, place, number);
-        if let Err(refusal) = prove_condition(alloc, condition, number, section) {
+        if let Err(refusal) = prove_condition(&OneThread, alloc, condition, number, section) {
             return Err(refusal);
         }
         left = others;
@@ -133,6 +167,29 @@ fn prove_each(
         number += 1;
     }
     Ok(())
+}
+
+/// The sections of a proofs file for so many conditions, in the order of their numbers. No bytes are copied.
+///
+/// # Errors
+///
+/// In file `proofs`: `Limit` at line 1 (too many bytes); then at the first such line `Unreadable` before the first head,
+/// where the line isn't passed over, and in a head `Unreadable` where its form isn't known, `IdOrder` where its number
+/// isn't above that of the head before, `UnknownCondition` where it names no condition. `Memory` where memory is refused.
+pub fn proof_sections(
+    alloc: Global,
+    proofs: &[u8],
+    count: usize,
+) -> Result<Vec<SectionBytes<'_>>, Refusal>
+    ensures sections { IfOk result (λ found. HasSections count proofs.now (map text_of found.items)) }
+    ensures from { IfOk result (λ found. AreFrom 1 found.items) }
+    ensures refused { IfErr result (IsHeadsRefusal count proofs.now) }
+    ensures accepts { (sections : List SectionText) → HasSections count proofs.now sections → IfErr result (λ e. e ≡ no_memory) }
+{
+    if proofs.len() > MOST_PROOF_BYTES {
+        return Err(Refusal::at(RefusalNumber::Limit, SourceFile::Proofs, Place::Line(1)));
+    }
+    read_sections(alloc, proofs, count as u64)
 }
 
 /// Whether a proofs file proves these conditions, which count from 1: each has a section whose lines follow and close its
@@ -155,12 +212,25 @@ pub fn prove(alloc: Global, conditions: &[Condition], proofs: &[u8]) -> Result<(
     ensures refused { IfErr result (IsProofsRefusal (map condition_tree conditions.now) proofs.now) }
     ensures accepts { AreProved (map condition_tree conditions.now) proofs.now → IfErr result (λ e. e ≡ no_memory) }
 {
-    if proofs.len() > MOST_PROOF_BYTES {
-        return Err(Refusal::at(RefusalNumber::Limit, SourceFile::Proofs, Place::Line(1)));
-    }
-    let sections = match read_sections(alloc, proofs, conditions.len() as u64) {
+    let sections = match proof_sections(alloc, proofs, conditions.len()) {
         Ok(sections) => sections,
         Err(refusal) => return Err(refusal),
     };
     prove_each(alloc, conditions, &sections)
+}
+
+/// Who decides whether a proofs file proves conditions: one thread, or several.
+pub trait Prover {
+    /// Whether a proofs file proves these conditions, which count from 1, as `prove` tells it.
+    fn prove(&self, alloc: Global, conditions: &[Condition], proofs: &[u8]) -> Result<(), Refusal>
+        ensures proved { OnOk result (AreProved (map condition_tree conditions.now) proofs.now) }
+        ensures holds { OnOk result (AllConditionsHold (map condition_tree conditions.now)) }
+        ensures refused { IfErr result (IsProofsRefusal (map condition_tree conditions.now) proofs.now) }
+        ensures accepts { AreProved (map condition_tree conditions.now) proofs.now → IfErr result (λ e. e ≡ no_memory) };
+}
+
+impl Prover for OneThread {
+    fn prove(&self, alloc: Global, conditions: &[Condition], proofs: &[u8]) -> Result<(), Refusal> {
+        prove(alloc, conditions, proofs)
+    }
 }

@@ -4,7 +4,8 @@ ghost use Rattle.std.specs.Prelude.{◌≡◌, ◌⊎◌, ◌+◌, ◌^◌, ◌<
 ghost use Rattle.rg_words.specs.Refusals.{no_memory};
 ghost use Rattle.rg_hints.specs.Text.{fields_of};
 ghost use Rattle.rg_hints.specs.Sections.{is_head, whole_number, head_number, named_condition, sections_of};
-ghost use Rattle.rg_hints.specs.Inner.SectionForms.{text_of, IsUpTo, IsPlainLine, BeginsWithHead, AreLinesBeforeHead, IsFront, IsFaultyFront, AreRising, AreNamed, sections_behind, HaveRoom};
+ghost use Rattle.rg_hints.specs.Placed.{text_of, AreRising};
+ghost use Rattle.rg_hints.specs.Inner.SectionForms.{IsUpTo, IsPlainLine, BeginsWithHead, AreLinesBeforeHead, IsFront, IsFaultyFront, AreNamed, sections_behind, HaveRoom};
 
 use crate::chain::refusal_at;
 use crate::text::{is_passed_over, next_field, skip, split_line};

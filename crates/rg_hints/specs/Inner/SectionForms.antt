@@ -7,10 +7,6 @@ use Rattle.rg_hints.specs.Text.{fields_of}
 use Rattle.rg_hints.specs.LineEnds.{EndsLine, IsFrontLine}
 use Rattle.rg_hints.specs.Sections.{SectionText, is_head, headed_lines, behind_front, sections_under}
 
--- a section with its lines
-abbrev pub text_of : SectionBytes → SectionText
-text_of s = record { condition = s.condition; first_line = s.first_line; lines = lines s.bytes.now }
-
 -- a number that stands for another: it is the same, or both are greater than the most that counts
 abbrev pub IsUpTo : ℕ → ℕ → Option ℕ → Type 0
 IsUpTo most n None = ⊥
@@ -52,10 +48,6 @@ IsFront front = (sections : Result (List SectionText) Refusal) → behind_front 
 abbrev pub IsFaultyFront : List ℕ → Refusal → Type 0
 IsFaultyFront front r = (sections : Result (List SectionText) Refusal) → behind_front 1 (lines front) sections ≡ Err r
 
--- the conditions of sections rise
-abbrev pub AreRising : List SectionBytes → Type 0
-AreRising sections = AllPairs (λ a b. a.condition < b.condition) sections
-
 -- the conditions of sections count from 1
 abbrev pub AreNamed : List SectionBytes → Type 0
 AreNamed sections = All (λ s. 0 < s.condition) sections
@@ -67,13 +59,3 @@ sections_behind count number text = sections_under count 0 (headed_lines (lines 
 -- the numbers of the lines of sections keep a bound
 abbrev pub HaveRoom : ℕ → List SectionBytes → Type 0
 HaveRoom bound sections = All (λ s. s.first_line + length s.bytes.now ≤ bound) sections
-
--- the numbers of its lines keep the bound of what is read
-abbrev pub HasRoom : SectionBytes → Type 0
-HasRoom s = s.first_line + length s.bytes.now < 2 ^ 64
-
--- sections of conditions from this number on, in their order
-pub record AreFrom (number : ℕ) (sections : List SectionBytes) : Type 0 where
-  pub rising : AreRising sections
-  pub from : All (λ s. number ≤ s.condition) sections
-  pub room : All HasRoom sections

@@ -3,7 +3,7 @@ use Rattle.rg_words.specs.declared.refusal.Refusal.{Refusal}
 use Rattle.rg_tree.specs.Conditions.{condition_tree}
 use Rattle.rg_tree.specs.RuleConditions.{AllConditionsHold}
 use Rattle.rg_hints.specs.Proved.{section_for, AllProvedFrom, IsFirstRefusal}
-use Rattle.rg_hints.specs.Inner.SectionForms.{text_of, AreFrom}
+use Rattle.rg_hints.specs.Placed.{text_of, AreFrom}
 use Rattle.rg_hints.proofs.proof.prove_each.Given as goal
 
 -- the conditions so far are proved, so the rest decides

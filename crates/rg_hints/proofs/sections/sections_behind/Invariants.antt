@@ -2,7 +2,8 @@ use Rattle.std.proofs.Common.{◌≡◌, ◌+◌, ◌<◌, ◌≤◌, length, ma
 use Rattle.std.specs.Prelude.{All}
 use Rattle.std.specs.Str.Lines.{lines}
 use Rattle.rg_hints.specs.Sections.{headed_lines, sections_under}
-use Rattle.rg_hints.specs.Inner.SectionForms.{text_of, BeginsWithHead, AreRising, HaveRoom, sections_behind}
+use Rattle.rg_hints.specs.Placed.{text_of, AreRising}
+use Rattle.rg_hints.specs.Inner.SectionForms.{BeginsWithHead, HaveRoom, sections_behind}
 use Rattle.rg_hints.proofs.SectionSteps.{with_sections}
 use Rattle.rg_hints.proofs.sections.sections_behind.Given as goal
 
