@@ -1,0 +1,139 @@
+"""The documents of the repository: whether each link leads somewhere, whether what they name is there, and whether each refusal is met.
+
+    faults = documents.faults()
+
+Code blocks are left out. A name in backquotes that is written as one of the sources is (`rules_are_sound`, `StatementSatisfies`,
+`rg_words::RefusalNumber`) has to stand in a source of the crates or the scripts, to be a crate, or to stand in an example; a name of one plain
+word could be anything and isn't asked. A path in backquotes that begins at a folder of the repository has to be one."""
+import glob
+import functools
+import json
+import os
+import re
+
+import project
+
+# Refusals that no row meets, and why.
+NOT_BY_ROWS = {
+    63: "a row's output can always be written",
+    64: "the threads would have to break what they promise to each other",
+    65: "the threads would have to break what they promise to each other",
+    66: "only a caller of the library can ask for it",
+    99: "scripts/refuse_memory refuses each call for memory",
+}
+# Names of other languages that stand on the pages.
+ELSEWHERE = {"fetch_add", "memory_order_seq_cst"}
+LINK = re.compile(r"\[[^\]\[]*\]\(([^()\s]+)\)")
+SPAN = re.compile(r"`([^`\n]+)`")
+NAME = re.compile(r"[a-z][a-z0-9]*(_[a-z][a-z0-9]*)+|([A-Z][a-z0-9]+){2,}|\w+(::\w+)+")
+PATH = re.compile(r"(crates|docs|examples|scripts|share)/[\w./-]*\w")
+
+
+def pages():
+    """The paths of all documents, from the root of the repository."""
+    found = glob.glob("*.md", root_dir=project.ROOT) + glob.glob("docs/*.md", root_dir=project.ROOT)
+    return sorted(found + glob.glob("examples/**/*.md", root_dir=project.ROOT, recursive=True))
+
+
+@functools.lru_cache(maxsize=None)
+def plain(page):
+    """The lines of a page, with those of its code blocks empty."""
+    lines, inside = [], False
+    for line in project.text_of(f"{project.ROOT}/{page}").split("\n"):
+        fence = line.startswith("```")
+        lines.append("" if fence or inside else line)
+        inside ^= fence
+    return lines
+
+
+@functools.lru_cache(maxsize=None)
+def anchors(page):
+    """The anchors of a page's headings, as a browser of repositories makes them."""
+    found = {}
+    for line in plain(page):
+        head = re.match(r"#+ +(.*)", line)
+        if head:
+            text = re.sub(r"\[([^\]]*)\]\([^)]*\)", r"\1", head[1]).strip().lower()
+            name = re.sub(r"[^\w\- ]", "", text).replace(" ", "-")
+            found[name] = found.get(name, -1) + 1
+    return {name if k == 0 else f"{name}-{k}" for name, count in found.items() for k in range(count + 1)}
+
+
+def fault_of_link(page, target):
+    """Why a link of a page leads nowhere, or None."""
+    if re.match(r"https?:|mailto:", target):
+        return None
+    path, _, anchor = target.partition("#")
+    to = os.path.normpath(os.path.join(os.path.dirname(page), path)) if path else page
+    if to.startswith("..") or not os.path.exists(f"{project.ROOT}/{to}"):
+        return f"the link {target} leads nowhere"
+    lines = re.fullmatch(r"L(\d+)(?:-L(\d+))?", anchor)
+    if lines and int(lines[2] or lines[1]) > len(project.text_of(f"{project.ROOT}/{to}").splitlines()):
+        return f"the link {target} leads behind the file's end"
+    if anchor and not lines and (not to.endswith(".md") or anchor not in anchors(to)):
+        return f"the link {target} leads to no heading"
+    return None
+
+
+@functools.lru_cache(maxsize=None)
+def identifiers():
+    """All names that stand in sources of the crates and the scripts, and in the examples, and those of these files."""
+    found = {it.name for it in project.crates()} | {*os.listdir(f"{project.ROOT}/examples")} | ELSEWHERE
+    files = [path for it in project.crates() for path in project.files_of(it)]
+    for folder in ("scripts", "examples"):
+        files += [f"{at}/{name}" for at, _, names in os.walk(f"{project.ROOT}/{folder}") for name in names if not name.endswith((".md", ".svg", ".lrat"))]
+    for path in files:
+        found |= {os.path.basename(path).split(".")[0], *re.findall(r"\w+", project.text_of(path))}
+    return found
+
+
+@functools.lru_cache(maxsize=None)
+def items(crate):
+    """The names of what the sources of a crate declare."""
+    sources = [project.text_of(it) for it in project.files_of(project.named([crate])[0], ("src",))]
+    return {*re.findall(r"\b(?:fn|mod|const|static|trait|struct|enum|type)\s+(\w+)", "\n".join(sources))}
+
+
+def fault_of_name(page, name):
+    """Why a name in backquotes is none, or None."""
+    if PATH.fullmatch(name):
+        return None if os.path.exists(f"{project.ROOT}/{name}") or "NAME" in name else f"there is no {name}"
+    if not NAME.fullmatch(name):
+        return None
+    crate, _, rest = name.partition("::")
+    if rest and crate in {it.name for it in project.crates()} and rest.split("::")[0] not in items(crate):
+        return f"{crate} declares no {rest}"
+    own = project.text_of(f"{project.ROOT}/{page}")
+    blocks = "\n".join(own.split("```")[1::2])
+    missing = [it for it in name.split("::") if it not in identifiers() and not re.search(rf"\b{it}\b", blocks)]
+    return f"{name}: no source has {missing[0]}" if missing else None
+
+
+def faults_of(page):
+    """What is wrong with the links and names of a page, each with its line."""
+    for number, line in enumerate(plain(page), 1):
+        bare = SPAN.sub("", line)
+        for fault in (fault_of_link(page, it) for it in LINK.findall(bare)):
+            if fault:
+                yield f"{page} line {number}: {fault}"
+        for fault in (fault_of_name(page, it) for it in SPAN.findall(line)):
+            if fault:
+                yield f"{page} line {number}: {fault}"
+
+
+def faults_of_refusals():
+    """The refusals that no row meets, or that rows meet though they can't, and those that the page of refusals hasn't."""
+    page = {int(it) for it in re.findall(r"^\| (\d+) \|", project.text_of(f"{project.ROOT}/docs/REFUSALS.md"), re.M)}
+    met = set()
+    for path in glob.glob(f"{project.ROOT}/crates/rgc_rows/data/*.json"):
+        met |= {int(it) for it in re.findall(r"\brefused (\d+)\b", json.dumps(json.loads(project.text_of(path))))}
+    for number in sorted(page | met):
+        if number not in page:
+            yield f"docs/REFUSALS.md: rows meet {number}, which has no entry"
+        elif number not in met and number not in NOT_BY_ROWS:
+            yield f"docs/REFUSALS.md: no row meets {number}"
+
+
+def faults():
+    """What is wrong with all documents."""
+    return [it for page in pages() for it in faults_of(page)] + [*faults_of_refusals()]
