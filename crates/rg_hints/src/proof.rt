@@ -26,7 +26,8 @@ fn close_by<C: Checker>(
     number: u64,
     section: SectionBytes<'_>,
 ) -> Result<(), Refusal>
-    requires { HasRoom section }
+    requires room { HasRoom section }
+    requires ready { C.can_check checker.now }
     ensures closed { OnOk result (Closes clauses.now.clauses (text_of section.entry)) }
     ensures unsatisfiable { OnOk result (IsUnsatisfiable clauses.now.clauses) }
     ensures refused { IfErr result (λ e. (e ≡ no_memory) ⊎ IsUnclosed clauses.now.clauses number (Some (text_of section.entry)) e) }
@@ -48,7 +49,8 @@ fn close<C: Checker>(
     number: u64,
     section: Option<SectionBytes<'_>>,
 ) -> Result<(), Refusal>
-    requires { IfSome section HasRoom }
+    requires room { IfSome section HasRoom }
+    requires ready { C.can_check checker.now }
     ensures closed { OnOk result (AreClosedBy clauses.now.clauses (option_map text_of section.entry)) }
     ensures unsatisfiable { OnOk result (IsUnsatisfiable clauses.now.clauses) }
     ensures refused { IfErr result (λ e. (e ≡ no_memory) ⊎ IsUnclosed clauses.now.clauses number (option_map text_of section.entry) e) }
@@ -81,7 +83,8 @@ pub fn prove_condition<C: Checker>(
     number: u64,
     section: Option<SectionBytes<'_>>,
 ) -> Result<(), Refusal>
-    requires { IfSome section HasRoom }
+    requires room { IfSome section HasRoom }
+    requires ready { C.can_check checker.now }
     ensures proved { OnOk result (IsProvedBy (option_map text_of section.entry) (condition_tree condition.now)) }
     ensures holds { OnOk result (ConditionHolds (condition_tree condition.now)) }
     ensures refused { IfErr result (IsConditionRefusal (option_map text_of section.entry) number (condition_tree condition.now)) }
@@ -221,8 +224,12 @@ pub fn prove(alloc: Global, conditions: &[Condition], proofs: &[u8]) -> Result<(
 
 /// Who decides whether a proofs file proves conditions: one thread, or several.
 pub trait Prover {
+    // What has to hold of it where it is asked: nothing, or that it may be shared by threads.
+    ghost can_prove: { Self → Type 0 } = { λ _. Unit {0} };
+
     /// Whether a proofs file proves these conditions, which count from 1, as `prove` tells it.
     fn prove(&self, alloc: Global, conditions: &[Condition], proofs: &[u8]) -> Result<(), Refusal>
+        requires { can_prove self.now }
         ensures proved { OnOk result (AreProved (map condition_tree conditions.now) proofs.now) }
         ensures holds { OnOk result (AllConditionsHold (map condition_tree conditions.now)) }
         ensures refused { IfErr result (IsProofsRefusal (map condition_tree conditions.now) proofs.now) }
