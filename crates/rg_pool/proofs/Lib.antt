@@ -1,0 +1,2 @@
+pub mod DealSteps
+pub mod VerdictSteps

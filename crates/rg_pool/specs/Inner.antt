@@ -1,0 +1,4 @@
+-- What only contracts of private functions and proofs speak of: no public contract reaches it.
+pub mod Deals
+pub mod PieceAnswers
+pub mod Verdicts

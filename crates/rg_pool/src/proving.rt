@@ -1,0 +1,259 @@
+//! Whether a proofs file proves conditions, with whole conditions side by side.
+
+ghost use Rattle.std.specs.Prelude.{◌≡◌, ◌⊎◌, ℕ, ◌+◌, ◌≤◌, ◌<◌, None, length, map, IfOk, OnOk, IfErr, IfSome, slice_index_or};
+ghost use Rattle.rg_words.specs.Refusals.{no_memory};
+ghost use Rattle.rg_tree.specs.Conditions.{condition_tree};
+ghost use Rattle.rg_tree.specs.RuleConditions.{AllConditionsHold};
+ghost use Rattle.rg_hints.specs.Placed.{text_of, AreFrom, ArePlaced};
+ghost use Rattle.rg_hints.specs.Proved.{AllProvedFrom, AreProved, IsFirstRefusal, IsProofsRefusal};
+ghost use Rattle.rg_pool.specs.Inner.Verdicts.{IsVerdictAt, AreVerdicts};
+ghost use Rattle.rg_pool.specs.Parts.{ArePartProved, IsPartRefusal};
+
+use crate::dealing::deal;
+use crate::pieces::{Untold, check_all, ran_out};
+use rg_clauses::Clauses;
+use rg_hints::{
+    Checker, Lines, OneThread, Prover, SectionBytes, check, place_sections, proof_sections, prove,
+    prove_condition,
+};
+use rg_tree::condition::Condition;
+use rg_words::Refusal;
+use std::alloc::{AllocError, Global};
+use std::sync::atomic::{AtomicBool, Ordering};
+use std::thread::Threads;
+
+/// What is told of the condition at this place, from 0; nothing, where another condition was refused before.
+fn prove_one<R: Threads + Sync>(
+    rt: &R,
+    alloc: Global,
+    before: usize,
+    conditions: &[Condition],
+    sections: &[SectionBytes<'_>],
+    placed: &[Option<SectionBytes<'_>>],
+    refused: &AtomicBool,
+    index: usize,
+) -> Option<Result<(), Refusal>>
+    requires index { index < length conditions.now }
+    requires len { before + length conditions.now ≤ length placed.now }
+    requires placed { ArePlaced sections.now placed.now }
+    ensures { IfSome result (IsVerdictAt (map text_of sections.now) before (map condition_tree conditions.now) index) }
+{
+    if refused.load(Ordering::SeqCst) {
+        return None;
+    }
+    let place = before + index;
+    let number = place as u64 + 1;
+    let checker = InThreads { rt, threads: 2 };
+    let proved = prove_condition(&checker, alloc, &conditions[index], number, placed[place]);
+    if proved.is_err() {
+        refused.store(true, Ordering::SeqCst);
+    }
+    Some(proved)
+}
+
+/// What is told of the condition at this place, from 0: what is known of it, and else what is found now.
+fn verdict_at(
+    alloc: Global,
+    before: usize,
+    conditions: &[Condition],
+    sections: &[SectionBytes<'_>],
+    placed: &[Option<SectionBytes<'_>>],
+    known: &[Option<Result<(), Refusal>>],
+    index: usize,
+) -> Result<(), Refusal>
+    requires index { index < length conditions.now }
+    requires len { before + length conditions.now ≤ length placed.now }
+    requires placed { ArePlaced sections.now placed.now }
+    requires count { length known.now ≡ length conditions.now }
+    requires known { AreVerdicts (map text_of sections.now) before (map condition_tree conditions.now) known.now }
+    ensures { IsVerdictAt (map text_of sections.now) before (map condition_tree conditions.now) index result }
+{
+    if let Some(verdict) = known[index] {
+        return verdict;
+    }
+    let place = before + index;
+    let number = place as u64 + 1;
+    prove_condition(&OneThread, alloc, &conditions[index], number, placed[place])
+}
+
+/// Whether each condition is proved, where something is known of some of them.
+fn settle(
+    alloc: Global,
+    before: usize,
+    conditions: &[Condition],
+    sections: &[SectionBytes<'_>],
+    placed: &[Option<SectionBytes<'_>>],
+    known: &[Option<Result<(), Refusal>>],
+) -> Result<(), Refusal>
+    requires len { before + length conditions.now ≤ length placed.now }
+    requires placed { ArePlaced sections.now placed.now }
+    requires count { length known.now ≡ length conditions.now }
+    requires known { AreVerdicts (map text_of sections.now) before (map condition_tree conditions.now) known.now }
+    ensures proved { OnOk result (AllProvedFrom (map text_of sections.now) (before + 1) (map condition_tree conditions.now)) }
+    ensures holds { OnOk result (AllConditionsHold (map condition_tree conditions.now)) }
+    ensures refused { IfErr result (λ e. (e ≡ no_memory) ⊎ IsFirstRefusal (map text_of sections.now) (before + 1) (map condition_tree conditions.now) e) }
+    ensures accepts { AllProvedFrom (map text_of sections.now) (before + 1) (map condition_tree conditions.now) → IfErr result (λ e. e ≡ no_memory) }
+{
+    for index in 0..conditions.len() {
+        if let Err(refusal) = verdict_at(
+            alloc, before, conditions, sections, placed, known, index,
+        ) {
+            return Err(refusal);
+        }
+    }
+    Ok(())
+}
+
+/// What is told of each condition, in so many threads; nothing of some of them, where one is refused.
+fn prove_some<R: Threads + Sync>(
+    rt: &R,
+    alloc: Global,
+    threads: usize,
+    before: usize,
+    conditions: &[Condition],
+    sections: &[SectionBytes<'_>],
+    placed: &[Option<SectionBytes<'_>>],
+) -> Result<Vec<Option<Result<(), Refusal>>>, AllocError>
+    requires len { before + length conditions.now ≤ length placed.now }
+    requires placed { ArePlaced sections.now placed.now }
+    ensures count { IfOk result (λ known. length known.items ≡ length conditions.now) }
+    ensures known { IfOk result (λ known. AreVerdicts (map text_of sections.now) before (map condition_tree conditions.now) known.items) }
+{
+    let refused = AtomicBool::new(false);
+    let told = &refused;
+    deal(
+        rt,
+        alloc,
+        threads,
+        conditions.len(),
+        &|index: usize| -> Option<Result<(), Refusal>>
+            requires { (index < length conditions.now) × (before + length conditions.now ≤ length placed.now) × ArePlaced sections.now placed.now }
+            ensures { IfSome result (IsVerdictAt (map text_of sections.entry.now) before (map condition_tree conditions.entry.now) index) }
+        { prove_one(rt, alloc, before, conditions, sections, placed, told, index) },
+    )
+}
+
+/// Whether each of these conditions, of so many in all, is proved by its section, or without one, in so many threads.
+fn prove_each_all<R: Threads + Sync>(
+    rt: &R,
+    alloc: Global,
+    threads: usize,
+    count: usize,
+    before: usize,
+    conditions: &[Condition],
+    sections: &[SectionBytes<'_>],
+) -> Result<(), Refusal>
+    requires from { AreFrom 1 sections.now }
+    requires part { before + length conditions.now ≤ count }
+    ensures proved { OnOk result (AllProvedFrom (map text_of sections.now) (before + 1) (map condition_tree conditions.now)) }
+    ensures holds { OnOk result (AllConditionsHold (map condition_tree conditions.now)) }
+    ensures refused { IfErr result (λ e. (e ≡ no_memory) ⊎ IsFirstRefusal (map text_of sections.now) (before + 1) (map condition_tree conditions.now) e) }
+    ensures accepts { AllProvedFrom (map text_of sections.now) (before + 1) (map condition_tree conditions.now) → IfErr result (λ e. e ≡ no_memory) }
+{
+    let placed = place_sections(alloc, sections, count)?;
+    let known = prove_some(rt, alloc, threads, before, conditions, sections, &placed)?;
+    for verdict in &known {
+        if let Some(verdict) = verdict
+            && ran_out(verdict)
+        {
+            return Err(Refusal::from(AllocError));
+        }
+    }
+    settle(alloc, before, conditions, sections, &placed, &known)
+}
+
+/// Whether a proofs file for `count` conditions proves these, which stand behind so many others: condition by condition, in
+/// at most so many threads; each takes the first that is left. A large section is checked in pieces.
+///
+/// With 0 or 1 threads all is done in the thread that asks. A thread that can't be had costs time alone. Nothing behind a
+/// condition that is refused is begun.
+///
+/// # Errors
+///
+/// First the faults of the whole file that `rg_hints::proof_sections` tells; then the first fault of these conditions, in
+/// their order, as `rg_hints::prove_condition` tells it. `Memory` where memory is refused in any thread; all threads are
+/// joined then too.
+pub fn prove_part<R: Threads + Sync>(
+    rt: &R,
+    alloc: Global,
+    threads: usize,
+    count: usize,
+    before: usize,
+    conditions: &[Condition],
+    proofs: &[u8],
+) -> Result<(), Refusal>
+    requires { before + length conditions.now ≤ count }
+    ensures proved { OnOk result (ArePartProved count before (map condition_tree conditions.now) proofs.now) }
+    ensures holds { OnOk result (AllConditionsHold (map condition_tree conditions.now)) }
+    ensures refused { IfErr result (IsPartRefusal count before (map condition_tree conditions.now) proofs.now) }
+    ensures accepts { ArePartProved count before (map condition_tree conditions.now) proofs.now → IfErr result (λ e. e ≡ no_memory) }
+{
+    let sections = match proof_sections(alloc, proofs, count) {
+        Ok(sections) => sections,
+        Err(refusal) => return Err(refusal),
+    };
+    prove_each_all(rt, alloc, threads, count, before, conditions, &sections)
+}
+
+/// Whether a proofs file proves these conditions, which count from 1: the answer of `rg_hints::prove`, found as by
+/// `prove_part`.
+///
+/// # Errors
+///
+/// As `rg_hints::prove`: the first fault, in the order of the conditions. `Memory` where memory is refused in any thread.
+pub fn prove_all<R: Threads + Sync>(
+    rt: &R,
+    alloc: Global,
+    threads: usize,
+    conditions: &[Condition],
+    proofs: &[u8],
+) -> Result<(), Refusal>
+    ensures proved { OnOk result (AreProved (map condition_tree conditions.now) proofs.now) }
+    ensures holds { OnOk result (AllConditionsHold (map condition_tree conditions.now)) }
+    ensures refused { IfErr result (IsProofsRefusal (map condition_tree conditions.now) proofs.now) }
+    ensures accepts { AreProved (map condition_tree conditions.now) proofs.now → IfErr result (λ e. e ≡ no_memory) }
+{
+    if threads < 2 {
+        return prove(alloc, conditions, proofs);
+    }
+    prove_part(rt, alloc, threads, conditions.len(), 0, conditions, proofs)
+}
+
+/// Checks and proves in threads: conditions side by side, and large sections in pieces. With fewer than two threads all is
+/// done in the thread that asks.
+#[derive(Clone, Copy)]
+pub struct InThreads<'a, R> {
+    /// The handle that starts threads.
+    pub rt: &'a R,
+    /// The most conditions that are looked at side by side.
+    pub threads: usize,
+}
+
+impl<R: Threads + Sync> Checker for InThreads<'_, R> {
+    ghost use denote.Param.Send.{IsSync};
+
+    ghost can_check = { λ _. IsSync R.row };
+
+    fn check(
+        &self,
+        alloc: Global,
+        condition: u64,
+        clauses: &Clauses,
+        lines: &Lines,
+    ) -> Result<(), Refusal> {
+        if self.threads < 2 {
+            return check(alloc, condition, clauses, lines);
+        }
+        check_all(self.rt, alloc, condition, clauses, lines, &Untold)
+    }
+}
+
+impl<R: Threads + Sync> Prover for InThreads<'_, R> {
+    ghost use denote.Param.Send.{IsSync};
+
+    ghost can_prove = { λ _. IsSync R.row };
+
+    fn prove(&self, alloc: Global, conditions: &[Condition], proofs: &[u8]) -> Result<(), Refusal> {
+        prove_all(self.rt, alloc, self.threads, conditions, proofs)
+    }
+}
