@@ -59,6 +59,7 @@ fn lines_found(alloc: Global, clauses: &Clauses, refutation: &Refutation) -> Res
 fn searched<W: Watcher>(
     alloc: Global,
     clauses: &Clauses,
+    partners: &[u32],
     steps: u64,
     watcher: &mut W,
 ) -> Result<Found, Refusal>
@@ -73,7 +74,7 @@ fn searched<W: Watcher>(
         literals,
         starts,
     };
-    match solve(alloc, given, steps, watcher)? {
+    match solve(alloc, given, partners, steps, watcher)? {
         Answer::Refuted(refutation) => lines_found(alloc, clauses, &refutation),
         Answer::Satisfied(values) => Ok(Found::Values(values)),
         Answer::GaveUp => Ok(Found::GaveUp),
@@ -193,9 +194,25 @@ pub fn find_watched<W: Watcher>(
     // Too many decisions are refused, and nothing else is but for want of memory.
     ensures refusal { IsRefusedFor (fault_of steps) result }
 {
+    find_with(alloc, clauses, &[], steps, watcher)
+}
+
+/// The same, where of the values that satisfy those come in which inputs agree with their partners, where they may. Nothing is promised
+/// of that.
+pub fn find_with<W: Watcher>(
+    alloc: Global,
+    clauses: &Clauses,
+    partners: &[u32],
+    steps: u64,
+    watcher: &mut W,
+) -> Result<Found, Refusal>
+    ensures found { IfOk result (IsFound clauses.now) }
+    ensures fits { IfOk result FoundFits }
+    ensures refusal { IsRefusedFor (fault_of steps) result }
+{
     if steps > MOST_DECISIONS {
         return Err(Refusal::new(RefusalNumber::Limit));
     }
-    let found = searched(alloc, clauses, steps, watcher)?;
+    let found = searched(alloc, clauses, partners, steps, watcher)?;
     confirmed(alloc, clauses, found)
 }

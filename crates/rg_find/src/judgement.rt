@@ -5,15 +5,19 @@ ghost use Rattle.rg_words.specs.declared.limits.TheConstants.{MOST_VARIABLES, MO
 ghost use Rattle.rg_words.specs.declared.refusal.Place.TheVariants.{Condition as the_condition};
 ghost use Rattle.rg_tree.specs.Conditions.{condition_tree};
 ghost use Rattle.rg_clauses.specs.Conditions.{clauses_of_condition};
+ghost use Rattle.rg_words.specs.Refusals.{IsRefusedFor};
+ghost use Rattle.rg_find.specs.Found.{IsFound, FoundFits, fault_of};
 ghost use Rattle.rg_find.specs.Judged.{IsJudged, JudgedFits, IsJudgeRefusal};
 
-use crate::answer::{Found, find_watched};
+use crate::answer::{Found, find_with};
+use crate::partners::partners_of;
 use rg_bits::states;
 use rg_clauses::Clauses;
 use rg_hints::Lines;
 use rg_search::Watcher;
 use rg_tree::condition::Condition;
-use rg_words::{Refusal, SourceFile, State};
+use rg_words::limits::MOST_DECISIONS;
+use rg_words::{Refusal, RefusalNumber, SourceFile, State};
 use std::alloc::Global;
 
 /// What was found of a condition.
@@ -28,6 +32,25 @@ pub enum Judged {
     /// Lines that close its clauses were found, and their text is longer than a proofs file may be; or the search ended as what it had
     /// learned was too much for one.
     TooLarge,
+}
+
+/// Looks for lines or values over a condition's clauses; of the values those in which the states agree where they may.
+fn find_near<W: Watcher>(
+    alloc: Global,
+    condition: &Condition,
+    clauses: &Clauses,
+    steps: u64,
+    watcher: &mut W,
+) -> Result<Found, Refusal>
+    ensures found { IfOk result (IsFound clauses.now) }
+    ensures fits { IfOk result FoundFits }
+    ensures refusal { IsRefusedFor (fault_of steps) result }
+{
+    if steps > MOST_DECISIONS {
+        return Err(Refusal::new(RefusalNumber::Limit));
+    }
+    let partners = partners_of(alloc, condition)?;
+    find_with(alloc, clauses, &partners, steps, watcher)
 }
 
 /// Looks for lines that prove a condition or for states at which it fails, as `find` does on its clauses. The file and the
@@ -59,7 +82,7 @@ pub fn judge<W: Watcher>(
         Err(refusal) => return Err(refusal),
     };
     let _inputs = clauses.inputs();
-    let found = match find_watched(alloc, &clauses, steps, watcher) {
+    let found = match find_near(alloc, condition, &clauses, steps, watcher) {
         Ok(found) => found,
         Err(refusal) => return Err(refusal),
     };

@@ -27,7 +27,7 @@ const CLOSING: (u64, u64) = (100, 100_000_000);
 const CASES: (u64, u64) = (20, 20_000_000);
 
 /// The same for the first sweep, which finds what is all but plain.
-const FIRST_SWEEP: (u64, u64) = (50, 50_000);
+const FIRST_SWEEP: (u64, u64) = (50, 1_000_000);
 
 /// The same for the second sweep.
 const SWEEP: (u64, u64) = (50, 50_000_000);
@@ -58,8 +58,8 @@ pub enum Answer {
 }
 
 /// A value for each variable: plain values of the inputs, and those of the gates that follow from them.
-fn values_of(circuit: &Circuit, solver: &mut Solver) -> Vec<bool> {
-    let mut simulation = plain_values(solver, circuit);
+fn values_of(circuit: &Circuit, solver: &mut Solver, partners: &[u32]) -> Vec<bool> {
+    let mut simulation = plain_values(solver, circuit, partners);
     simulation.run(circuit);
     let mut values = Vec::new(solver.alloc);
     for variable in 1..circuit.active.len() {
@@ -141,7 +141,7 @@ fn sweep_gates<W: Watcher>(
 ) {
     solver.backtrack(0);
     if effort.conflicts > 0 && !solver.is_over() {
-        let mut sweep = Sweep::new(solver.alloc, circuit, &mut solver.lacks_memory);
+        let mut sweep = Sweep::new(solver, circuit, classes);
         sweep.run(solver, circuit, classes, effort, watcher);
     }
 }
@@ -163,7 +163,9 @@ fn begin<W: Watcher>(
     }
     let effort = Effort {
         conflicts: steps.min(FEW_CONFLICTS),
+        steps,
         work: limit(solver, steps, FIRST_SWEEP),
+        most: limit(solver, steps, SWEEP),
     };
     sweep_gates(solver, circuit, classes, effort, watcher);
     close(solver, circuit, classes, steps);
@@ -186,7 +188,9 @@ fn try_leaves<W: Watcher>(
     close(solver, circuit, classes, steps);
     let effort = Effort {
         conflicts: steps.min(LEAF_CONFLICTS),
+        steps,
         work: limit(solver, steps, CASES),
+        most: limit(solver, steps, CASES),
     };
     refute_each(solver, circuit, &literals, effort, watcher);
 }
@@ -203,7 +207,9 @@ fn go_on<W: Watcher>(
     try_leaves(solver, circuit, classes, steps, watcher);
     let effort = Effort {
         conflicts: steps.min(MANY_CONFLICTS),
+        steps,
         work: limit(solver, steps, SWEEP),
+        most: limit(solver, steps, SWEEP),
     };
     sweep_gates(solver, circuit, classes, effort, watcher);
     close(solver, circuit, classes, steps);
@@ -224,14 +230,20 @@ fn run<W: Watcher>(solver: &mut Solver, circuit: &Circuit, steps: u64, watcher: 
 }
 
 /// What a search found.
-fn answer_of(solver: &mut Solver, given: Given<'_>, circuit: &Circuit, outcome: Outcome) -> Answer {
+fn answer_of(
+    solver: &mut Solver,
+    given: Given<'_>,
+    partners: &[u32],
+    circuit: &Circuit,
+    outcome: Outcome,
+) -> Answer {
     let alloc = solver.alloc;
     match outcome {
         Outcome::Excluded => {
             let lacks_memory = &mut solver.lacks_memory;
             Answer::Refuted(refutation_of(alloc, given, &solver.log, lacks_memory))
         }
-        Outcome::Assigned => Answer::Satisfied(values_of(circuit, solver)),
+        Outcome::Assigned => Answer::Satisfied(values_of(circuit, solver, partners)),
         Outcome::GaveUp if solver.log.is_full() => Answer::TooLong,
         Outcome::GaveUp => Answer::GaveUp,
     }
@@ -241,6 +253,7 @@ fn answer_of(solver: &mut Solver, given: Given<'_>, circuit: &Circuit, outcome: 
 fn solve_by<W: Watcher>(
     solver: &mut Solver,
     given: Given<'_>,
+    partners: &[u32],
     steps: u64,
     watcher: &mut W,
 ) -> Answer {
@@ -248,17 +261,20 @@ fn solve_by<W: Watcher>(
     solver.make_room(given.variables as usize);
     solver.load(given, &circuit);
     let outcome = run(solver, &circuit, steps, watcher);
-    answer_of(solver, given, &circuit, outcome)
+    answer_of(solver, given, partners, &circuit, outcome)
 }
 
 /// Looks for clauses that close the given ones or for values that satisfy them, with at most so many decisions, each on an
 /// input.
 ///
 /// The other work is bounded by that number too, by constants: values that are followed to show what is equal, and conflicts. With no
-/// decision only unit clauses are followed. The watcher is told of a long search.
+/// decision only unit clauses are followed. Of the values that satisfy, those come in which inputs agree with their partners where they
+/// may: the partner of the input at a place of the list, from 1 on, is an earlier one, or 0 for none. The watcher is told of a long
+/// search.
 pub fn solve<W: Watcher>(
     alloc: Global,
     given: Given<'_>,
+    partners: &[u32],
     steps: u64,
     watcher: &mut W,
 ) -> Result<Answer, AllocError> {
@@ -270,7 +286,7 @@ pub fn solve<W: Watcher>(
     }
     let number = u32::try_from(given.len()).unwrap_or(u32::MAX);
     let mut solver = Solver::new(alloc, given.inputs as usize, number);
-    let answer = solve_by(&mut solver, given, steps, watcher);
+    let answer = solve_by(&mut solver, given, partners, steps, watcher);
     if solver.lacks_memory {
         return Err(AllocError);
     }

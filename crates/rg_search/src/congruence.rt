@@ -68,7 +68,7 @@ impl Classes {
     }
 
     /// The lowest literal that is equal, or a constant.
-    fn reduced(&mut self, solver: &Solver, literal: Code) -> Code {
+    pub fn reduced(&mut self, solver: &Solver, literal: Code) -> Code {
         let root = self.root(literal);
         match solver.value(root) {
             OPEN => root,

@@ -78,7 +78,7 @@ pub fn refute_each<W: Watcher>(
             return;
         }
         if is_leaf(solver, circuit, *literal) {
-            let mut goal = Goal::lemma(*literal, *literal, effort.conflicts);
+            let mut goal = Goal::lemma(&[*literal], effort.conflicts);
             let _outcome = solver.search(circuit, &mut goal, watcher);
             solver.backtrack(0);
         }

@@ -7,12 +7,15 @@
 mod answer;
 mod cases;
 mod congruence;
+mod exclusive;
 mod leaders;
 mod leaves;
 mod plain;
 mod refutation;
+mod samples;
 mod shortening;
 mod simulation;
+mod sums;
 mod sweep;
 
 pub use answer::{Answer, solve};

@@ -15,8 +15,13 @@ pub struct Simulation {
     hashes: Vec<u64>,
     /// By variable: all bits where its first value was true, so that it stands for its negation.
     flips: Vec<u64>,
+    /// By variable: the literal that has its value, or `FREE`.
+    ties: Vec<Code>,
     random: u64,
 }
+
+/// The tie of a variable that has none.
+const FREE: Code = Code::MAX;
 
 impl Simulation {
     pub fn new(alloc: Global, circuit: &Circuit, lacks_memory: &mut bool) -> Self {
@@ -24,10 +29,10 @@ impl Simulation {
             words: Vec::new(alloc),
             hashes: Vec::new(alloc),
             flips: Vec::new(alloc),
+            ties: Vec::new(alloc),
             random: MULTIPLIER,
         };
         simulation.make_room(circuit, lacks_memory);
-        simulation.begin(circuit);
         simulation
     }
 
@@ -36,10 +41,11 @@ impl Simulation {
         fill(&mut self.words, 0, size, lacks_memory);
         fill(&mut self.hashes, 0, size, lacks_memory);
         fill(&mut self.flips, 0, size, lacks_memory);
+        fill(&mut self.ties, FREE, size, lacks_memory);
     }
 
     /// Looks at the first inputs, after which each variable stands for itself or its negation.
-    fn begin(&mut self, circuit: &Circuit) {
+    pub fn begin(&mut self, circuit: &Circuit) {
         self.draw_inputs(circuit, 0);
         self.run(circuit);
         for variable in 0..self.words.len() {
@@ -59,15 +65,42 @@ impl Simulation {
         x.wrapping_mul(MULTIPLIER)
     }
 
-    /// Draws all inputs: alike often true and false, seldom true, or seldom false.
+    /// Draws all inputs: each by itself, or seldom unlike the one before, so that carries go far.
     fn draw_inputs(&mut self, circuit: &Circuit, round: usize) {
+        let mut word = 0;
         for variable in 1..circuit.inputs.saturating_add(1) {
-            let mut word = self.draw();
-            if round % 4 == 2 {
-                word &= self.draw() & self.draw();
-            } else if round % 4 == 3 {
-                word |= self.draw() | self.draw();
+            let mut turned = self.draw();
+            if round % 4 >= 2 {
+                turned &= self.draw() & self.draw();
             }
+            if round % 4 == 3 {
+                turned &= self.draw() & self.draw();
+            }
+            word ^= turned;
+            put(&mut self.words, variable, word);
+            self.settle(circuit, variable);
+        }
+    }
+
+    /// Ties a variable to a literal, whose values it has from now on.
+    pub fn tie(&mut self, variable: usize, literal: Code) {
+        put(&mut self.ties, variable, literal);
+    }
+
+    /// Gives a variable and the literal that it is tied to one value: that of a gate to an input, and else that of the literal to the
+    /// variable.
+    fn settle(&mut self, circuit: &Circuit, variable: usize) {
+        let tie = at(&self.ties, variable, FREE);
+        if tie == FREE {
+            return;
+        }
+        let input = variable_of(tie);
+        if variable > circuit.inputs && 0 < input && input <= circuit.inputs {
+            let sign = 0u64.wrapping_sub(u64::from(tie & 1));
+            let word = at(&self.words, variable, 0);
+            put(&mut self.words, input, word ^ sign);
+        } else {
+            let word = self.word_of(tie);
             put(&mut self.words, variable, word);
         }
     }
@@ -90,6 +123,7 @@ impl Simulation {
             variable = variable.saturating_add(1);
             let word = self.word_of(gate.first) & self.word_of(gate.second);
             put(&mut self.words, variable, word);
+            self.settle(circuit, variable);
         }
     }
 
@@ -119,6 +153,7 @@ impl Simulation {
             };
             let turned = self.draw() & self.draw() & self.draw();
             put(&mut self.words, variable, same ^ (turned & !1));
+            self.settle(circuit, variable);
         }
         self.run(circuit);
         self.absorb();

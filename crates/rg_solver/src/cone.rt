@@ -15,13 +15,14 @@ impl Solver {
         self.near.insert(u32::try_from(variable).unwrap_or(0));
     }
 
-    /// Collects the variables on which two literals rest, the nearest first.
-    pub fn enter_cone(&mut self, circuit: &Circuit, first: Code, second: Code) {
+    /// Collects the variables on which literals rest, the nearest first.
+    pub fn enter_cone(&mut self, circuit: &Circuit, literals: &[Code]) {
         self.cone_stamp = self.cone_stamp.wrapping_add(1);
         self.cone.clear();
         self.near.clear();
-        self.enter(variable_of(first));
-        self.enter(variable_of(second));
+        for literal in literals {
+            self.enter(variable_of(*literal));
+        }
         for place in 0..usize::MAX {
             let Some(variable) = self.cone.get(place).copied() else {
                 break;

@@ -3,6 +3,7 @@
 use crate::circuit::Circuit;
 use crate::code::{Code, variable_of};
 use crate::solver::{FALSE, Solver};
+use crate::table::{at, put};
 use crate::watcher::Watcher;
 
 /// How a search ends.
@@ -16,12 +17,15 @@ pub enum Outcome {
     GaveUp,
 }
 
+/// The most literals of a lemma.
+pub const MOST_ASSUMED: usize = 6;
+
 /// What a search looks for, and how much is left of it.
 #[derive(Clone, Copy)]
 pub struct Goal {
-    /// Two literals to be shown not to be true together. They may be one, or 0, where there is no assumption.
-    pub first: Code,
-    pub second: Code,
+    /// Literals to be shown not to be true together, and how many there are. With none there is no assumption.
+    pub literals: [Code; MOST_ASSUMED],
+    pub count: usize,
     /// The conflicts that are left.
     pub conflicts: u64,
     /// The decisions on inputs that are left.
@@ -34,19 +38,23 @@ impl Goal {
     /// Values for all variables, or a refutation.
     pub fn whole(conflicts: u64, decisions: u64) -> Self {
         Goal {
-            first: 0,
-            second: 0,
+            literals: [0; MOST_ASSUMED],
+            count: 0,
             conflicts,
             decisions,
             has_cone: false,
         }
     }
 
-    /// That two literals aren't true together.
-    pub fn lemma(first: Code, second: Code, conflicts: u64) -> Self {
+    /// That some literals aren't true together.
+    pub fn lemma(assumed: &[Code], conflicts: u64) -> Self {
+        let mut literals = [0; MOST_ASSUMED];
+        for place in 0..MOST_ASSUMED {
+            put(&mut literals, place, at(assumed, place, 0));
+        }
         Goal {
-            first,
-            second,
+            literals,
+            count: assumed.len().min(MOST_ASSUMED),
             conflicts,
             decisions: u64::MAX,
             has_cone: false,
@@ -54,16 +62,12 @@ impl Goal {
     }
 
     fn is_lemma(&self) -> bool {
-        self.first > 0
+        self.count > 0
     }
 
     /// The level of the last assumption.
     fn base(&self) -> usize {
-        if self.first == self.second {
-            self.first.min(1) as usize
-        } else {
-            2
-        }
+        self.count
     }
 }
 
@@ -134,11 +138,7 @@ impl Solver {
 
     /// Begins the level of the next assumption. Where it is false already, they exclude each other.
     fn assume_next(&mut self, goal: Goal) -> Option<Outcome> {
-        let literal = if self.level() == 0 {
-            goal.first
-        } else {
-            goal.second
-        };
+        let literal = at(&goal.literals, self.level(), 0);
         if self.value(literal) == FALSE {
             self.contradict(literal);
             return Some(Outcome::Excluded);
@@ -169,7 +169,7 @@ impl Solver {
     fn decide_near(&mut self, circuit: &Circuit, goal: &mut Goal) -> Option<Outcome> {
         if !goal.has_cone {
             goal.has_cone = true;
-            self.enter_cone(circuit, goal.first, goal.second);
+            self.enter_cone(circuit, &goal.literals);
         }
         let Some(decision) = self.next_near() else {
             return Some(Outcome::Assigned);
