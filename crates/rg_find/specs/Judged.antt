@@ -12,6 +12,7 @@ use Rattle.rg_bits.specs.Inputs.{state_of, own_second}
 use Rattle.rg_clauses.specs.Conditions.{clauses_of_condition}
 use Rattle.rg_hints.specs.Normal.{section_text}
 use Rattle.rg_hints.specs.Verdict.{IsClosed}
+use Rattle.rg_find.specs.Found.{HasNoGaps}
 use Rattle.rg_find.specs.declared.judgement.Judged.{Judged}
 use Rattle.rg_find.specs.declared.judgement.Judged.TheVariants.{Holds, Fails, GaveUp, TooLarge}
 
@@ -37,6 +38,13 @@ JudgedFits (Holds lines) = length (section_text lines) ≤ MOST_PROOF_BYTES
 JudgedFits (Fails first second) = Unit {0}
 JudgedFits GaveUp = Unit {0}
 JudgedFits TooLarge = Unit {0}
+
+-- the numbers of lines that are given begin at one above the clauses of the condition, and have no gaps
+abbrev pub JudgedInOrder : Judged → Type 0
+JudgedInOrder (Holds lines) = HasNoGaps lines
+JudgedInOrder (Fails first second) = Unit {0}
+JudgedInOrder GaveUp = Unit {0}
+JudgedInOrder TooLarge = Unit {0}
 
 -- why nothing is said of it: for want of memory; or else for its variables; or else for the decisions
 abbrev pub IsJudgeRefusal : ConditionTree → SourceFile → ℕ → ℕ → Refusal → Type 0

@@ -6,7 +6,7 @@ ghost use Rattle.rg_words.specs.Refusals.{no_memory, IsRefusedFor};
 ghost use Rattle.rg_words.specs.declared.limits.TheConstants.{MOST_VARIABLES, MOST_PROOF_BYTES};
 ghost use Rattle.rg_clauses.specs.ClauseLists.{IsLiteral, Satisfies, SatisfiesClause, literal_value, value_at};
 ghost use Rattle.rg_hints.specs.Normal.{section_text};
-ghost use Rattle.rg_find.specs.Found.{IsFound, FoundFits, fault_of};
+ghost use Rattle.rg_find.specs.Found.{IsFound, FoundFits, FoundInOrder, fault_of};
 
 use crate::logged_lines::lines_of;
 use rg_clauses::Clauses;
@@ -43,6 +43,7 @@ fn fits(alloc: Global, lines: &Lines) -> Result<bool, Refusal>
 fn lines_found(alloc: Global, clauses: &Clauses, refutation: &Refutation) -> Result<Found, Refusal>
     ensures over { IfOk result (IsOver clauses.now) }
     ensures fits { IfOk result FoundFits }
+    ensures order { IfOk result FoundInOrder }
     ensures refusal { IfErr result (λ r. r ≡ no_memory) }
 {
     let Some(lines) = lines_of(alloc, clauses.len(), refutation)? else {
@@ -65,6 +66,7 @@ fn searched<W: Watcher>(
 ) -> Result<Found, Refusal>
     ensures over { IfOk result (IsOver clauses.now) }
     ensures fits { IfOk result FoundFits }
+    ensures order { IfOk result FoundInOrder }
     ensures refusal { IfErr result (λ r. r ≡ no_memory) }
 {
     let (literals, starts) = clauses.flat();
@@ -127,8 +129,10 @@ fn satisfies(clauses: &Clauses, values: &[bool]) -> bool
 fn confirmed(alloc: Global, clauses: &Clauses, found: Found) -> Result<Found, Refusal>
     requires over { IsOver clauses.now found }
     requires fits { FoundFits found }
+    requires order { FoundInOrder found }
     ensures found { IfOk result (IsFound clauses.now) }
     ensures fits { IfOk result FoundFits }
+    ensures order { IfOk result FoundInOrder }
     ensures refusal { IfErr result (λ r. r ≡ no_memory) }
 {
     match found {
@@ -168,6 +172,9 @@ pub fn find(alloc: Global, clauses: &Clauses, steps: u64) -> Result<Found, Refus
     // Lines fit into a proofs file.
     ensures fits { IfOk result FoundFits }
 
+    // Their numbers follow those of the clauses and have no gaps.
+    ensures order { IfOk result FoundInOrder }
+
     // Too many decisions are refused, and nothing else is but for want of memory.
     ensures refusal { IsRefusedFor (fault_of steps) result }
 {
@@ -191,6 +198,9 @@ pub fn find_watched<W: Watcher>(
     // Lines fit into a proofs file.
     ensures fits { IfOk result FoundFits }
 
+    // Their numbers follow those of the clauses and have no gaps.
+    ensures order { IfOk result FoundInOrder }
+
     // Too many decisions are refused, and nothing else is but for want of memory.
     ensures refusal { IsRefusedFor (fault_of steps) result }
 {
@@ -208,6 +218,7 @@ pub fn find_with<W: Watcher>(
 ) -> Result<Found, Refusal>
     ensures found { IfOk result (IsFound clauses.now) }
     ensures fits { IfOk result FoundFits }
+    ensures order { IfOk result FoundInOrder }
     ensures refusal { IsRefusedFor (fault_of steps) result }
 {
     if steps > MOST_DECISIONS {

@@ -6,8 +6,8 @@ ghost use Rattle.rg_words.specs.declared.refusal.Place.TheVariants.{Condition as
 ghost use Rattle.rg_tree.specs.Conditions.{condition_tree};
 ghost use Rattle.rg_clauses.specs.Conditions.{clauses_of_condition};
 ghost use Rattle.rg_words.specs.Refusals.{IsRefusedFor};
-ghost use Rattle.rg_find.specs.Found.{IsFound, FoundFits, fault_of};
-ghost use Rattle.rg_find.specs.Judged.{IsJudged, JudgedFits, IsJudgeRefusal};
+ghost use Rattle.rg_find.specs.Found.{IsFound, FoundFits, FoundInOrder, fault_of};
+ghost use Rattle.rg_find.specs.Judged.{IsJudged, JudgedFits, JudgedInOrder, IsJudgeRefusal};
 
 use crate::answer::{Found, find_with};
 use crate::partners::partners_of;
@@ -44,6 +44,7 @@ fn find_near<W: Watcher>(
 ) -> Result<Found, Refusal>
     ensures found { IfOk result (IsFound clauses.now) }
     ensures fits { IfOk result FoundFits }
+    ensures order { IfOk result FoundInOrder }
     ensures refusal { IsRefusedFor (fault_of steps) result }
 {
     if steps > MOST_DECISIONS {
@@ -73,6 +74,9 @@ pub fn judge<W: Watcher>(
 
     // Lines fit into a proofs file.
     ensures fits { IfOk result JudgedFits }
+
+    // Their numbers follow those of the clauses and have no gaps.
+    ensures order { IfOk result JudgedInOrder }
     ensures within { IfOk result (λ _. (clauses_of_condition (condition_tree condition.now)).variables ≤ MOST_VARIABLES) }
     ensures steps { OnOk result (steps ≤ MOST_DECISIONS) }
     ensures refusal { IfErr result (IsJudgeRefusal (condition_tree condition.now) file number steps) }

@@ -2,6 +2,7 @@
 
 ghost use Rattle.std.specs.Prelude.{◌≡◌, All, IfOk, IfSome, IsTrue};
 ghost use Rattle.rg_hints.specs.Lines.{IsHintLiteral};
+ghost use Rattle.rg_find.specs.Found.{HasNoGaps};
 
 use rg_hints::{Head, Lines};
 use rg_search::Refutation;
@@ -28,7 +29,8 @@ pub fn lines_of(
     given: usize,
     refutation: &Refutation,
 ) -> Result<Option<Lines>, AllocError>
-    ensures { IfOk result (λ o. IfSome o (λ l. l.given ≡ given)) }
+    ensures given { IfOk result (λ o. IfSome o (λ l. l.given ≡ given)) }
+    ensures order { IfOk result (λ o. IfSome o HasNoGaps) }
 {
     let Ok(mut last) = u32::try_from(given) else {
         return Ok(None);
