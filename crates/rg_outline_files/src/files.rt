@@ -2,10 +2,12 @@
 
 use crate::told::{printable, told_of_expansion, told_of_source};
 use rg_outline::{Expansion, work_out};
-use rg_outline_print::{push_derivation, push_text};
+use rg_outline_print::{push_derivation, push_map, push_text, push_unmet};
+use rg_outline_reports::{Reports, push_json, push_lines};
 use rg_outline_text::{Fault, Tokens};
-use rg_outline_told::{Failed, push_told};
+use rg_outline_told::{Failed, Told, push_conditions, subject_of};
 use rg_outline_tree::{Written, parse};
+use rg_outline_warnings::tell_warnings;
 use std::alloc::{AllocError, Global};
 
 /// The files that an outline stands for, each as it is printed.
@@ -15,15 +17,43 @@ pub struct OutlineFiles {
     pub text: Vec<u8>,
     /// The lines that derive its parts.
     pub derivation: Vec<u8>,
+    /// A formula to show that says that no state meets the program's pre.
+    pub unmet: Vec<u8>,
+}
+
+/// What the words and the statements of the text are in the outline.
+#[derive(Drop)]
+pub struct Places {
+    /// A row for each word that the outline writes otherwise: `want_0 is want[0]`.
+    pub words: Vec<u8>,
+    /// The outline's line of each statement, by the statement's number in the text; 0 for a sequence, and as the first one, since numbers are from 1.
+    pub lines: Vec<u64>,
 }
 
 /// Why an outline stands for no files.
 #[derive(Drop)]
 pub enum NoFiles {
-    /// The lines that tell its first fault: the file with line and column and a sentence, the line, and a line of carets.
+    /// What tells its first fault: the file with line and column and a sentence, the line, and a line of carets; or the same as JSON.
     Told(Vec<u8>),
     /// Memory was refused.
     Memory,
+}
+
+/// How reports are printed.
+#[derive(Clone, Copy, PartialEq, Eq)]
+pub enum Format {
+    /// Lines to be read.
+    Plain,
+    /// One JSON value a line.
+    Json,
+}
+
+/// An outline: its file, as places name it, with its bytes; and how what is told of it is printed.
+#[derive(Clone, Copy)]
+pub struct OutlineSource<'a> {
+    pub name: &'a str,
+    pub source: &'a [u8],
+    pub format: Format,
 }
 
 impl From<AllocError> for NoFiles {
@@ -38,57 +68,202 @@ fn written_in(alloc: Global, source: &[u8]) -> Result<Written, Fault> {
     parse(alloc, source, &tokens)
 }
 
-/// Works out an outline and prints its files.
-fn print_files(expansion: &mut Expansion<'_>, files: &mut OutlineFiles) -> Result<(), Fault> {
-    work_out(expansion)?;
+/// What is wanted of an outline, and where it goes.
+#[derive(Drop)]
+enum Wanted<'w> {
+    Files(&'w mut OutlineFiles),
+    Map(&'w mut Vec<u8>),
+    Places(&'w mut Places),
+    /// What is told of conditions that aren't proved.
+    Failures(&'w [Failed<'w>], &'w mut Vec<u8>),
+    /// The warnings; whether no state meets the program's pre.
+    Warnings(bool, &'w mut Vec<u8>),
+}
+
+/// Prints the files of an outline that was worked out.
+fn print_files(expansion: &Expansion<'_>, files: &mut OutlineFiles) -> Result<(), Fault> {
     push_text(expansion, &mut files.text)?;
-    push_derivation(expansion, &mut files.derivation)
+    push_derivation(expansion, &mut files.derivation)?;
+    push_unmet(expansion, &mut files.unmet)
+}
+
+/// Prints the map of an outline that was worked out.
+fn print_map(expansion: &Expansion<'_>, map: &mut Vec<u8>) -> Result<(), Fault> {
+    push_map(expansion, map)?;
+    push_conditions(expansion, map)?;
+    Ok(())
+}
+
+/// Finds what the words and the statements of the text are in an outline that was worked out.
+fn find_places(expansion: &Expansion<'_>, places: &mut Places) -> Result<(), Fault> {
+    push_names(expansion, &mut places.words)?;
+    for _ in 0..expansion.count.saturating_add(1) {
+        places.lines.push(0)?;
+    }
+    for statement in &expansion.statements {
+        if let Some(slot) = places.lines.get_mut(statement.number) {
+            *slot = statement.span.position(expansion.scope.source).line as u64;
+        }
+    }
+    Ok(())
+}
+
+/// Adds a row for each word that the outline writes otherwise than the text.
+fn push_names(expansion: &Expansion<'_>, rows: &mut Vec<u8>) -> Result<(), Fault> {
+    for word in 0..expansion.scope.words.len() {
+        let member = expansion.scope.members.at(word);
+        let shown = expansion.scope.shown.at(word);
+        if member != shown {
+            rows.extend_from_slice(member)?;
+            rows.extend_from_slice(b" is ")?;
+            rows.extend_from_slice(shown)?;
+            rows.push(b'\n')?;
+        }
+    }
+    Ok(())
+}
+
+/// Prints what is told of conditions of an outline that was worked out.
+fn print_failures(
+    expansion: &Expansion<'_>,
+    outline: OutlineSource<'_>,
+    failed: &[Failed<'_>],
+    lines: &mut Vec<u8>,
+) -> Result<(), Fault> {
+    let told = Told::of(expansion, failed)?;
+    let subject = subject_of(expansion, outline.name.as_bytes());
+    match outline.format {
+        Format::Plain => told.push_lines(subject, lines)?,
+        Format::Json => told.push_json(expansion.scope.alloc, subject, lines)?,
+    }
+    Ok(())
+}
+
+/// Prints the warnings of an outline that was worked out.
+fn print_warnings(
+    expansion: &Expansion<'_>,
+    outline: OutlineSource<'_>,
+    is_unmet: bool,
+    lines: &mut Vec<u8>,
+) -> Result<(), Fault> {
+    let mut reports = Reports::new(expansion.scope.alloc);
+    tell_warnings(expansion, is_unmet, &mut reports)?;
+    let subject = subject_of(expansion, outline.name.as_bytes());
+    match outline.format {
+        Format::Plain => push_lines(lines, &reports, subject)?,
+        Format::Json => push_json(lines, expansion.scope.alloc, &reports, subject)?,
+    }
+    Ok(())
+}
+
+/// Works out an outline, and prints what is wanted of it.
+fn print_wanted(
+    expansion: &mut Expansion<'_>,
+    outline: OutlineSource<'_>,
+    wanted: Wanted<'_>,
+) -> Result<(), Fault> {
+    work_out(expansion)?;
+    match wanted {
+        Wanted::Files(files) => print_files(expansion, files),
+        Wanted::Map(map) => print_map(expansion, map),
+        Wanted::Places(places) => find_places(expansion, places),
+        Wanted::Failures(failed, lines) => print_failures(expansion, outline, failed, lines),
+        Wanted::Warnings(is_unmet, lines) => print_warnings(expansion, outline, is_unmet, lines),
+    }
+}
+
+/// Prints what is wanted of an outline; else tells its first fault.
+fn print(alloc: Global, outline: OutlineSource<'_>, wanted: Wanted<'_>) -> Result<(), NoFiles> {
+    let written = match written_in(alloc, outline.source) {
+        Ok(written) => written,
+        Err(fault) => return Err(told_of_source(alloc, outline, fault)),
+    };
+    let mut expansion = Expansion::new(alloc, outline.source, &written);
+    match print_wanted(&mut expansion, outline, wanted) {
+        Ok(()) => Ok(()),
+        Err(fault) => Err(told_of_expansion(alloc, outline, &expansion, fault)),
+    }
 }
 
 impl OutlineFiles {
-    /// The files that an outline stands for. `name` is the outline's file, as a fault names it.
+    /// The files that an outline stands for.
     ///
     /// # Errors
     ///
     /// - `NoFiles::Told`, with the first fault of the tokens, else of the shape, else of the meaning, else that a file would be too large.
     /// - `NoFiles::Memory` where memory is refused.
-    pub fn of(alloc: Global, name: &str, source: &[u8]) -> Result<OutlineFiles, NoFiles> {
-        let written = match written_in(alloc, source) {
-            Ok(written) => written,
-            Err(fault) => return Err(told_of_source(alloc, name, source, fault)),
-        };
-        let mut expansion = Expansion::new(alloc, source, &written);
+    pub fn of(alloc: Global, outline: OutlineSource<'_>) -> Result<OutlineFiles, NoFiles> {
         let mut files = OutlineFiles {
             text: Vec::new(alloc),
             derivation: Vec::new(alloc),
+            unmet: Vec::new(alloc),
         };
-        match print_files(&mut expansion, &mut files) {
-            Ok(()) => Ok(files),
-            Err(fault) => Err(told_of_expansion(alloc, name, &expansion, fault)),
-        }
+        print(alloc, outline, Wanted::Files(&mut files))?;
+        Ok(files)
     }
 }
 
-/// What is told of conditions of an outline's derivation that aren't proved. `name` is the outline's file, as the places name it.
+/// What the words and the statements of the text are in an outline.
+///
+/// # Errors
+///
+/// As `OutlineFiles::of`.
+pub fn outline_places(alloc: Global, outline: OutlineSource<'_>) -> Result<Places, NoFiles> {
+    let mut places = Places {
+        words: Vec::new(alloc),
+        lines: Vec::new(alloc),
+    };
+    print(alloc, outline, Wanted::Places(&mut places))?;
+    Ok(places)
+}
+
+/// The map of an outline: a row `line K RULE PART LINE:COLUMN phrase` for each line of its derivation, then a row
+/// `K NAME LINE:COLUMN what it says` for each condition.
+///
+/// # Errors
+///
+/// As `OutlineFiles::of`.
+pub fn outline_map(alloc: Global, outline: OutlineSource<'_>) -> Result<Vec<u8>, NoFiles> {
+    let mut map = Vec::new(alloc);
+    print(alloc, outline, Wanted::Map(&mut map))?;
+    Ok(printable(alloc, &map)?)
+}
+
+/// What is told, as it is printed: lines without control bytes, and JSON as it is.
+fn shown(alloc: Global, format: Format, told: Vec<u8>) -> Result<Vec<u8>, NoFiles> {
+    match format {
+        Format::Plain => Ok(printable(alloc, &told)?),
+        Format::Json => Ok(told),
+    }
+}
+
+/// What is told of conditions of an outline's derivation that aren't proved.
 ///
 /// # Errors
 ///
 /// As `OutlineFiles::of`.
 pub fn failures_told(
     alloc: Global,
-    name: &str,
-    source: &[u8],
+    outline: OutlineSource<'_>,
     failed: &[Failed<'_>],
 ) -> Result<Vec<u8>, NoFiles> {
-    let written = match written_in(alloc, source) {
-        Ok(written) => written,
-        Err(fault) => return Err(told_of_source(alloc, name, source, fault)),
-    };
-    let mut expansion = Expansion::new(alloc, source, &written);
     let mut told = Vec::new(alloc);
-    match work_out(&mut expansion) {
-        Ok(()) => push_told(&expansion, name.as_bytes(), failed, &mut told)?,
-        Err(fault) => return Err(told_of_expansion(alloc, name, &expansion, fault)),
-    }
-    Ok(printable(alloc, &told)?)
+    print(alloc, outline, Wanted::Failures(failed, &mut told))?;
+    shown(alloc, outline.format, told)
+}
+
+/// The warnings of an outline; nothing where there are none. Whether no state meets the program's pre is said by who calls, since it takes a
+/// search.
+///
+/// # Errors
+///
+/// As `OutlineFiles::of`.
+pub fn warnings_told(
+    alloc: Global,
+    outline: OutlineSource<'_>,
+    is_unmet: bool,
+) -> Result<Vec<u8>, NoFiles> {
+    let mut told = Vec::new(alloc);
+    print(alloc, outline, Wanted::Warnings(is_unmet, &mut told))?;
+    shown(alloc, outline.format, told)
 }

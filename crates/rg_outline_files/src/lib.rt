@@ -4,5 +4,8 @@
 mod files;
 mod told;
 
-pub use files::{NoFiles, OutlineFiles, failures_told};
+pub use files::{
+    Format, NoFiles, OutlineFiles, OutlineSource, Places, failures_told, outline_map,
+    outline_places, warnings_told,
+};
 pub use rg_outline_told::{Failed, Failing};

@@ -7,4 +7,4 @@ mod text;
 
 pub use derivation::{push_clipped, push_derivation, push_map};
 pub use print::middle;
-pub use text::push_text;
+pub use text::{push_text, push_unmet};

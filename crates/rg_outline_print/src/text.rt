@@ -46,6 +46,23 @@ pub fn push_text(expansion: &Expansion<'_>, text: &mut Vec<u8>) -> Result<(), Fa
     Ok(())
 }
 
+/// Adds a text to show, as `rg_parse::show` reads it: that no state meets the program's pre.
+///
+/// # Errors
+///
+/// - `MeaningFault::TooLarge` where it has more than `MOST_TEXT_BYTES` bytes.
+/// - `FaultKind::Memory`.
+pub fn push_unmet(expansion: &Expansion<'_>, text: &mut Vec<u8>) -> Result<(), Fault> {
+    push_declarations(expansion, text)?;
+    text.extend_from_slice(b"show not ")?;
+    push_tree(expansion, text, expansion.specification.pre, 9)?;
+    text.push(b'\n')?;
+    if text.len() > MOST_TEXT_BYTES {
+        return Err(too_large());
+    }
+    Ok(())
+}
+
 fn push_declarations(expansion: &Expansion<'_>, text: &mut Vec<u8>) -> Result<(), Fault> {
     let mut row = Vec::new(expansion.scope.alloc);
     row.extend_from_slice(b"words")?;

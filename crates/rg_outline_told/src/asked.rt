@@ -127,3 +127,18 @@ pub(crate) fn asked_by(expansion: &Expansion<'_>, number: usize) -> Asked {
     }
     asked_of_parts(expansion.parts.len(), place)
 }
+
+/// How many conditions there are, of the lines and of the parallel parts.
+pub(crate) fn conditions_of(expansion: &Expansion<'_>) -> usize {
+    let mut count: usize = 0;
+    for line in &expansion.lines {
+        count = count.saturating_add(count_of(line.rule));
+    }
+    let parts = expansion.parts.len();
+    let pairs = parts.saturating_mul(parts.saturating_sub(1));
+    let each = parts.saturating_mul(3);
+    count
+        .saturating_add(each)
+        .saturating_add(pairs)
+        .saturating_add(1)
+}

@@ -2,14 +2,11 @@
 #![tactic(auto)]
 
 mod asked;
-mod falsity;
-mod report;
+mod map;
 mod says;
-mod show;
 mod steady;
 mod step;
 mod told;
-mod values;
-mod words;
 
-pub use told::{Failed, Failing, push_told};
+pub use map::push_conditions;
+pub use told::{Failed, Failing, Told, subject_of};

@@ -1,10 +1,10 @@
 //! What a condition says, in one sentence, and where.
 
 use crate::asked::Asked;
-use crate::falsity::line_of;
 use rg_outline::{Assertion, Expansion, Line};
 use rg_outline_print::push_clipped;
 use rg_outline_text::{Span, push_count};
+use rg_outline_values::line_of;
 use std::alloc::AllocError;
 
 const NOWHERE: Span = Span { start: 0, end: 0 };
@@ -62,7 +62,7 @@ fn place_of_parts(expansion: &Expansion<'_>, asked: Asked) -> Span {
             .get(part)
             .map_or(NOWHERE, |part| part.pre.span),
         Asked::AllRely(part) | Asked::AllGuar(part) => part_span(expansion, part),
-        Asked::Between { rely, .. } => part_span(expansion, rely),
+        Asked::Between { guar, .. } => part_span(expansion, guar),
         _ => expansion.scope.forest.span(expansion.specification.post),
     }
 }

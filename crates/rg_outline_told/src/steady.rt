@@ -1,12 +1,10 @@
 //! What is told of an assertion that a step of others can make false.
 
-use crate::falsity::Falsity;
-use crate::report::{Cause, Key, Reports};
 use crate::says::push_with_part;
-use crate::values::Moment;
-use crate::words::Words;
 use rg_outline::{Expansion, Line, Origin};
+use rg_outline_reports::{Cause, Key, Moved, Reports, Said};
 use rg_outline_scope::bit_of;
+use rg_outline_values::{Falsity, Moment, Words};
 use std::alloc::AllocError;
 
 /// Whether a part assigns a word.
@@ -36,26 +34,27 @@ fn push_writers(
     Ok(is_any)
 }
 
-/// Adds who assigns a word that moved: others, or nobody, and then the part may own it.
-fn push_cause(
+/// Tells who assigns a word that moved: others, or nobody, and then the part may own it.
+fn tell_cause(
     expansion: &Expansion<'_>,
-    text: &mut Vec<u8>,
+    reports: &mut Reports,
     part: usize,
     word: usize,
 ) -> Result<(), AllocError> {
     let shown = expansion.scope.shown.at(word);
-    let mut writers = Vec::new(expansion.scope.alloc);
-    if push_writers(expansion, &mut writers, part, word)? {
-        text.extend_from_slice(b"    ")?;
-        text.extend_from_slice(shown)?;
-        text.extend_from_slice(&writers)?;
-        push_with_part(expansion, text, b"; ", part)?;
-        text.extend_from_slice(b"'s rely doesn't exclude this\n")?;
+    let mut hint = Vec::new(expansion.scope.alloc);
+    hint.extend_from_slice(shown)?;
+    if push_writers(expansion, &mut hint, part, word)? {
+        push_with_part(expansion, &mut hint, b"; ", part)?;
+        hint.extend_from_slice(b"'s rely doesn't exclude this")?;
+        reports.say(Said::Hint, &hint)?;
     } else if !owns(expansion, part, word) {
-        text.extend_from_slice(b"    no other part assigns ")?;
-        text.extend_from_slice(shown)?;
-        push_with_part(expansion, text, b": `owns` in ", part)?;
-        text.extend_from_slice(b" would say so\n")?;
+        hint.clear();
+        hint.extend_from_slice(b"no other part assigns ")?;
+        hint.extend_from_slice(shown)?;
+        push_with_part(expansion, &mut hint, b": `owns` in ", part)?;
+        hint.extend_from_slice(b" would say so")?;
+        reports.say(Said::Hint, &hint)?;
     }
     Ok(())
 }
@@ -72,17 +71,17 @@ fn is_moved(moment: Moment<'_>, word: usize) -> bool {
     moment.before.get(word) != moment.after.get(word)
 }
 
-/// Adds who assigns the words that moved: first those that others assign, as they stand.
-fn push_causes(
+/// Tells who assigns the words that moved, in the order in which they are told.
+fn tell_causes(
     expansion: &Expansion<'_>,
-    text: &mut Vec<u8>,
+    reports: &mut Reports,
     part: usize,
     words: &Words,
     moment: Moment<'_>,
 ) -> Result<(), AllocError> {
     for word in &words.listed {
         if is_moved(moment, *word) {
-            push_cause(expansion, text, part, *word)?;
+            tell_cause(expansion, reports, part, *word)?;
         }
     }
     Ok(())
@@ -106,12 +105,6 @@ pub(crate) fn tell_unstable(
         after: moment.after,
     };
     let falsity = Falsity::of(expansion, formula, state)?;
-    let mut rows = Vec::new(expansion.scope.alloc);
-    falsity.push_rows(expansion, &mut rows)?;
-    let words = falsity.words(expansion)?;
-    rows.extend_from_slice(b"    a step of others:  ")?;
-    words.push_values(expansion, &mut rows, moment)?;
-    push_causes(expansion, &mut rows, line.part, &words, moment)?;
     let sentence: &[u8] = if assertion.origin == Origin::Written {
         b"this assertion isn't stable: a step inside the rely can make it false"
     } else {
@@ -123,5 +116,11 @@ pub(crate) fn tell_unstable(
         what: falsity.span(expansion),
     };
     let place = falsity.place(expansion, Some(assertion.span));
-    reports.put(key, place, Some(line.part), sentence, &rows)
+    if reports.put(key, place, Some(line.part), sentence)? {
+        falsity.tell(expansion, reports)?;
+        let words = falsity.words(expansion)?;
+        words.tell_values(reports, Moved::StepOfOthers, moment)?;
+        tell_causes(expansion, reports, line.part, &words, moment)?;
+    }
+    Ok(())
 }

@@ -1,15 +1,12 @@
 //! What is told of a step that loses an assertion, or that isn't inside the guarantee.
 
-use crate::falsity::{Falsity, line_of};
-use crate::report::{Cause, Key, Reports};
 use crate::says::push_with_part;
-use crate::show::push_shown;
-use crate::values::{Moment, Values};
-use crate::words::Words;
 use rg_outline::{Assertion, Expansion, Line, Origin, Statement};
 use rg_outline_print::push_clipped;
+use rg_outline_reports::{Cause, Key, Moved, Reports};
 use rg_outline_text::{Span, push_count};
 use rg_outline_tree::List;
+use rg_outline_values::{Falsity, Moment, Values, Words, line_of, push_shown};
 use std::alloc::AllocError;
 
 /// A step of a line's statement from a state.
@@ -52,20 +49,19 @@ fn is_true(
     Ok(values.holds(&expansion.scope.forest, formula))
 }
 
-/// Adds the rows of a step: what is false, and the words that matter, before and after.
-fn push_rows(
+/// Tells of a step what is false and the words that matter, before and after, as belongs to the last report.
+fn tell_values(
     expansion: &Expansion<'_>,
-    text: &mut Vec<u8>,
+    reports: &mut Reports,
     falsity: &Falsity,
     step: &Step<'_>,
 ) -> Result<(), AllocError> {
-    falsity.push_rows(expansion, text)?;
+    falsity.tell(expansion, reports)?;
     let mut words: Words = falsity.words(expansion)?;
     for update in expansion.updates_of(step.statement.updates) {
         words.add(update.word)?;
     }
-    text.extend_from_slice(b"    step:  ")?;
-    words.push_values(expansion, text, step.moment)
+    words.tell_values(reports, Moved::Step, step.moment)
 }
 
 /// Adds a sentence's end: the line of a place.
@@ -150,12 +146,13 @@ fn put(
     what: (Cause, Span),
     sentence: &[u8],
 ) -> Result<(), AllocError> {
-    let mut rows = Vec::new(expansion.scope.alloc);
-    push_rows(expansion, &mut rows, falsity, step)?;
     let (cause, what) = what;
     let at = step.statement.span;
     let key = Key { cause, at, what };
-    reports.put(key, at, Some(step.line.part), sentence, &rows)
+    if reports.put(key, at, Some(step.line.part), sentence)? {
+        tell_values(expansion, reports, falsity, step)?;
+    }
+    Ok(())
 }
 
 /// What a list of clauses holds.

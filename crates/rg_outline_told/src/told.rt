@@ -1,14 +1,16 @@
 //! Conditions that aren't proved, each in the terms of the outline.
 
 use crate::asked::{Asked, asked_by};
-use crate::falsity::{Falsity, line_of};
-use crate::report::{Cause, Key, Reports, push_position};
 use crate::says::{given_and_due, line_asked, line_at, place_of, push_says, statement_span};
 use crate::steady::tell_unstable;
 use crate::step::tell_step;
-use crate::values::Moment;
 use rg_outline::{Expansion, Line, Origin};
+use rg_outline_reports::{
+    Cause, Key, Moved, Reports, Subject, push_json, push_json_of_verdict, push_lines,
+    push_rows_alone,
+};
 use rg_outline_text::{Span, push_count};
+use rg_outline_values::{Falsity, Moment, line_of};
 use rg_words::State;
 use std::alloc::{AllocError, Global};
 
@@ -48,12 +50,6 @@ fn tell_exit(
     state: Moment<'_>,
 ) -> Result<(), AllocError> {
     let falsity = Falsity::of(expansion, line.post, state)?;
-    let mut rows = Vec::new(expansion.scope.alloc);
-    falsity.push_rows(expansion, &mut rows)?;
-    let mut words = falsity.words(expansion)?;
-    words.add_tree(expansion, expansion.statement(line.statement).test)?;
-    rows.extend_from_slice(b"    state: ")?;
-    words.push_values(expansion, &mut rows, state)?;
     let mut sentence = Vec::new(expansion.scope.alloc);
     sentence.extend_from_slice(b"where this loop ends, the assertion of line ")?;
     push_count(&mut sentence, line_of(expansion, line.behind.span))?;
@@ -64,7 +60,13 @@ fn tell_exit(
         at,
         what: falsity.span(expansion),
     };
-    reports.put(key, at, Some(line.part), &sentence, &rows)
+    if reports.put(key, at, Some(line.part), &sentence)? {
+        falsity.tell(expansion, reports)?;
+        let mut words = falsity.words(expansion)?;
+        words.add_tree(expansion, expansion.statement(line.statement).test)?;
+        words.tell_values(reports, Moved::State, state)?;
+    }
+    Ok(())
 }
 
 /// Tells that an assertion doesn't follow from what holds before it.
@@ -77,8 +79,6 @@ fn tell_consequence(
 ) -> Result<(), AllocError> {
     let (given, due) = given_and_due(expansion, line, is_before);
     let falsity = Falsity::of(expansion, due.full, state)?;
-    let mut rows = Vec::new(expansion.scope.alloc);
-    push_state(expansion, &mut rows, &falsity, state)?;
     let mut sentence = Vec::new(expansion.scope.alloc);
     sentence.extend_from_slice(b"this assertion doesn't follow from what holds before it (line ")?;
     push_count(&mut sentence, line_of(expansion, given.span))?;
@@ -94,21 +94,24 @@ fn tell_consequence(
         what: falsity.span(expansion),
     };
     let place = falsity.place(expansion, Some(due.span));
-    reports.put(key, place, Some(line.part), &sentence, &rows)
+    if reports.put(key, place, Some(line.part), &sentence)? {
+        tell_falsity(expansion, reports, &falsity, Moved::State, state)?;
+    }
+    Ok(())
 }
 
-/// Adds the rows of a state: what is false, and the words that matter.
-fn push_state(
+/// Tells what is false, and the words that matter, as belongs to the last report.
+fn tell_falsity(
     expansion: &Expansion<'_>,
-    rows: &mut Vec<u8>,
+    reports: &mut Reports,
     falsity: &Falsity,
+    moved: Moved,
     moment: Moment<'_>,
 ) -> Result<(), AllocError> {
-    falsity.push_rows(expansion, rows)?;
-    rows.extend_from_slice(b"    state: ")?;
+    falsity.tell(expansion, reports)?;
     falsity
         .words(expansion)?
-        .push_values(expansion, rows, moment)
+        .tell_values(reports, moved, moment)
 }
 
 /// The formula that a condition of the parts asks for.
@@ -148,17 +151,6 @@ fn tell_parts(
     is_of_two: bool,
 ) -> Result<(), AllocError> {
     let falsity = Falsity::of(expansion, due_of_parts(expansion, asked), moment)?;
-    let mut rows = Vec::new(expansion.scope.alloc);
-    falsity.push_rows(expansion, &mut rows)?;
-    let title: &[u8] = if is_of_two {
-        b"    step:  "
-    } else {
-        b"    state: "
-    };
-    rows.extend_from_slice(title)?;
-    falsity
-        .words(expansion)?
-        .push_values(expansion, &mut rows, moment)?;
     let mut sentence = Vec::new(expansion.scope.alloc);
     sentence.extend_from_slice(b"not so: ")?;
     push_says(expansion, &mut sentence, asked)?;
@@ -173,7 +165,11 @@ fn tell_parts(
         at: kind_of_parts(asked),
         what,
     };
-    reports.put(key, place, None, &sentence, &rows)
+    let moved = if is_of_two { Moved::Step } else { Moved::State };
+    if reports.put(key, place, None, &sentence)? {
+        tell_falsity(expansion, reports, &falsity, moved, moment)?;
+    }
+    Ok(())
 }
 
 /// Tells a condition of a line that is false.
@@ -215,18 +211,27 @@ fn tell_false(
     }
 }
 
-/// Adds a line that tells a condition for which there is no proof.
-fn push_unproved(
+/// Tells a condition for which there is no proof.
+fn tell_unproved(
     expansion: &Expansion<'_>,
-    file: &[u8],
-    text: &mut Vec<u8>,
-    asked: Asked,
+    reports: &mut Reports,
+    number: usize,
     why: &[u8],
 ) -> Result<(), AllocError> {
-    push_position(expansion, file, text, place_of(expansion, asked))?;
-    text.extend_from_slice(why)?;
-    push_says(expansion, text, asked)?;
-    text.push(b'\n')?;
+    let asked = asked_by(expansion, number);
+    let mut sentence = Vec::new(expansion.scope.alloc);
+    sentence.extend_from_slice(why)?;
+    push_says(expansion, &mut sentence, asked)?;
+    let itself = Span {
+        start: number,
+        end: number,
+    };
+    let key = Key {
+        cause: Cause::Unproved,
+        at: itself,
+        what: itself,
+    };
+    reports.put(key, place_of(expansion, asked), None, &sentence)?;
     Ok(())
 }
 
@@ -261,45 +266,99 @@ fn push_counts(
     Ok(())
 }
 
-/// Adds what is told of conditions that aren't proved: those that are false, each place once, in the order of the places; then those for
-/// which there is no proof; and a line with the counts. `file` is the outline's, as the places name it.
-///
-/// # Errors
-///
-/// `AllocError` where memory is refused; the text is then of no use.
-pub fn push_told(
-    expansion: &Expansion<'_>,
-    file: &[u8],
-    failed: &[Failed<'_>],
-    text: &mut Vec<u8>,
-) -> Result<(), AllocError> {
-    let mut reports = Reports::new(expansion.scope.alloc);
-    let mut unproved = Vec::new(expansion.scope.alloc);
-    let mut count = 0usize;
-    for failed in failed {
-        let asked = asked_by(expansion, failed.number);
+/// What is told of conditions that aren't proved: of those that are false each place once, and those for which there is no proof.
+#[derive(Drop)]
+pub struct Told {
+    untrue: Reports,
+    unproved: Reports,
+    /// How many conditions are false.
+    count: usize,
+}
+
+impl Told {
+    /// What is told of these conditions.
+    ///
+    /// # Errors
+    ///
+    /// `AllocError` where memory is refused.
+    pub fn of(expansion: &Expansion<'_>, failed: &[Failed<'_>]) -> Result<Told, AllocError> {
+        let alloc = expansion.scope.alloc;
+        let mut told = Told {
+            untrue: Reports::new(alloc),
+            unproved: Reports::new(alloc),
+            count: 0,
+        };
+        told.tell_all(expansion, failed)?;
+        Ok(told)
+    }
+
+    /// Tells these conditions.
+    fn tell_all(
+        &mut self,
+        expansion: &Expansion<'_>,
+        failed: &[Failed<'_>],
+    ) -> Result<(), AllocError> {
+        for one in failed {
+            self.tell(expansion, *one)?;
+        }
+        Ok(())
+    }
+
+    /// Tells a condition.
+    fn tell(&mut self, expansion: &Expansion<'_>, failed: Failed<'_>) -> Result<(), AllocError> {
+        let number = failed.number;
         match failed.failing {
             Failing::At(first, second) => {
-                tell_false(expansion, &mut reports, asked, first, second)?;
+                self.count = self.count.saturating_add(1);
+                let asked = asked_by(expansion, number);
+                tell_false(expansion, &mut self.untrue, asked, first, second)
             }
             Failing::Unproved => {
                 let why = b"no proof found within the steps: ";
-                push_unproved(expansion, file, &mut unproved, asked, why)?;
-                count = count.saturating_add(1);
+                tell_unproved(expansion, &mut self.unproved, number, why)
             }
             Failing::TooLarge => {
                 let why = b"its proof is too large: ";
-                push_unproved(expansion, file, &mut unproved, asked, why)?;
-                count = count.saturating_add(1);
+                tell_unproved(expansion, &mut self.unproved, number, why)
             }
         }
     }
-    reports.push_all(expansion, file, text)?;
-    text.extend_from_slice(&unproved)?;
-    push_counts(
-        text,
-        failed.len().saturating_sub(count),
-        reports.len(),
-        count,
-    )
+
+    /// Adds it as lines: what is false, in the order of the places; then the conditions for which there is no proof; and a line with the
+    /// counts.
+    ///
+    /// # Errors
+    ///
+    /// `AllocError` where memory is refused; the text is then of no use.
+    pub fn push_lines(&self, subject: Subject<'_>, text: &mut Vec<u8>) -> Result<(), AllocError> {
+        push_lines(text, &self.untrue, subject)?;
+        push_rows_alone(text, &self.unproved, subject)?;
+        push_counts(text, self.count, self.untrue.len(), self.unproved.len())
+    }
+
+    /// Adds it as JSON, one value a line, in the same order.
+    ///
+    /// # Errors
+    ///
+    /// As `push_lines`.
+    pub fn push_json(
+        &self,
+        alloc: Global,
+        subject: Subject<'_>,
+        text: &mut Vec<u8>,
+    ) -> Result<(), AllocError> {
+        push_json(text, alloc, &self.untrue, subject)?;
+        push_json(text, alloc, &self.unproved, subject)?;
+        push_json_of_verdict(text, alloc, subject.file, self.count, self.unproved.len())
+    }
+}
+
+/// An outline as reports name it, by its file.
+pub fn subject_of<'e>(expansion: &'e Expansion<'_>, file: &'e [u8]) -> Subject<'e> {
+    Subject {
+        file,
+        source: expansion.scope.source,
+        words: &expansion.scope.shown,
+        parts: &expansion.part_names,
+    }
 }

@@ -9,9 +9,8 @@ ghost use Rattle.rgc_running.specs.Running.{IsRead};
 
 use crate::explaining::print_explanation;
 use rg_find::Watcher;
-use rg_outline_files::{NoFiles, OutlineFiles, failures_told};
+use rg_outline_files::{Format, NoFiles, OutlineFiles, OutlineSource};
 use rg_words::{Out, Refusal, RefusalNumber, WriteFault, write_all};
-use rgc::Unproved;
 use rgc_explain::entry_of;
 use rgc_line::{Chosen, Command, Line};
 use rgc_print::{
@@ -19,7 +18,7 @@ use rgc_print::{
     print_conditions, print_found, print_listing, print_numbers, print_proofs, print_valid,
 };
 use rgc_running::{RunFiles, print_run};
-use rgc_verify::{failed_of, print_outline, print_verified};
+use rgc_verify::{Form, NoVerdict, print_outline, verify_outline};
 use std::alloc::{AllocError, Global};
 use std::sync::Wait;
 use std::thread::Threads;
@@ -39,7 +38,7 @@ enum Stop {
     /// A file can't be read; the line that says so.
     Device(&'static str),
     Refused(Refusal),
-    /// An outline is refused; the lines that say why.
+    /// An outline is refused, or not verified; the lines that say why, or its warnings.
     Outline(Vec<u8>),
     /// No refusal has the number to explain.
     Unknown,
@@ -52,6 +51,15 @@ impl From<NoFiles> for Stop {
         match none {
             NoFiles::Told(lines) => Stop::Outline(lines),
             NoFiles::Memory => Stop::Refused(Refusal::from(AllocError)),
+        }
+    }
+}
+
+impl From<NoVerdict> for Stop {
+    fn from(none: NoVerdict) -> Stop {
+        match none {
+            NoVerdict::Outline(lines) => Stop::Outline(lines),
+            NoVerdict::Refused(refusal) => Stop::Refused(refusal),
         }
     }
 }
@@ -283,6 +291,18 @@ fn find<W: Out, P: Watcher>(
     }
 }
 
+/// The outline of a command, whose first fault is told in lines.
+fn outline_source<'a>(name: &'a str, files: &Files<'a>) -> Result<OutlineSource<'a>, Stop>
+    ensures { IfOk result (λ o. files.now.text ≡ Some o.source) }
+{
+    let source = needed(files.text, "device outline\n")?;
+    Ok(OutlineSource {
+        name,
+        source,
+        format: Format::Plain,
+    })
+}
+
 /// Prints the text that an outline stands for, and puts its derivation behind what `side` holds.
 fn outline<W: Out>(
     alloc: Global,
@@ -295,50 +315,35 @@ fn outline<W: Out>(
     ensures done { (o : Bor (List ℕ)) → (d : Option (Bor (List ℕ))) → OnOk result (IsDone (Outline o d) files.now (W.contents out.old) (W.contents out.new)) }
     ensures failures { OnOk result (W.failures out.new ≡ W.failures out.old) }
 {
-    let source = needed(files.text, "device outline\n")?;
-    let made = OutlineFiles::of(alloc, name, source)?;
+    let made = OutlineFiles::of(alloc, outline_source(name, files)?)?;
     print_outline(alloc, &made, out, side)?;
     Ok(())
 }
 
-/// Tells on the output which conditions of an outline have no proof.
-fn print_unproved<W: Out>(
-    alloc: Global,
-    name: &str,
-    source: &[u8],
-    unproved: &[Unproved],
-    out: &mut W,
-) -> Result<(), Stop>
-    requires { CanCount (W.failures out.old) }
-{
-    let failed = failed_of(alloc, unproved)?;
-    let told = failures_told(alloc, name, source, &failed)?;
-    write_all(out, &told)?;
-    Ok(())
-}
-
-/// Prints how many conditions of an outline's program were proved; else which have no proof.
-fn verify<W: Out, P: Watcher>(
+/// Prints how many conditions of an outline's program were proved; else which have no proof. Its warnings are told on the faults.
+fn verify<W: Out, F: Out, P: Watcher>(
     alloc: Global,
     name: &str,
     steps: u64,
     files: &Files<'_>,
     out: &mut W,
+    faults: &mut F,
     watcher: &mut P,
 ) -> Result<(), Stop>
-    requires { CanCount (W.failures out.old) }
+    requires out { CanCount (W.failures out.old) }
+    requires faults { CanCount (F.failures faults.old) }
     ensures done { (o : Bor (List ℕ)) → OnOk result (IsDone (Verify o steps) files.now (W.contents out.old) (W.contents out.new)) }
     ensures failures { OnOk result (W.failures out.new ≡ W.failures out.old) }
+    ensures quiet { OnErr result (F.failures faults.new ≡ F.failures faults.old) }
 {
-    let source = needed(files.text, "device outline\n")?;
-    let made = OutlineFiles::of(alloc, name, source)?;
-    match print_verified(alloc, &made, steps, out, watcher)? {
-        None => Ok(()),
-        Some(unproved) => {
-            print_unproved(alloc, name, source, &unproved, out)?;
-            Err(Stop::Told)
-        }
+    let source = outline_source(name, files)?;
+    let mut warnings = Vec::new(alloc);
+    let form = Form::Alone;
+    if verify_outline(alloc, source, form, steps, out, watcher, &mut warnings)? {
+        let _ = write_all(faults, &warnings);
+        return Ok(());
     }
+    Err(Stop::Outline(warnings))
 }
 
 /// Prints what a refusal means.
@@ -400,7 +405,7 @@ fn carry_out<R: Threads + Wait + Sync, W: Out, F: Out, P: Watcher>(
         Command::Verify {
             outline: name,
             steps,
-        } => verify(alloc, name, steps, files, out, watcher),
+        } => verify(alloc, name, steps, files, out, faults, watcher),
         Command::Explain { number } => explain(alloc, number, files, out),
     }
 }

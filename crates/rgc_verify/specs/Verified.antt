@@ -1,11 +1,15 @@
 -- What is printed of an outline.
 use Rattle.std.specs.Prelude.{ℕ, List, ◌++◌, length, Option, codes, decimal}
 use Rattle.std.specs.Io.KnownBytes.{Appends}
+use Rattle.serde_json.specs.Data.{Data, object, member, no_members, number, string, unsigned}
+use Rattle.serde_json.specs.Written.{compact_text}
 use Rattle.rg_tree.specs.Lines.{LineTree}
 use Rattle.rg_tree.specs.Statements.{ProgramTree}
 use Rattle.rg_tree.specs.Programs.{IsSatisfied}
 use Rattle.rgc.specs.Accepted.{conditions_of, AreAccepted}
 use Rattle.rgc.specs.Chosen.{AreDerived}
+use Rattle.rgc_verify.specs.declared.verdict.Form.{Form}
+use Rattle.rgc_verify.specs.declared.verdict.Form.TheVariants.{Alone, Named, Json}
 
 -- a text went out that spells a program, whose parts some derivation derives
 pub record HasPrintedOutline (old new : Option (List ℕ)) : Type 0 where
@@ -16,12 +20,33 @@ pub record HasPrintedOutline (old new : Option (List ℕ)) : Type 0 where
   pub derived : AreDerived text derivation program lines
   pub printed : Appends old new text
 
+-- a map went out, and some text spells a program, whose parts some derivation derives
+pub record HasPrintedMap (map : List ℕ) (old new : Option (List ℕ)) : Type 0 where
+  pub text : List ℕ
+  pub derivation : List ℕ
+  pub program : ProgramTree
+  pub lines : List LineTree
+  pub derived : AreDerived text derivation program lines
+  pub printed : Appends old new map
+
 -- how many conditions were proved, and for how many of them a search found lines
 abbrev pub verified_text : ℕ → ℕ → List ℕ
 verified_text conditions found = codes "verified: " ++ (decimal conditions ++ (codes " conditions, " ++ (decimal found ++ codes " by search\n")))
 
+-- the same as a JSON value, with the outline's file
+abbrev pub verdict_data : List ℕ → ℕ → ℕ → Data
+verdict_data file conditions found =
+    object (member (codes "by_search") (number (unsigned found)) (member (codes "conditions") (number (unsigned conditions)) (member (codes "file") (string file) (member (codes "kind") (string (codes "verified")) no_members))))
+
+-- the same in a form, as a line
+abbrev pub verdict_text : Form → ℕ → ℕ → List ℕ
+verdict_text Alone conditions found = verified_text conditions found
+verdict_text (Named name) conditions found = name.now ++ (codes ": " ++ verified_text conditions found)
+verdict_text (Json name) conditions found = compact_text (verdict_data name.now conditions found) ++ codes "\n"
+
 -- some text, derivation and proofs are accepted for a program, which therefore satisfies its specification, and the count of its conditions went out
-pub record HasPrintedVerified (old new : Option (List ℕ)) : Type 0 where
+-- in this form
+pub record HasPrintedVerdict (form : Form) (old new : Option (List ℕ)) : Type 0 where
   pub text : List ℕ
   pub derivation : List ℕ
   pub proofs : List ℕ
@@ -29,4 +54,8 @@ pub record HasPrintedVerified (old new : Option (List ℕ)) : Type 0 where
   pub accepted : AreAccepted text derivation proofs program
   pub satisfied : IsSatisfied program
   pub found : ℕ
-  pub printed : Appends old new (verified_text (length (conditions_of program accepted.accepted.lines)) found)
+  pub printed : Appends old new (verdict_text form (length (conditions_of program accepted.accepted.lines)) found)
+
+-- the same as a line to be read
+abbrev pub HasPrintedVerified : Option (List ℕ) → Option (List ℕ) → Type 0
+HasPrintedVerified old new = HasPrintedVerdict Alone old new

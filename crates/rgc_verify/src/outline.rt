@@ -2,7 +2,7 @@
 
 ghost use Rattle.std.specs.Prelude.{◌≡◌, OnOk};
 ghost use Rattle.rg_words.specs.Written.{CanCount};
-ghost use Rattle.rgc_verify.specs.Verified.{HasPrintedOutline};
+ghost use Rattle.rgc_verify.specs.Verified.{HasPrintedMap, HasPrintedOutline};
 
 use rg_outline_files::OutlineFiles;
 use rg_words::{Out, Refusal, write_all};
@@ -28,5 +28,26 @@ pub fn print_outline<W: Out>(
     let _derived = derive_program(alloc, &files.text, &files.derivation)?;
     side.extend_from_slice(&files.derivation)?;
     write_all(out, &files.text)?;
+    Ok(())
+}
+
+/// Prints the map of an outline: which place of it each line of the derivation and each condition comes from. Its files are read first, as any
+/// files are; of the map nothing is promised.
+///
+/// # Errors
+///
+/// As `print_outline`.
+pub fn print_map<W: Out>(
+    alloc: Global,
+    files: &OutlineFiles,
+    map: &[u8],
+    out: &mut W,
+) -> Result<(), Refusal>
+    requires { CanCount (W.failures out.old) }
+    ensures printed { OnOk result (HasPrintedMap map.now (W.contents out.old) (W.contents out.new)) }
+    ensures failures { OnOk result (W.failures out.new ≡ W.failures out.old) }
+{
+    let _read = derive_program(alloc, &files.text, &files.derivation)?;
+    write_all(out, map)?;
     Ok(())
 }

@@ -6,11 +6,12 @@ use Rattle.rg_tree.specs.Statements.{ProgramTree}
 use Rattle.rg_tree.specs.Programs.{IsSatisfied}
 use Rattle.rg_hints.specs.Proved.{AreProved}
 use Rattle.rgc.specs.Accepted.{conditions_of}
-use Rattle.rgc_verify.specs.Verified.{verified_text}
+use Rattle.rgc_verify.specs.Verified.{verdict_text}
+use Rattle.rgc_verify.specs.declared.verdict.Form.{Form}
 
 -- the proofs prove all conditions, so the program satisfies its specification, and their count went out
-pub record HasPrintedCounts (program : ProgramTree) (lines : List LineTree) (proofs : List ℕ) (old new : Option (List ℕ)) : Type 0 where
+pub record HasPrintedCounts (program : ProgramTree) (lines : List LineTree) (proofs : List ℕ) (form : Form) (old new : Option (List ℕ)) : Type 0 where
   pub proved : AreProved (conditions_of program lines) proofs
   pub satisfied : IsSatisfied program
   pub found : ℕ
-  pub printed : Appends old new (verified_text (length (conditions_of program lines)) found)
+  pub printed : Appends old new (verdict_text form (length (conditions_of program lines)) found)

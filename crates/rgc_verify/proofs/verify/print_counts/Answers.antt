@@ -7,7 +7,7 @@ use Rattle.rg_tree.specs.Statements.{ProgramTree}
 use Rattle.rg_tree.specs.Programs.{IsSatisfied}
 use Rattle.rgc.specs.Accepted.{conditions_of}
 use Rattle.rgc.specs.Stages.{derived_program, derived_lines}
-use Rattle.rgc_verify.specs.Verified.{verified_text}
+use Rattle.rgc_verify.specs.Verified.{verdict_text}
 use Rattle.rgc_verify.proofs.verify.print_counts.Goals as goal
 
 pub returns-clause-printed : goal.returns-clause-printed
@@ -15,7 +15,7 @@ returns-clause-printed g c =
     let items = c.in_ok-conditions.field-0.items in
     let asked = conditions_of (derived_program c.args.derived) (derived_lines c.args.derived) in
     let found = c.sections_in.result in
-    let line : c.as_bytes.result.now ≡ verified_text c.len-conditions.result found = c.as_bytes.ensures.value ∙ c.in_ok-line.ensures in
+    let line : c.as_bytes.result.now ≡ verdict_text c.args.form c.len-conditions.result found = c.as_bytes.ensures.value ∙ c.in_ok-line.ensures in
     let same : length (map condition_tree items) ≡ length asked = ap (λ (cs : List ConditionTree). length cs) c.in_ok-conditions.ensures.list in
     let len : c.len-conditions.result ≡ length items = search rules in
     let count : c.len-conditions.result ≡ length asked = len ∙ sym (length-map items condition_tree) ∙ same in
@@ -23,5 +23,5 @@ returns-clause-printed g c =
       proved = c.in_ok-prove.ensures.proved;
       satisfied = subst (λ (p : ProgramTree). IsSatisfied p) c.in_ok-prove.ensures.program c.in_ok-prove.ensures.satisfied;
       found = found;
-      printed = subst (λ (t : List ℕ). Appends (g.W.Out.contents c.args.out.now) (g.W.Out.contents c.write_all.new.out) t) (line ∙ ap (λ (n : ℕ). verified_text n found) count) c.in_ok-write_all.ensures.0;
+      printed = subst (λ (t : List ℕ). Appends (g.W.Out.contents c.args.out.now) (g.W.Out.contents c.write_all.new.out) t) (line ∙ ap (λ (n : ℕ). verdict_text c.args.form n found) count) c.in_ok-write_all.ensures.0;
     }

@@ -4,16 +4,17 @@ use crate::show::{push_name, push_shown};
 use crate::values::{Moment, Values};
 use crate::words::Words;
 use rg_outline::Expansion;
+use rg_outline_reports::{Reports, Said};
 use rg_outline_scope::Root;
-use rg_outline_text::{Span, push_count};
+use rg_outline_text::Span;
 use rg_outline_tree::{Conditional, Junction};
 use std::alloc::AllocError;
 
 /// Where a formula is false.
 #[derive(Drop)]
-pub(crate) struct Falsity {
+pub struct Falsity {
     /// The first conjunct that is false.
-    pub(crate) conjunct: usize,
+    pub conjunct: usize,
     /// The named formulas within which it stands, the outermost first.
     names: Vec<usize>,
     /// The premises of those implications whose right side it stands in.
@@ -34,7 +35,7 @@ fn is_inside(place: Span, around: Option<Span>) -> bool {
 }
 
 /// The line of a place, from 1.
-pub(crate) fn line_of(expansion: &Expansion<'_>, span: Span) -> u64 {
+pub fn line_of(expansion: &Expansion<'_>, span: Span) -> u64 {
     span.position(expansion.scope.source).line as u64
 }
 
@@ -55,7 +56,11 @@ fn below(expansion: &Expansion<'_>, values: &Values, tree: usize) -> Option<(usi
 
 impl Falsity {
     /// Where a formula is false in two states.
-    pub(crate) fn of(
+    ///
+    /// # Errors
+    ///
+    /// `AllocError` where memory is refused.
+    pub fn of(
         expansion: &Expansion<'_>,
         formula: usize,
         moment: Moment<'_>,
@@ -89,7 +94,7 @@ impl Falsity {
     }
 
     /// The outermost place of the conjunct, within a place where one is given.
-    pub(crate) fn place(&self, expansion: &Expansion<'_>, around: Option<Span>) -> Span {
+    pub fn place(&self, expansion: &Expansion<'_>, around: Option<Span>) -> Span {
         let forest = &expansion.scope.forest;
         for tree in &self.names {
             if let Some(name) = forest.tree(*tree).name
@@ -106,12 +111,16 @@ impl Falsity {
     }
 
     /// Where the conjunct is written.
-    pub(crate) fn span(&self, expansion: &Expansion<'_>) -> Span {
+    pub fn span(&self, expansion: &Expansion<'_>) -> Span {
         expansion.scope.forest.span(self.conjunct)
     }
 
     /// The words of the conjunct and of its premises.
-    pub(crate) fn words(&self, expansion: &Expansion<'_>) -> Result<Words, AllocError> {
+    ///
+    /// # Errors
+    ///
+    /// `AllocError` where memory is refused.
+    pub fn words(&self, expansion: &Expansion<'_>) -> Result<Words, AllocError> {
         let mut words = Words::new(expansion);
         words.add_tree(expansion, self.conjunct)?;
         for premise in &self.premises {
@@ -120,36 +129,34 @@ impl Falsity {
         Ok(words)
     }
 
-    /// Adds rows that tell the conjunct, the premises that hold, and the names within which it stands.
-    pub(crate) fn push_rows(
-        &self,
-        expansion: &Expansion<'_>,
-        text: &mut Vec<u8>,
-    ) -> Result<(), AllocError> {
-        text.extend_from_slice(b"    false: ")?;
-        push_shown(expansion, text, self.conjunct, 0, false)?;
-        let mut before: &[u8] = b"   where ";
+    /// Tells the conjunct, the premises that hold, and the names within which it stands, as belongs to the last report.
+    ///
+    /// # Errors
+    ///
+    /// `AllocError` where memory is refused.
+    pub fn tell(&self, expansion: &Expansion<'_>, reports: &mut Reports) -> Result<(), AllocError> {
+        let mut shown = Vec::new(expansion.scope.alloc);
+        push_shown(expansion, &mut shown, self.conjunct, 0, false)?;
+        reports.say(Said::Conjunct, &shown)?;
         for premise in &self.premises {
-            text.extend_from_slice(before)?;
-            push_shown(expansion, text, *premise, 3, true)?;
-            before = b" and ";
+            shown.clear();
+            push_shown(expansion, &mut shown, *premise, 3, true)?;
+            reports.say(Said::Premise, &shown)?;
         }
-        text.push(b'\n')?;
-        self.push_names(expansion, text)
+        self.tell_names(expansion, reports)
     }
 
-    fn push_names(&self, expansion: &Expansion<'_>, text: &mut Vec<u8>) -> Result<(), AllocError> {
-        let mut before: &[u8] = b"    it stands in ";
+    fn tell_names(
+        &self,
+        expansion: &Expansion<'_>,
+        reports: &mut Reports,
+    ) -> Result<(), AllocError> {
+        let mut shown = Vec::new(expansion.scope.alloc);
         for tree in self.names.iter().rev() {
-            text.extend_from_slice(before)?;
-            push_name(expansion, text, *tree)?;
-            text.extend_from_slice(b" (line ")?;
-            push_count(text, line_of(expansion, expansion.scope.forest.span(*tree)))?;
-            text.push(b')')?;
-            before = b", in ";
-        }
-        if !self.names.is_empty() {
-            text.push(b'\n')?;
+            shown.clear();
+            push_name(expansion, &mut shown, *tree)?;
+            let line = line_of(expansion, expansion.scope.forest.span(*tree));
+            reports.say(Said::Name(line), &shown)?;
         }
         Ok(())
     }

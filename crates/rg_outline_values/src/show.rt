@@ -52,7 +52,11 @@ fn named(tree: usize, level: u8) -> Piece {
 }
 
 /// Adds a formula or a value. `level` is how tightly what stands beside it binds; a tree with a name is shown by it where `by_name` says so.
-pub(crate) fn push_shown(
+///
+/// # Errors
+///
+/// `AllocError` where memory is refused.
+pub fn push_shown(
     expansion: &Expansion<'_>,
     text: &mut Vec<u8>,
     tree: usize,
@@ -114,7 +118,11 @@ fn push_use(
 }
 
 /// Adds the name for which a formula stands, as it is used.
-pub(crate) fn push_name(
+///
+/// # Errors
+///
+/// `AllocError` where memory is refused.
+pub fn push_name(
     expansion: &Expansion<'_>,
     text: &mut Vec<u8>,
     tree: usize,

@@ -2,21 +2,21 @@
 
 use crate::values::Moment;
 use rg_outline::Expansion;
+use rg_outline_reports::{Moved, Reports, Valued};
 use rg_outline_scope::{Root, bit_of};
-use rg_outline_text::push_count;
 use std::alloc::AllocError;
 
 /// Words in the order in which they were added, each once.
 #[derive(Drop)]
-pub(crate) struct Words {
-    pub(crate) listed: Vec<usize>,
+pub struct Words {
+    pub listed: Vec<usize>,
     /// The same as bits.
     bits: u64,
 }
 
 impl Words {
     /// No words.
-    pub(crate) fn new(expansion: &Expansion<'_>) -> Words {
+    pub fn new(expansion: &Expansion<'_>) -> Words {
         Words {
             listed: Vec::new(expansion.scope.alloc),
             bits: 0,
@@ -24,7 +24,11 @@ impl Words {
     }
 
     /// Adds a word.
-    pub(crate) fn add(&mut self, word: usize) -> Result<(), AllocError> {
+    ///
+    /// # Errors
+    ///
+    /// `AllocError` where memory is refused.
+    pub fn add(&mut self, word: usize) -> Result<(), AllocError> {
         let bit = bit_of(word);
         if self.bits & bit == 0 {
             self.bits |= bit;
@@ -34,11 +38,11 @@ impl Words {
     }
 
     /// Adds the words of a tree, in the order in which they stand.
-    pub(crate) fn add_tree(
-        &mut self,
-        expansion: &Expansion<'_>,
-        tree: usize,
-    ) -> Result<(), AllocError> {
+    ///
+    /// # Errors
+    ///
+    /// `AllocError` where memory is refused.
+    pub fn add_tree(&mut self, expansion: &Expansion<'_>, tree: usize) -> Result<(), AllocError> {
         let forest = &expansion.scope.forest;
         let mut open = Vec::new(expansion.scope.alloc);
         open.push(tree)?;
@@ -59,39 +63,25 @@ impl Words {
         Ok(())
     }
 
-    /// Adds the words with their values, and with those after where they differ.
-    pub(crate) fn push_values(
+    /// Tells the words with their values, and of what these are, as belongs to the last report.
+    ///
+    /// # Errors
+    ///
+    /// `AllocError` where memory is refused.
+    pub fn tell_values(
         &self,
-        expansion: &Expansion<'_>,
-        text: &mut Vec<u8>,
+        reports: &mut Reports,
+        moved: Moved,
         moment: Moment<'_>,
     ) -> Result<(), AllocError> {
-        let mut between: &[u8] = b"";
+        reports.set_moved(moved);
         for word in &self.listed {
-            text.extend_from_slice(between)?;
-            push_value(expansion, text, *word, moment)?;
-            between = b", ";
+            reports.value(Valued {
+                word: *word,
+                before: moment.before.get(*word).copied().unwrap_or(0),
+                after: moment.after.get(*word).copied().unwrap_or(0),
+            })?;
         }
-        text.push(b'\n')?;
         Ok(())
     }
-}
-
-/// Adds a word with its value, and with that after where it differs.
-fn push_value(
-    expansion: &Expansion<'_>,
-    text: &mut Vec<u8>,
-    word: usize,
-    moment: Moment<'_>,
-) -> Result<(), AllocError> {
-    let before = moment.before.get(word).copied().unwrap_or(0);
-    let after = moment.after.get(word).copied().unwrap_or(0);
-    text.extend_from_slice(expansion.scope.shown.at(word))?;
-    text.extend_from_slice(b" = ")?;
-    push_count(text, before)?;
-    if after != before {
-        text.extend_from_slice(b" -> ")?;
-        push_count(text, after)?;
-    }
-    Ok(())
 }

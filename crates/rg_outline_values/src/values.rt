@@ -7,9 +7,9 @@ use std::alloc::AllocError;
 
 /// Two states: a value for each word before and after.
 #[derive(Clone, Copy)]
-pub(crate) struct Moment<'s> {
-    pub(crate) before: &'s [u64],
-    pub(crate) after: &'s [u64],
+pub struct Moment<'s> {
+    pub before: &'s [u64],
+    pub after: &'s [u64],
 }
 
 /// What a form is: a value of so many bits, or a truth as 0 or 1. A number alone has no width, which is 0.
@@ -21,7 +21,7 @@ struct Valued {
 
 /// What the forms are, each by its index.
 #[derive(Drop)]
-pub(crate) struct Values {
+pub struct Values {
     valued: Vec<Valued>,
 }
 
@@ -70,7 +70,11 @@ fn operated(operator: Operator, first: u64, second: u64) -> u64 {
 
 impl Values {
     /// What a tree is, and what all trees are that it is made of.
-    pub(crate) fn of(
+    ///
+    /// # Errors
+    ///
+    /// `AllocError` where memory is refused.
+    pub fn of(
         expansion: &Expansion<'_>,
         tree: usize,
         moment: Moment<'_>,
@@ -96,12 +100,12 @@ impl Values {
     }
 
     /// The value of a tree.
-    pub(crate) fn value(&self, forest: &Forest, tree: usize) -> u64 {
+    pub fn value(&self, forest: &Forest, tree: usize) -> u64 {
         self.at(forest.tree(tree).form).value
     }
 
     /// Whether a formula is true.
-    pub(crate) fn holds(&self, forest: &Forest, tree: usize) -> bool {
+    pub fn holds(&self, forest: &Forest, tree: usize) -> bool {
         self.value(forest, tree) != 0
     }
 
