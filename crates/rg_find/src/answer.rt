@@ -11,7 +11,7 @@ ghost use Rattle.rg_find.specs.Found.{IsFound, FoundFits, FoundInOrder, fault_of
 use crate::logged_lines::lines_of;
 use rg_clauses::Clauses;
 use rg_hints::{Lines, check};
-use rg_search::{Answer, Given, Refutation, Unwatched, Watcher, solve};
+use rg_search::{Answer, Given, Refutation, Twin, Unwatched, Watcher, solve};
 use rg_words::limits::{MOST_DECISIONS, MOST_PROOF_BYTES};
 use rg_words::{Refusal, RefusalNumber};
 use std::alloc::Global;
@@ -60,7 +60,7 @@ fn lines_found(alloc: Global, clauses: &Clauses, refutation: &Refutation) -> Res
 fn searched<W: Watcher>(
     alloc: Global,
     clauses: &Clauses,
-    partners: &[u32],
+    twins: &[Twin],
     steps: u64,
     watcher: &mut W,
 ) -> Result<Found, Refusal>
@@ -76,7 +76,7 @@ fn searched<W: Watcher>(
         literals,
         starts,
     };
-    match solve(alloc, given, partners, steps, watcher)? {
+    match solve(alloc, given, twins, steps, watcher)? {
         Answer::Refuted(refutation) => lines_found(alloc, clauses, &refutation),
         Answer::Satisfied(values) => Ok(Found::Values(values)),
         Answer::GaveUp => Ok(Found::GaveUp),
@@ -207,12 +207,12 @@ pub fn find_watched<W: Watcher>(
     find_with(alloc, clauses, &[], steps, watcher)
 }
 
-/// The same, where of the values that satisfy those come in which inputs agree with their partners, where they may. Nothing is promised
-/// of that.
+/// The same, where of the values that satisfy some are sought in which these words have the same value in both states. Nothing is
+/// promised of that.
 pub fn find_with<W: Watcher>(
     alloc: Global,
     clauses: &Clauses,
-    partners: &[u32],
+    twins: &[Twin],
     steps: u64,
     watcher: &mut W,
 ) -> Result<Found, Refusal>
@@ -224,6 +224,6 @@ pub fn find_with<W: Watcher>(
     if steps > MOST_DECISIONS {
         return Err(Refusal::new(RefusalNumber::Limit));
     }
-    let found = searched(alloc, clauses, partners, steps, watcher)?;
+    let found = searched(alloc, clauses, twins, steps, watcher)?;
     confirmed(alloc, clauses, found)
 }

@@ -10,7 +10,7 @@ ghost use Rattle.rg_find.specs.Found.{IsFound, FoundFits, FoundInOrder, fault_of
 ghost use Rattle.rg_find.specs.Judged.{IsJudged, JudgedFits, JudgedInOrder, IsJudgeRefusal};
 
 use crate::answer::{Found, find_with};
-use crate::partners::partners_of;
+use crate::twins::twins_of;
 use rg_bits::states;
 use rg_clauses::Clauses;
 use rg_hints::Lines;
@@ -34,7 +34,7 @@ pub enum Judged {
     TooLarge,
 }
 
-/// Looks for lines or values over a condition's clauses; of the values those in which the states agree where they may.
+/// Looks for lines or values over a condition's clauses; of the values some in which words keep their values where they may.
 fn find_near<W: Watcher>(
     alloc: Global,
     condition: &Condition,
@@ -50,8 +50,8 @@ fn find_near<W: Watcher>(
     if steps > MOST_DECISIONS {
         return Err(Refusal::new(RefusalNumber::Limit));
     }
-    let partners = partners_of(alloc, condition)?;
-    find_with(alloc, clauses, &partners, steps, watcher)
+    let twins = twins_of(alloc, condition)?;
+    find_with(alloc, clauses, &twins, steps, watcher)
 }
 
 /// Looks for lines that prove a condition or for states at which it fails, as `find` does on its clauses. The file and the

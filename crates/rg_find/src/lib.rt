@@ -6,7 +6,7 @@
 mod answer;
 mod judgement;
 mod logged_lines;
-mod partners;
+mod twins;
 
 pub use answer::{Found, find, find_watched};
 pub use judgement::{Judged, judge};

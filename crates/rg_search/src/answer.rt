@@ -3,7 +3,7 @@
 use crate::cases::close_cases;
 use crate::congruence::Classes;
 use crate::leaves::{close_each, leaf_literals, refute_each};
-use crate::plain::plain_values;
+use crate::plain::{Twin, plain_values};
 use crate::refutation::Refutation;
 use crate::shortening::Shortening;
 use crate::sweep::{Effort, Sweep};
@@ -27,7 +27,7 @@ const CLOSING: (u64, u64) = (100, 100_000_000);
 const CASES: (u64, u64) = (20, 20_000_000);
 
 /// The same for the first sweep, which finds what is all but plain.
-const FIRST_SWEEP: (u64, u64) = (50, 1_000_000);
+const FIRST_SWEEP: (u64, u64) = (50, 50_000);
 
 /// The same for the second sweep.
 const SWEEP: (u64, u64) = (50, 50_000_000);
@@ -58,8 +58,8 @@ pub enum Answer {
 }
 
 /// A value for each variable: plain values of the inputs, and those of the gates that follow from them.
-fn values_of(circuit: &Circuit, solver: &mut Solver, partners: &[u32]) -> Vec<bool> {
-    let mut simulation = plain_values(solver, circuit, partners);
+fn values_of(circuit: &Circuit, solver: &mut Solver, twins: &[Twin]) -> Vec<bool> {
+    let mut simulation = plain_values(solver, circuit, twins);
     simulation.run(circuit);
     let mut values = Vec::new(solver.alloc);
     for variable in 1..circuit.active.len() {
@@ -233,7 +233,7 @@ fn run<W: Watcher>(solver: &mut Solver, circuit: &Circuit, steps: u64, watcher: 
 fn answer_of(
     solver: &mut Solver,
     given: Given<'_>,
-    partners: &[u32],
+    twins: &[Twin],
     circuit: &Circuit,
     outcome: Outcome,
 ) -> Answer {
@@ -243,7 +243,7 @@ fn answer_of(
             let lacks_memory = &mut solver.lacks_memory;
             Answer::Refuted(refutation_of(alloc, given, &solver.log, lacks_memory))
         }
-        Outcome::Assigned => Answer::Satisfied(values_of(circuit, solver, partners)),
+        Outcome::Assigned => Answer::Satisfied(values_of(circuit, solver, twins)),
         Outcome::GaveUp if solver.log.is_full() => Answer::TooLong,
         Outcome::GaveUp => Answer::GaveUp,
     }
@@ -253,7 +253,7 @@ fn answer_of(
 fn solve_by<W: Watcher>(
     solver: &mut Solver,
     given: Given<'_>,
-    partners: &[u32],
+    twins: &[Twin],
     steps: u64,
     watcher: &mut W,
 ) -> Answer {
@@ -261,20 +261,19 @@ fn solve_by<W: Watcher>(
     solver.make_room(given.variables as usize);
     solver.load(given, &circuit);
     let outcome = run(solver, &circuit, steps, watcher);
-    answer_of(solver, given, partners, &circuit, outcome)
+    answer_of(solver, given, twins, &circuit, outcome)
 }
 
 /// Looks for clauses that close the given ones or for values that satisfy them, with at most so many decisions, each on an
 /// input.
 ///
 /// The other work is bounded by that number too, by constants: values that are followed to show what is equal, and conflicts. With no
-/// decision only unit clauses are followed. Of the values that satisfy, those come in which inputs agree with their partners where they
-/// may: the partner of the input at a place of the list, from 1 on, is an earlier one, or 0 for none. The watcher is told of a long
-/// search.
+/// decision only unit clauses are followed. Of the values that satisfy, some are sought in which the words that are
+/// given for it have the same value in both states. The watcher is told of a long search.
 pub fn solve<W: Watcher>(
     alloc: Global,
     given: Given<'_>,
-    partners: &[u32],
+    twins: &[Twin],
     steps: u64,
     watcher: &mut W,
 ) -> Result<Answer, AllocError> {
@@ -286,7 +285,7 @@ pub fn solve<W: Watcher>(
     }
     let number = u32::try_from(given.len()).unwrap_or(u32::MAX);
     let mut solver = Solver::new(alloc, given.inputs as usize, number);
-    let answer = solve_by(&mut solver, given, partners, steps, watcher);
+    let answer = solve_by(&mut solver, given, twins, steps, watcher);
     if solver.lacks_memory {
         return Err(AllocError);
     }

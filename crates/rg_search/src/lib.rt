@@ -19,6 +19,7 @@ mod sums;
 mod sweep;
 
 pub use answer::{Answer, solve};
+pub use plain::Twin;
 pub use refutation::Refutation;
 pub use rg_solver::given::Given;
 pub use rg_solver::watcher::{Unwatched, Watcher};

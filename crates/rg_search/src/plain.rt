@@ -1,5 +1,5 @@
-//! Plain values: of those that satisfy, some in which the inputs that may be false are, then those that may be together with their
-//! partners, and then those that may agree with their partners do.
+//! Plain values: of those that satisfy, some in which the inputs that may be false are, then those that may be in both states together,
+//! and then the words that may have the same value in both states do.
 
 use crate::simulation::Simulation;
 use rg_solver::circuit::Circuit;
@@ -7,19 +7,26 @@ use rg_solver::code::code_for;
 use rg_solver::solver::{Solver, TRUE};
 use rg_solver::table::{add, at};
 
-/// The most gates that are looked at, for inputs that may be false, and then for inputs that may agree.
+/// The most gates that are looked at, for single inputs that may be false, and then for those of both states.
 const MOST_LOOKS: usize = 50_000_000;
 
 /// How many inputs are tried at once.
 const AT_ONCE: usize = 63;
 
-/// An input, perhaps its partner, and the value that both are to have, if they may.
+/// A word that has a value in each of two states: the first input of either, and how many there are.
+#[derive(Clone, Copy)]
+pub struct Twin {
+    pub first: u32,
+    pub second: u32,
+    pub width: u32,
+}
+
+/// An input that is to be false, if it may, perhaps with another one.
 #[derive(Clone, Copy)]
 struct Change {
     input: usize,
     /// 0 for none.
     partner: usize,
-    value: bool,
 }
 
 /// To make the inputs false that are true, the last first.
@@ -27,12 +34,11 @@ fn true_inputs(solver: &mut Solver, circuit: &Circuit) -> Vec<Change> {
     let mut changes = Vec::new(solver.alloc);
     for input in (1..circuit.inputs.saturating_add(1)).rev() {
         if solver.value(code_for(input)) == TRUE {
-            let change = Change {
-                input,
-                partner: 0,
-                value: false,
-            };
-            add(&mut changes, change, &mut solver.lacks_memory);
+            add(
+                &mut changes,
+                Change { input, partner: 0 },
+                &mut solver.lacks_memory,
+            );
         }
     }
     changes
@@ -43,57 +49,64 @@ fn is_true(simulation: &Simulation, input: usize) -> bool {
     simulation.word_of(code_for(input)) & 1 == 1
 }
 
-/// To make inputs false together with their partners, where both are true.
-fn true_pairs(
+/// To make the bits of a word false that are true in both states, the last first.
+fn add_pairs(
+    changes: &mut Vec<Change>,
     simulation: &Simulation,
-    solver: &mut Solver,
-    circuit: &Circuit,
-    partners: &[u32],
-) -> Vec<Change> {
-    let mut changes = Vec::new(solver.alloc);
-    for input in (1..circuit.inputs.saturating_add(1)).rev() {
-        let partner = at(partners, input, 0) as usize;
-        if partner > 0 && is_true(simulation, input) && is_true(simulation, partner) {
-            let change = Change {
-                input,
-                partner,
-                value: false,
-            };
-            add(&mut changes, change, &mut solver.lacks_memory);
+    twin: Twin,
+    lacks_memory: &mut bool,
+) {
+    for bit in (0..twin.width).rev() {
+        let input = twin.second.saturating_add(bit) as usize;
+        let partner = twin.first.saturating_add(bit) as usize;
+        if is_true(simulation, input) && is_true(simulation, partner) {
+            add(changes, Change { input, partner }, lacks_memory);
         }
+    }
+}
+
+/// To make inputs false that are true in both states.
+fn true_pairs(simulation: &Simulation, solver: &mut Solver, twins: &[Twin]) -> Vec<Change> {
+    let mut changes = Vec::new(solver.alloc);
+    for twin in twins {
+        add_pairs(&mut changes, simulation, *twin, &mut solver.lacks_memory);
     }
     changes
 }
 
-/// To give inputs the value of their partners where they differ.
-fn unlike_partners(
-    simulation: &Simulation,
-    solver: &mut Solver,
-    circuit: &Circuit,
-    partners: &[u32],
-) -> Vec<Change> {
-    let mut changes = Vec::new(solver.alloc);
-    for input in 1..circuit.inputs.saturating_add(1) {
-        let partner = at(partners, input, 0) as usize;
-        let value = is_true(simulation, partner);
-        if partner > 0 && is_true(simulation, input) != value {
-            let change = Change {
-                input,
-                partner: 0,
-                value,
-            };
-            add(&mut changes, change, &mut solver.lacks_memory);
-        }
-    }
-    changes
-}
-
-/// Sets a change's inputs in 64 tries: as wanted in those of these bits, and else to the other value.
-fn set(simulation: &mut Simulation, change: Change, wanted: u64) {
-    let word = if change.value { wanted } else { !wanted };
-    simulation.set(change.input, word);
+/// Sets a change's inputs in 64 tries: false in those of these bits.
+fn set(simulation: &mut Simulation, change: Change, made: u64) {
+    simulation.set(change.input, !made);
     if change.partner > 0 {
-        simulation.set(change.partner, word);
+        simulation.set(change.partner, !made);
+    }
+}
+
+/// Gives a word's second value that of the first in the tries of these bits, and in the others that of the trial of bit 0.
+fn set_second(simulation: &mut Simulation, twin: Twin, made: u64) {
+    for bit in 0..twin.width {
+        let first = twin.first.saturating_add(bit) as usize;
+        let second = twin.second.saturating_add(bit) as usize;
+        let wanted = if is_true(simulation, first) { made } else { 0 };
+        let kept = if is_true(simulation, second) {
+            !made
+        } else {
+            0
+        };
+        simulation.set(second, wanted | kept);
+    }
+}
+
+/// Gives words the same value in both states where the assertion stays true.
+fn agree(simulation: &mut Simulation, circuit: &Circuit, twins: &[Twin]) {
+    for twin in twins {
+        if circuit.assertion < 2 {
+            return;
+        }
+        set_second(simulation, *twin, 2);
+        simulation.run(circuit);
+        let may = simulation.word_of(circuit.assertion) & 2 == 2;
+        set_second(simulation, *twin, if may { u64::MAX } else { 0 });
     }
 }
 
@@ -130,8 +143,8 @@ fn turned(
     count
 }
 
-/// Values of the inputs, of which the bit 0 counts. The partner of an input is an earlier one that should have its value, or 0.
-pub fn plain_values(solver: &mut Solver, circuit: &Circuit, partners: &[u32]) -> Simulation {
+/// Values of the inputs, of which the bit 0 counts.
+pub fn plain_values(solver: &mut Solver, circuit: &Circuit, twins: &[Twin]) -> Simulation {
     let mut simulation = Simulation::new(solver.alloc, circuit, &mut solver.lacks_memory);
     for variable in 1..circuit.inputs.saturating_add(1) {
         simulation.set(variable, 0);
@@ -141,10 +154,9 @@ pub fn plain_values(solver: &mut Solver, circuit: &Circuit, partners: &[u32]) ->
         simulation.set(change.input, u64::MAX);
     }
     turn_all(&mut simulation, circuit, &changes);
-    let changes = true_pairs(&simulation, solver, circuit, partners);
+    let changes = true_pairs(&simulation, solver, twins);
     turn_all(&mut simulation, circuit, &changes);
-    let changes = unlike_partners(&simulation, solver, circuit, partners);
-    turn_all(&mut simulation, circuit, &changes);
+    agree(&mut simulation, circuit, twins);
     simulation
 }
 

@@ -23,6 +23,8 @@ pub struct Sums {
     stack: Vec<usize>,
     /// By variable: an exclusive or that is equal to it, or opposite, or 0.
     twins: Vec<usize>,
+    /// Whether an exclusive or has one as an operand, as the sum of two numbers does.
+    pub are_likely: bool,
 }
 
 impl Sums {
@@ -31,16 +33,28 @@ impl Sums {
             leaves: Vec::new(solver.alloc),
             stack: Vec::new(solver.alloc),
             twins: Vec::new(solver.alloc),
+            are_likely: false,
         };
         let size = circuit.variables().saturating_add(1);
         fill(&mut sums.twins, 0, size, &mut solver.lacks_memory);
         for variable in 0..size {
-            if circuit.is_active(variable) && exclusive(circuit, variable).is_some() {
-                let root = variable_of(classes.root(code_for(variable)));
-                put(&mut sums.twins, root, variable);
+            if circuit.is_active(variable) {
+                sums.look_at(circuit, classes, variable);
             }
         }
         sums
+    }
+
+    /// Looks whether a variable is an exclusive or.
+    fn look_at(&mut self, circuit: &Circuit, classes: &mut Classes, variable: usize) {
+        let Some(operands) = exclusive(circuit, variable) else {
+            return;
+        };
+        let root = variable_of(classes.root(code_for(variable)));
+        put(&mut self.twins, root, variable);
+        let first = exclusive(circuit, variable_of(operands.first));
+        let second = exclusive(circuit, variable_of(operands.second));
+        self.are_likely = self.are_likely || first.is_some() || second.is_some();
     }
 
     /// The operands of an exclusive or that is this variable, or equal to it.

@@ -23,7 +23,7 @@ const ROUNDS: usize = 32;
 /// How many earlier gates a gate is compared with.
 const TRIES: usize = 16;
 
-/// The most conflicts in each direction of a pair while few pairs were given up, and how many are few.
+/// The most conflicts in each direction of a pair where there may be sums, while few pairs were given up, and how many are few.
 const SOME_CONFLICTS: u64 = 100;
 
 const FEW_MISSES: u64 = 10;
@@ -33,7 +33,9 @@ const SUM_CONFLICTS: u64 = 30;
 
 const SUMMED_CONFLICTS: u64 = 300;
 
-/// How much more work is allowed for that of a pair that is proved.
+/// How much more work is allowed where there may be sums, and then for that of each pair that is proved.
+const SUMS_WORK: u64 = 1_000_000;
+
 const REWARD: u64 = 4;
 
 /// How much a sweep may do.
@@ -129,6 +131,9 @@ impl Sweep {
         watcher: &mut W,
     ) {
         self.allowed = effort.work;
+        if self.sums.are_likely {
+            self.allow(effort, SUMS_WORK);
+        }
         let first = circuit.inputs.saturating_add(1);
         for variable in first..circuit.variables().saturating_add(1) {
             if solver.is_over() || solver.effort > self.allowed {
@@ -207,7 +212,7 @@ impl Sweep {
     fn limit(&self, effort: Effort, is_summed: bool) -> u64 {
         let more = if is_summed {
             SUMMED_CONFLICTS
-        } else if self.misses < FEW_MISSES {
+        } else if self.sums.are_likely && self.misses < FEW_MISSES {
             SOME_CONFLICTS
         } else {
             0
@@ -215,13 +220,18 @@ impl Sweep {
         effort.conflicts.max(more).min(effort.steps)
     }
 
+    /// Allows so much more work.
+    fn allow(&mut self, effort: Effort, work: u64) {
+        self.allowed = self.allowed.saturating_add(work).min(effort.most);
+    }
+
     /// Counts what became of a pair after so much work.
     fn count(&mut self, outcome: Outcome, effort: Effort, work: u64) {
         match outcome {
-            Outcome::Excluded => {
-                let more = work.saturating_mul(REWARD);
-                self.allowed = self.allowed.saturating_add(more).min(effort.most);
+            Outcome::Excluded if self.sums.are_likely => {
+                self.allow(effort, work.saturating_mul(REWARD));
             }
+            Outcome::Excluded => {}
             Outcome::Assigned => {}
             Outcome::GaveUp => self.misses = self.misses.saturating_add(1),
         }
