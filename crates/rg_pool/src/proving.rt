@@ -26,6 +26,7 @@ use std::thread::Threads;
 fn prove_one<R: Threads + Sync>(
     rt: &R,
     alloc: Global,
+    threads: usize,
     before: usize,
     conditions: &[Condition],
     sections: &[SectionBytes<'_>],
@@ -43,7 +44,7 @@ fn prove_one<R: Threads + Sync>(
     }
     let place = before + index;
     let number = place as u64 + 1;
-    let checker = InThreads { rt, threads: 2 };
+    let checker = InThreads { rt, threads };
     let proved = prove_condition(&checker, alloc, &conditions[index], number, placed[place]);
     if proved.is_err() {
         refused.store(true, Ordering::SeqCst);
@@ -129,7 +130,11 @@ fn prove_some<R: Threads + Sync>(
         &|index: usize| -> Option<Result<(), Refusal>>
             requires { (index < length conditions.now) × (before + length conditions.now ≤ length placed.now) × ArePlaced sections.now placed.now }
             ensures { IfSome result (IsVerdictAt (map text_of sections.entry.now) before (map condition_tree conditions.entry.now) index) }
-        { prove_one(rt, alloc, before, conditions, sections, placed, told, index) },
+        {
+            prove_one(
+                rt, alloc, threads, before, conditions, sections, placed, told, index,
+            )
+        },
     )
 }
 

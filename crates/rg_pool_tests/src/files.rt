@@ -64,11 +64,7 @@ fn both_say<R: Threads + Sync>(
 }
 
 fn refused(number: RefusalNumber, line: u64) -> Result<(), Refusal> {
-    Err(Refusal::at(
-        number,
-        SourceFile::Proofs,
-        Place::Line(line),
-    ))
+    Err(Refusal::at(number, SourceFile::Proofs, Place::Line(line)))
 }
 
 /// Whether both checks give this answer for 5,000 lines, of which these have other hints.

@@ -8,10 +8,13 @@ ghost use Rattle.rgc.specs.Accepted.{IsAccepted, IsAcceptRefusal, IsBuilt, AreAc
 ghost use Rattle.rgc.specs.Stages.{accepted_program, emitted_program, emitted_blocks};
 
 use crate::stages::{Accepted, Derived, Emitted, Parsed};
+use rg_hints::{OneThread, Prover};
 use rg_parse::{one_derivation, one_program};
+use rg_pool::InThreads;
 use rg_tree::program::Program;
 use rg_words::Refusal;
 use std::alloc::Global;
+use std::thread::Threads;
 
 /// The program, where the derivation and the proofs prove that it satisfies its specification.
 ///
@@ -73,6 +76,44 @@ pub fn build_program(
     }
 }
 
+/// The program that a text spells, where the derivation and the proofs, of which this prover decides, prove that it
+/// satisfies its specification.
+///
+/// # Errors
+///
+/// As `accept`.
+fn accept_by<P: Prover>(
+    prover: &P,
+    alloc: Global,
+    text: &[u8],
+    derivation: &[u8],
+    proofs: &[u8],
+) -> Result<Accepted, Refusal>
+    requires { P.can_prove prover.now }
+    // Ok exactly where the written rules accept all three files, unless memory runs out.
+    ensures accepted { IfOk result (λ a. AreAccepted text.now derivation.now proofs.now (accepted_program a)) }
+    ensures accepts { IsAcceptedText text.now derivation.now proofs.now → IfErr result (λ e. e ≡ no_memory) }
+    ensures refused { IfErr result (IsAcceptTextRefusal text.now derivation.now proofs.now) }
+    // What is accepted satisfies its specification.
+    ensures satisfied { IfOk result (λ a. IsSatisfied (accepted_program a)) }
+{
+    // The bytes spell one program and one derivation.
+    one_program();
+    one_derivation();
+    let parsed = match Parsed::read(alloc, text) {
+        Ok(parsed) => parsed,
+        Err(refusal) => return Err(refusal),
+    };
+    let derived = match parsed.derive(alloc, derivation) {
+        Ok(derived) => derived,
+        Err(refusal) => return Err(refusal),
+    };
+    match derived.prove_by(prover, alloc, proofs) {
+        Ok(proved) => Ok(proved),
+        Err(refusal) => Err(refusal),
+    }
+}
+
 /// The program that a text spells, where the derivation and the proofs prove that it satisfies its specification.
 ///
 /// # Errors
@@ -92,19 +133,52 @@ pub fn accept(
     // What is accepted satisfies its specification.
     ensures satisfied { IfOk result (λ a. IsSatisfied (accepted_program a)) }
 {
-    // The bytes spell one program and one derivation.
-    one_program();
-    one_derivation();
-    let parsed = match Parsed::read(alloc, text) {
-        Ok(parsed) => parsed,
+    accept_by(&OneThread, alloc, text, derivation, proofs)
+}
+
+/// The same, in at most so many threads: conditions are looked at side by side, and large sections in pieces. A thread that
+/// can't be had costs time alone.
+///
+/// # Errors
+///
+/// As `accept`.
+pub fn accept_all<R: Threads + Sync>(
+    rt: &R,
+    alloc: Global,
+    threads: usize,
+    text: &[u8],
+    derivation: &[u8],
+    proofs: &[u8],
+) -> Result<Accepted, Refusal>
+    // Ok exactly where the written rules accept all three files, unless memory runs out.
+    ensures accepted { IfOk result (λ a. AreAccepted text.now derivation.now proofs.now (accepted_program a)) }
+    ensures accepts { IsAcceptedText text.now derivation.now proofs.now → IfErr result (λ e. e ≡ no_memory) }
+    ensures refused { IfErr result (IsAcceptTextRefusal text.now derivation.now proofs.now) }
+    // What is accepted satisfies its specification.
+    ensures satisfied { IfOk result (λ a. IsSatisfied (accepted_program a)) }
+{
+    accept_by(&InThreads { rt, threads }, alloc, text, derivation, proofs)
+}
+
+/// The same as `build`, where this prover decides of the proofs.
+fn build_by<P: Prover>(
+    prover: &P,
+    alloc: Global,
+    text: &[u8],
+    derivation: &[u8],
+    proofs: &[u8],
+) -> Result<Emitted, Refusal>
+    requires { P.can_prove prover.now }
+    ensures built { IfOk result (λ e. IsBuiltText text.now derivation.now proofs.now (emitted_program e) (emitted_blocks e)) }
+    ensures accepts { IsAcceptedText text.now derivation.now proofs.now → IfErr result (λ e. e ≡ no_memory) }
+    ensures refused { IfErr result (IsAcceptTextRefusal text.now derivation.now proofs.now) }
+{
+    let accepted = match accept_by(prover, alloc, text, derivation, proofs) {
+        Ok(accepted) => accepted,
         Err(refusal) => return Err(refusal),
     };
-    let derived = match parsed.derive(alloc, derivation) {
-        Ok(derived) => derived,
-        Err(refusal) => return Err(refusal),
-    };
-    match derived.prove(alloc, proofs) {
-        Ok(proved) => Ok(proved),
+    match accepted.emit(alloc) {
+        Ok(coded) => Ok(coded),
         Err(refusal) => Err(refusal),
     }
 }
@@ -126,12 +200,25 @@ pub fn build(
     ensures accepts { IsAcceptedText text.now derivation.now proofs.now → IfErr result (λ e. e ≡ no_memory) }
     ensures refused { IfErr result (IsAcceptTextRefusal text.now derivation.now proofs.now) }
 {
-    let accepted = match accept(alloc, text, derivation, proofs) {
-        Ok(accepted) => accepted,
-        Err(refusal) => return Err(refusal),
-    };
-    match accepted.emit(alloc) {
-        Ok(coded) => Ok(coded),
-        Err(refusal) => Err(refusal),
-    }
+    build_by(&OneThread, alloc, text, derivation, proofs)
+}
+
+/// The same, in at most so many threads, as `accept_all`.
+///
+/// # Errors
+///
+/// As `accept`.
+pub fn build_all<R: Threads + Sync>(
+    rt: &R,
+    alloc: Global,
+    threads: usize,
+    text: &[u8],
+    derivation: &[u8],
+    proofs: &[u8],
+) -> Result<Emitted, Refusal>
+    ensures built { IfOk result (λ e. IsBuiltText text.now derivation.now proofs.now (emitted_program e) (emitted_blocks e)) }
+    ensures accepts { IsAcceptedText text.now derivation.now proofs.now → IfErr result (λ e. e ≡ no_memory) }
+    ensures refused { IfErr result (IsAcceptTextRefusal text.now derivation.now proofs.now) }
+{
+    build_by(&InThreads { rt, threads }, alloc, text, derivation, proofs)
 }

@@ -8,9 +8,11 @@ mod proofs_found;
 mod shown;
 mod stages;
 
-pub use acceptance::{accept, accept_program, build, build_program};
+pub use acceptance::{accept, accept_all, accept_program, build, build_all, build_program};
 pub use chosen::{chosen_condition, condition_clauses, derive_program, find_condition};
 pub use failures::failure_text;
-pub use proofs_found::{ProofsFound, Unproved, failures_text, find_proofs};
-pub use shown::{clauses, find, valid};
+pub use proofs_found::{
+    ProofsFound, Unproved, failures_text, find_part, find_proofs, find_proofs_all,
+};
+pub use shown::{clauses, find, valid, valid_all};
 pub use stages::{Accepted, Derived, Emitted, Parsed};

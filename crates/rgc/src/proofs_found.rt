@@ -1,19 +1,22 @@
 //! A whole proofs file, found by a search for each condition.
 
-ghost use Rattle.std.specs.Prelude.{All, map, IfOk, OnOk};
+ghost use Rattle.std.specs.Prelude.{◌+◌, ◌<◌, ◌≤◌, ◌^◌, length, All, map, IsOk, IfOk, IfSome, OnOk};
 ghost use Rattle.rg_tree.specs.Conditions.{condition_tree};
-ghost use Rattle.rgc.specs.Proofs.{AreFoundFor, IsUnproved};
-ghost use Rattle.rgc.specs.Inner.Search.{Takes};
+ghost use Rattle.rgc.specs.Proofs.{AreFoundFor, ArePartFoundFor, IsRange, IsUnproved};
+ghost use Rattle.rgc.specs.Inner.Search.{Takes, IsJudgedAt, AreJudged};
 ghost use Rattle.rgc.specs.Stages.{derived_program, derived_lines};
 
 use crate::failures::failure_text;
 use crate::stages::Derived;
 use rg_find::{Judged, Watcher, judge};
 use rg_hints::{Lines, prove};
+use rg_pool::{deal, prove_all, prove_part};
 use rg_tree::condition::Condition;
 use rg_words::limits::MOST_PROOF_BYTES;
-use rg_words::{Layout, Refusal, SourceFile};
+use rg_words::{Layout, Place, Refusal, RefusalNumber, SourceFile};
 use std::alloc::{AllocError, Global};
+use std::sync::atomic::{AtomicBool, Ordering};
+use std::thread::Threads;
 
 /// A condition for which no proof is given.
 #[derive(Drop)]
@@ -102,6 +105,141 @@ fn search_all<P: Watcher>(
     Ok(found)
 }
 
+/// What a search says of the condition at this place, from 0; nothing, where another condition was refused before.
+fn judge_one<P: Watcher + Copy>(
+    alloc: Global,
+    conditions: &[Condition],
+    place: usize,
+    steps: u64,
+    watcher: &P,
+    refused: &AtomicBool,
+) -> Option<Result<Judged, Refusal>>
+    requires { place < length conditions.now }
+    ensures { IfSome result (λ r. IfOk r (IsJudgedAt (map condition_tree conditions.now) (place + 1))) }
+{
+    if refused.load(Ordering::SeqCst) {
+        return None;
+    }
+    let number = place as u64 + 1;
+    let mut own = *watcher;
+    let judged = judge(
+        alloc,
+        &conditions[place],
+        SourceFile::Derivation,
+        number,
+        steps,
+        &mut own,
+    );
+    if judged.is_err() {
+        refused.store(true, Ordering::SeqCst);
+    }
+    Some(judged)
+}
+
+/// What searches say of so many conditions from this place on, in at most so many threads; nothing of some of them, where
+/// one is refused, and of none with fewer than two threads.
+fn judge_some<R: Threads + Sync, P: Watcher + Copy + Sync>(
+    rt: &R,
+    alloc: Global,
+    threads: usize,
+    conditions: &[Condition],
+    from: usize,
+    count: usize,
+    steps: u64,
+    watcher: &P,
+) -> Result<Vec<Option<Result<Judged, Refusal>>>, AllocError>
+    requires { from + count ≤ length conditions.now }
+    ensures { IfOk result (λ known. AreJudged (map condition_tree conditions.now) from known.items) }
+{
+    if threads < 2 {
+        return Ok(Vec::new(alloc));
+    }
+    let refused = AtomicBool::new(false);
+    let told = &refused;
+    deal(
+        rt,
+        alloc,
+        threads,
+        count,
+        &|index: usize| -> Option<Result<Judged, Refusal>>
+            requires { (from + index < length conditions.now) × (length conditions.now < 2 ^ 64) }
+            ensures { IfSome result (λ r. IfOk r (IsJudgedAt (map condition_tree conditions.entry.now) (from + index + 1))) }
+        { judge_one(alloc, conditions, from + index, steps, watcher, told) },
+    )
+}
+
+/// What a search says of the condition at this place, from 0: what is known of it, which is taken, or what is found now.
+fn judged_at<P: Watcher + Copy>(
+    alloc: Global,
+    conditions: &[Condition],
+    known: &mut [Option<Result<Judged, Refusal>>],
+    from: usize,
+    place: usize,
+    steps: u64,
+    watcher: &P,
+) -> Result<Judged, Refusal>
+    requires place { place < length conditions.now }
+    requires from { from ≤ place }
+    requires known { AreJudged (map condition_tree conditions.now) from known.old }
+    ensures judged { IfOk result (IsJudgedAt (map condition_tree conditions.now) (place + 1)) }
+    ensures known { AreJudged (map condition_tree conditions.now) from known.new }
+{
+    let index = place - from;
+    if index < known.len() {
+        if let Some(judged) = known[index].take() {
+            return judged;
+        }
+    }
+    let number = place as u64 + 1;
+    let mut own = *watcher;
+    judge(
+        alloc,
+        &conditions[place],
+        SourceFile::Derivation,
+        number,
+        steps,
+        &mut own,
+    )
+}
+
+/// Searches for lines for each condition from one place on and before another, with at most so many decisions each.
+fn search_in<R: Threads + Sync, P: Watcher + Copy + Sync>(
+    rt: &R,
+    alloc: Global,
+    threads: usize,
+    conditions: &[Condition],
+    from: usize,
+    to: usize,
+    steps: u64,
+    watcher: &P,
+) -> Result<Search, Refusal>
+    requires order { from ≤ to }
+    requires bound { to ≤ length conditions.now }
+    // What is told of a condition for which no lines were found is true of it.
+    ensures { IfOk result (λ s. All (IsUnproved (map condition_tree conditions.now)) s.unproved.items) }
+{
+    let mut known = judge_some(
+        rt,
+        alloc,
+        threads,
+        conditions,
+        from,
+        to - from,
+        steps,
+        watcher,
+    )?;
+    let mut found = Search {
+        sections: String::new(alloc),
+        unproved: Vec::new(alloc),
+    };
+    let told = known.as_mut_slice();
+    for place in from..to {
+        let judged = judged_at(alloc, conditions, told, from, place, steps, watcher)?;
+        found.take(alloc, place + 1, judged)?;
+    }
+    Ok(found)
+}
+
 /// What searches for all conditions of a program's derivation found.
 #[derive(Drop)]
 pub enum ProofsFound {
@@ -133,6 +271,114 @@ pub fn find_proofs<P: Watcher>(
         return Ok(ProofsFound::Failures(unproved));
     }
     prove(alloc, conditions.as_slice(), sections.as_bytes())?;
+    Ok(ProofsFound::Proofs(sections))
+}
+
+/// The same, where the conditions are looked at side by side in at most so many threads; with fewer than two threads, in
+/// their order in the thread that asks. Each search has a copy of the watcher. What is found is the same for any count of
+/// threads.
+///
+/// # Errors
+///
+/// As `find_proofs`.
+pub fn find_proofs_all<R: Threads + Sync, P: Watcher + Copy + Sync>(
+    rt: &R,
+    alloc: Global,
+    threads: usize,
+    derived: &Derived,
+    steps: u64,
+    watcher: &P,
+) -> Result<ProofsFound, Refusal>
+    // What is given proves all conditions: it is checked before it is given. What is told of a condition without a proof is true of it.
+    ensures { IfOk result (AreFoundFor (derived_program derived.now) (derived_lines derived.now)) }
+{
+    let conditions = derived.conditions(alloc)?;
+    let count = conditions.len();
+    let found = search_in(
+        rt,
+        alloc,
+        threads,
+        conditions.as_slice(),
+        0,
+        count,
+        steps,
+        watcher,
+    )?;
+    let Search { sections, unproved } = found;
+    if !unproved.is_empty() {
+        return Ok(ProofsFound::Failures(unproved));
+    }
+    prove_all(
+        rt,
+        alloc,
+        threads,
+        conditions.as_slice(),
+        sections.as_bytes(),
+    )?;
+    Ok(ProofsFound::Proofs(sections))
+}
+
+/// Whether there are conditions of these numbers, from 1; refused at the first number of which there is none.
+fn check_range(first: u64, last: u64, count: usize) -> Result<(), Refusal>
+    ensures range { OnOk result (IsRange first last count) }
+    ensures accepts { IsRange first last count → IsOk result }
+{
+    let fault = if first == 0 || first > count as u64 {
+        first
+    } else {
+        last
+    };
+    if first > 0 && first <= last && last <= count as u64 {
+        return Ok(());
+    }
+    Err(Refusal::at(
+        RefusalNumber::UnknownCondition,
+        SourceFile::Derivation,
+        Place::Condition(fault),
+    ))
+}
+
+/// Looks for proofs of the conditions with these numbers, from 1, the last of them included, as `find_proofs_all` does for
+/// all. The sections that ranges give, put one after another in the order of their ranges, are a proofs file for all of
+/// their conditions.
+///
+/// # Errors
+///
+/// `UnknownCondition` at the condition of the derivation where there is none of the first or the last number, or where the
+/// last is below the first; then as `find_proofs`.
+pub fn find_part<R: Threads + Sync, P: Watcher + Copy + Sync>(
+    rt: &R,
+    alloc: Global,
+    threads: usize,
+    derived: &Derived,
+    first: u64,
+    last: u64,
+    steps: u64,
+    watcher: &P,
+) -> Result<ProofsFound, Refusal>
+    // What is given proves these conditions: it is checked before it is given. What is told of a condition without a proof is true of it.
+    ensures { IfOk result (ArePartFoundFor (derived_program derived.now) (derived_lines derived.now) first last) }
+{
+    let conditions = derived.conditions(alloc)?;
+    let count = conditions.len();
+    check_range(first, last, count)?;
+    let (from, to) = ((first - 1) as usize, last as usize);
+    let found = search_in(
+        rt,
+        alloc,
+        threads,
+        conditions.as_slice(),
+        from,
+        to,
+        steps,
+        watcher,
+    )?;
+    let Search { sections, unproved } = found;
+    if !unproved.is_empty() {
+        return Ok(ProofsFound::Failures(unproved));
+    }
+    let part = &conditions.as_slice()[from..to];
+    prove_part(rt, alloc, threads, count, from, part, sections.as_bytes())?;
     Ok(ProofsFound::Proofs(sections))
 }
 

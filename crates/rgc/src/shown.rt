@@ -14,12 +14,14 @@ ghost use Rattle.rgc.specs.Valid.{clauses_shown, HasClauses, ShownHolds, IsShown
 
 use rg_clauses::Clauses;
 use rg_find::{Judged, Watcher, judge};
-use rg_hints::{Lines, check};
+use rg_hints::{Checker, Lines, OneThread};
 use rg_parse::{one_meaning, show};
+use rg_pool::InThreads;
 use rg_tree::condition::Condition;
 use rg_words::limits::MOST_PROOF_BYTES;
 use rg_words::{Place, Refusal, RefusalNumber, SourceFile};
 use std::alloc::Global;
+use std::thread::Threads;
 
 /// The clauses of the formula that a text `words .. show ..` spells: they can be satisfied exactly where it fails for some pair
 /// of states that agree on the fixed words.
@@ -81,15 +83,14 @@ pub fn find<W: Watcher>(
     }
 }
 
-/// Whether the hint lines prove the formula that the text spells. After Ok it is true in every state; where it speaks of two
-/// states, in every pair of states that agree on the fixed words.
-///
-/// # Errors
-///
-/// The first fault: of the text and its condition, as `clauses` tells it; then in file `proofs` `Limit` at line 1 (too many
-/// bytes), then `Unreadable` or `IdOrder` at the first faulty line, then `HintNotEarlier`, `HintNotUnit` or `NoConflict` at the
-/// least line that doesn't follow, then `NoEmptyClause` at condition 1. `Memory` where memory is refused.
-pub fn valid(alloc: Global, text: &[u8], proofs: &[u8]) -> Result<(), Refusal>
+/// The same as `valid`, where this checker decides of the lines.
+fn valid_by<C: Checker>(
+    checker: &C,
+    alloc: Global,
+    text: &[u8],
+    proofs: &[u8],
+) -> Result<(), Refusal>
+    requires { C.can_check checker.now }
     ensures proved { OnOk result (IsProved text.now proofs.now) }
     ensures holds { OnOk result (ShownHolds text.now) }
     ensures refused { IfErr result (IsValidRefusal text.now proofs.now) }
@@ -108,8 +109,46 @@ pub fn valid(alloc: Global, text: &[u8], proofs: &[u8]) -> Result<(), Refusal>
         Ok(lines) => lines,
         Err(refusal) => return Err(refusal),
     };
-    match check(alloc, 1, &clauses, &lines) {
+    match checker.check(alloc, 1, &clauses, &lines) {
         Ok(()) => Ok(()),
         Err(refusal) => Err(refusal),
     }
+}
+
+/// Whether the hint lines prove the formula that the text spells. After Ok it is true in every state; where it speaks of two
+/// states, in every pair of states that agree on the fixed words.
+///
+/// # Errors
+///
+/// The first fault: of the text and its condition, as `clauses` tells it; then in file `proofs` `Limit` at line 1 (too many
+/// bytes), then `Unreadable` or `IdOrder` at the first faulty line, then `HintNotEarlier`, `HintNotUnit` or `NoConflict` at the
+/// least line that doesn't follow, then `NoEmptyClause` at condition 1. `Memory` where memory is refused.
+pub fn valid(alloc: Global, text: &[u8], proofs: &[u8]) -> Result<(), Refusal>
+    ensures proved { OnOk result (IsProved text.now proofs.now) }
+    ensures holds { OnOk result (ShownHolds text.now) }
+    ensures refused { IfErr result (IsValidRefusal text.now proofs.now) }
+    ensures accepts { IsProved text.now proofs.now → IfErr result (λ e. e ≡ no_memory) }
+{
+    valid_by(&OneThread, alloc, text, proofs)
+}
+
+/// The same, where many lines are checked in four threads, as `rg_pool::check_all` tells it, unless fewer than two threads
+/// may be used.
+///
+/// # Errors
+///
+/// As `valid`.
+pub fn valid_all<R: Threads + Sync>(
+    rt: &R,
+    alloc: Global,
+    threads: usize,
+    text: &[u8],
+    proofs: &[u8],
+) -> Result<(), Refusal>
+    ensures proved { OnOk result (IsProved text.now proofs.now) }
+    ensures holds { OnOk result (ShownHolds text.now) }
+    ensures refused { IfErr result (IsValidRefusal text.now proofs.now) }
+    ensures accepts { IsProved text.now proofs.now → IfErr result (λ e. e ≡ no_memory) }
+{
+    valid_by(&InThreads { rt, threads }, alloc, text, proofs)
 }

@@ -1,6 +1,8 @@
 -- What a search for proofs of conditions keeps.
-use Rattle.std.specs.Prelude.{◌≡◌, ◌⊎◌, ℕ, List, [], ◌∷◌, ◌++◌}
+use Rattle.std.specs.Prelude.{◌≡◌, ◌⊎◌, ℕ, ◌+◌, ◌<◌, Option, Some, None, Result, List, [], ◌∷◌, ◌++◌, length, slice_index_or, IfOk, IfSome}
+use Rattle.rg_words.specs.declared.refusal.Refusal.{Refusal}
 use Rattle.rg_tree.specs.ConditionTrees.{ConditionTree}
+use Rattle.rg_tree.specs.Programs.{nth}
 use Rattle.rg_find.specs.Judged.{IsJudged}
 use Rattle.rg_find.specs.declared.judgement.Judged.{Judged}
 use Rattle.rgc.specs.declared.proofs_found.Unproved.{Unproved}
@@ -15,3 +17,11 @@ pub record IsKept (number : ℕ) (judged : Judged) (old new : List Unproved) : T
 -- a condition is kept as unproved, or nothing is
 abbrev pub Takes : ℕ → Judged → List Unproved → List Unproved → Type 0
 Takes number judged old new = (new ≡ old) ⊎ IsKept number judged old new
+
+-- what is said of the condition with this number, from 1, is true of it
+abbrev pub IsJudgedAt : List ConditionTree → ℕ → Judged → Type 0
+IsJudgedAt conditions number judged = (c : ConditionTree) → nth conditions number ≡ Some c → IsJudged c judged
+
+-- at each place stands what is said of the condition there, from one place on, or nothing
+abbrev pub AreJudged : List ConditionTree → ℕ → List (Option (Result Judged Refusal)) → Type 0
+AreJudged conditions from known = (i : ℕ) → i < length known → IfSome (slice_index_or known i None) (λ r. IfOk r (IsJudgedAt conditions (from + i + 1)))

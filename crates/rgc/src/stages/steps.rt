@@ -18,14 +18,17 @@ ghost use Rattle.rgc.specs.Stages.{parsed_program, derived_program, derived_line
 
 use super::{Accepted, Derived, Emitted, Parsed};
 use rg_code::compile::compile;
+use rg_hints::{OneThread, Prover};
 use rg_par::conditions::add_conditions;
 use rg_par::names::add_names;
 use rg_parse::program;
+use rg_pool::InThreads;
 use rg_rules::Derivation;
 use rg_tree::condition::Condition;
 use rg_tree::program::Program;
 use rg_words::Refusal;
 use std::alloc::{AllocError, Global};
+use std::thread::Threads;
 
 impl Parsed {
     /// The program that a text spells.
@@ -128,6 +131,33 @@ impl Derived {
         Ok(all)
     }
 
+    /// The program, where this prover finds that the proofs prove all its conditions. It then satisfies its specification.
+    ///
+    /// # Errors
+    ///
+    /// The first fault of the proofs, as `rg_hints::prove` tells it.
+    pub fn prove_by<P: Prover>(
+        self,
+        prover: &P,
+        alloc: Global,
+        proofs: &[u8],
+    ) -> Result<Accepted, Refusal>
+        requires { P.can_prove prover.now }
+        ensures program { IfOk result (λ a. accepted_program a ≡ derived_program self) }
+        ensures proved { OnOk result (AreProved (conditions_of (derived_program self) (derived_lines self)) proofs.now) }
+        ensures satisfied { IfOk result (λ a. IsSatisfied (accepted_program a)) }
+        ensures refused { IfErr result (IsProofsRefusal (conditions_of (derived_program self) (derived_lines self)) proofs.now) }
+        ensures accepts { AreProved (conditions_of (derived_program self) (derived_lines self)) proofs.now → IfErr result (λ e. e ≡ no_memory) }
+    {
+        let conditions = self.conditions(alloc)?;
+        match prover.prove(alloc, conditions.as_slice(), proofs) {
+            Ok(()) => {}
+            Err(refusal) => return Err(refusal),
+        }
+        let Derived { program, .. } = self;
+        Ok(Accepted { program })
+    }
+
     /// The program, where the proofs prove all its conditions. It then satisfies its specification.
     ///
     /// # Errors
@@ -140,13 +170,28 @@ impl Derived {
         ensures refused { IfErr result (IsProofsRefusal (conditions_of (derived_program self) (derived_lines self)) proofs.now) }
         ensures accepts { AreProved (conditions_of (derived_program self) (derived_lines self)) proofs.now → IfErr result (λ e. e ≡ no_memory) }
     {
-        let conditions = self.conditions(alloc)?;
-        match rg_hints::prove(alloc, conditions.as_slice(), proofs) {
-            Ok(()) => {}
-            Err(refusal) => return Err(refusal),
-        }
-        let Derived { program, .. } = self;
-        Ok(Accepted { program })
+        self.prove_by(&OneThread, alloc, proofs)
+    }
+
+    /// The same, in at most so many threads, as `rg_pool::prove_all` tells it.
+    ///
+    /// # Errors
+    ///
+    /// As `prove`.
+    pub fn prove_all<R: Threads + Sync>(
+        self,
+        rt: &R,
+        alloc: Global,
+        threads: usize,
+        proofs: &[u8],
+    ) -> Result<Accepted, Refusal>
+        ensures program { IfOk result (λ a. accepted_program a ≡ derived_program self) }
+        ensures proved { OnOk result (AreProved (conditions_of (derived_program self) (derived_lines self)) proofs.now) }
+        ensures satisfied { IfOk result (λ a. IsSatisfied (accepted_program a)) }
+        ensures refused { IfErr result (IsProofsRefusal (conditions_of (derived_program self) (derived_lines self)) proofs.now) }
+        ensures accepts { AreProved (conditions_of (derived_program self) (derived_lines self)) proofs.now → IfErr result (λ e. e ≡ no_memory) }
+    {
+        self.prove_by(&InThreads { rt, threads }, alloc, proofs)
     }
 }
 
