@@ -2,3 +2,5 @@ pub mod PartNames
 pub mod Found
 pub mod ConditionLines
 pub mod Listings
+pub mod Cuts
+pub mod NumberLines

@@ -1,12 +1,13 @@
 //! What is printed of a program that has a derivation, and of one that has code.
 
-ghost use Rattle.std.specs.Prelude.{◌≡◌, ◌++◌, [], map, codes, string_bytes, IfOk, OnOk};
+ghost use Rattle.std.specs.Prelude.{◌≡◌, ◌++◌, [], map, codes, string_bytes, IfOk, IfErr, OnOk};
 ghost use Rattle.std.specs.Io.KnownBytes.{Appends};
 ghost use Rattle.rg_words.specs.Written.{CanCount};
 ghost use Rattle.serde_json.specs.Written.{compact_text};
 ghost use Rattle.rg_tree.specs.ProgramTrees.{program as program_tree};
 ghost use Rattle.rg_tree.specs.Printed.{formula_text};
 ghost use Rattle.rg_code.specs.Listing.{listing_data};
+ghost use Rattle.rgc_print.specs.Stopped.{IsCut};
 ghost use Rattle.rgc_print.specs.Conditions.{condition_line, condition_lines, conditions_text};
 ghost use Rattle.rgc.specs.Stages.{derived_program, derived_lines};
 
@@ -28,6 +29,8 @@ pub fn write_listing<W: Out>(alloc: Global, code: &Code, out: &mut W) -> Result<
     requires { CanCount (W.failures out.old) }
     ensures printed { OnOk result (Appends (W.contents out.old) (W.contents out.new) (compact_text (listing_data code.now) ++ codes "\n")) }
     ensures failures { OnOk result (W.failures out.new ≡ W.failures out.old) }
+    // A beginning of the text went out: `Write` where the writer failed, and else memory was refused.
+    ensures stopped { IfErr result (IsCut (W.contents out.old) (W.contents out.new) (W.failures out.old) (W.failures out.new) (compact_text (listing_data code.now) ++ codes "\n")) }
 {
     let mut listed = listing(alloc, code)?;
     listed.push_str("\n")?;
@@ -58,6 +61,7 @@ fn write_names<W: Out>(alloc: Global, names: &[String], out: &mut W) -> Result<(
     requires { CanCount (W.failures out.old) }
     ensures printed { OnOk result (Appends (W.contents out.old) (W.contents out.new) (condition_lines 1 (map string_bytes names.now))) }
     ensures failures { OnOk result (W.failures out.new ≡ W.failures out.old) }
+    ensures stopped { IfErr result (IsCut (W.contents out.old) (W.contents out.new) (W.failures out.old) (W.failures out.new) (condition_lines 1 (map string_bytes names.now))) }
 {
     for (i, name) in names.iter().enumerate() {
         let line = condition_line(alloc, i + 1, name)?;
@@ -70,7 +74,8 @@ fn write_names<W: Out>(alloc: Global, names: &[String], out: &mut W) -> Result<(
 ///
 /// # Errors
 ///
-/// `Write` where the writer failed, `Memory` where memory was refused, both without a file and a place.
+/// `Write` where the writer failed, `Memory` where memory was refused, both without a file and a place. What went out is then a beginning of
+/// the text.
 pub fn write_conditions<W: Out>(
     alloc: Global,
     derived: &Derived,
@@ -79,6 +84,8 @@ pub fn write_conditions<W: Out>(
     requires { CanCount (W.failures out.old) }
     ensures printed { OnOk result (Appends (W.contents out.old) (W.contents out.new) (conditions_text (derived_program derived.now) (derived_lines derived.now))) }
     ensures failures { OnOk result (W.failures out.new ≡ W.failures out.old) }
+    // A beginning of the text went out: `Write` where the writer failed, and else memory was refused.
+    ensures stopped { IfErr result (IsCut (W.contents out.old) (W.contents out.new) (W.failures out.old) (W.failures out.new) (conditions_text (derived_program derived.now) (derived_lines derived.now))) }
 {
     let names = derived.names(alloc)?;
     let pre = pre_line(alloc, derived.program())?;

@@ -1,9 +1,11 @@
 //! What is printed of a condition that was searched.
 
-ghost use Rattle.std.specs.Prelude.{◌≡◌, IsTrue, IfOk, OnOk};
+ghost use Rattle.std.specs.Prelude.{◌≡◌, IsTrue, false, IfOk, IfErr, OnOk};
 ghost use Rattle.std.specs.Io.KnownBytes.{Appends};
 ghost use Rattle.rg_words.specs.Written.{CanCount};
 ghost use Rattle.rg_hints.specs.Normal.{section_text};
+ghost use Rattle.rgc_print.specs.Stopped.{IsFailure};
+ghost use Rattle.rgc_print.specs.Told.{Tells};
 ghost use Rattle.rgc_print.specs.Inner.Lines.{PrintsLines};
 
 use rg_find::Judged;
@@ -18,6 +20,7 @@ fn print_lines<W: Out>(alloc: Global, lines: &Lines, out: &mut W) -> Result<(), 
     requires { CanCount (W.failures out.old) }
     ensures printed { OnOk result (Appends (W.contents out.old) (W.contents out.new) (section_text lines.now)) }
     ensures failures { OnOk result (W.failures out.new ≡ W.failures out.old) }
+    ensures stopped { IfErr result (IsFailure (W.failures out.old) (W.failures out.new)) }
 {
     let text = lines.text(alloc)?;
     write_all(out, text.as_bytes())?;
@@ -34,7 +37,9 @@ pub(crate) fn print_judged<W: Out>(
 ) -> Result<bool, Refusal>
     requires { CanCount (W.failures out.old) }
     ensures printed { IfOk result (λ b. IsTrue b → PrintsLines judged.now (W.contents out.old) (W.contents out.new)) }
-    ensures failures { IfOk result (λ b. IsTrue b → W.failures out.new ≡ W.failures out.old) }
+    ensures told { IfOk result (λ b. b ≡ false → Tells condition.now.layout judged.now (W.contents out.old) (W.contents out.new)) }
+    ensures failures { OnOk result (W.failures out.new ≡ W.failures out.old) }
+    ensures stopped { IfErr result (IsFailure (W.failures out.old) (W.failures out.new)) }
 {
     match judged {
         Judged::Holds(lines) => {

@@ -1,11 +1,10 @@
 //! The statements of a program with their numbers, as text.
 
-ghost use Rattle.std.specs.Prelude.{◌≡◌, ◌⊎◌, map, string_bytes, IfOk, IfErr, OnOk};
+ghost use Rattle.std.specs.Prelude.{◌≡◌, map, string_bytes, IfOk, IfErr, OnOk};
 ghost use Rattle.std.specs.Io.KnownBytes.{Appends};
 ghost use Rattle.rg_words.specs.Written.{CanCount};
-ghost use Rattle.rg_words.specs.Refusals.{refused, no_memory};
-ghost use Rattle.rg_words.specs.declared.refusal.RefusalNumber.TheVariants.{Write};
 ghost use Rattle.rg_tree.specs.ProgramView.{part};
+ghost use Rattle.rgc_print.specs.Stopped.{IsCut};
 ghost use Rattle.rgc_print.specs.Numbers.{kind_text, part_name, number_line, lines_text, numbers_text};
 
 use rg_tree::numbered::{Numbered, StatementKind};
@@ -57,7 +56,7 @@ fn write_lines<W: Out>(
     requires { CanCount (W.failures out.old) }
     ensures printed { OnOk result (Appends (W.contents out.old) (W.contents out.new) (lines_text (map part parts.now) statements.now)) }
     ensures failures { OnOk result (W.failures out.new ≡ W.failures out.old) }
-    ensures refused { IfErr result (λ e. (e ≡ refused Write) ⊎ (e ≡ no_memory)) }
+    ensures stopped { IfErr result (IsCut (W.contents out.old) (W.contents out.new) (W.failures out.old) (W.failures out.new) (lines_text (map part parts.now) statements.now)) }
 {
     for statement in statements {
         let name = part_name(parts, statement.part);
@@ -72,12 +71,14 @@ fn write_lines<W: Out>(
 ///
 /// # Errors
 ///
-/// `Write` where the writer failed, `Memory` where memory was refused, both without a file and a place.
+/// `Write` where the writer failed, `Memory` where memory was refused, both without a file and a place. What went out is then a beginning of
+/// the text.
 pub fn write_numbers<W: Out>(alloc: Global, program: &Program, out: &mut W) -> Result<(), Refusal>
     requires { CanCount (W.failures out.old) }
     ensures printed { OnOk result (Appends (W.contents out.old) (W.contents out.new) (numbers_text (map part program.now.parts.items))) }
     ensures failures { OnOk result (W.failures out.new ≡ W.failures out.old) }
-    ensures refused { IfErr result (λ e. (e ≡ refused Write) ⊎ (e ≡ no_memory)) }
+    // A beginning of the text went out: `Write` where the writer failed, and else memory was refused.
+    ensures stopped { IfErr result (IsCut (W.contents out.old) (W.contents out.new) (W.failures out.old) (W.failures out.new) (numbers_text (map part program.now.parts.items))) }
 {
     let statements = program.numbered(alloc)?;
     write_lines(alloc, &program.parts, &statements, out)

@@ -1,11 +1,18 @@
 //! What each command over texts prints.
 
-ghost use Rattle.std.specs.Prelude.{◌≡◌, ℕ, List, IsTrue, IfOk, OnOk};
+ghost use Rattle.std.specs.Prelude.{◌≡◌, ℕ, List, All, IsTrue, false, IfOk, IfErr, OnOk};
 ghost use Rattle.std.specs.Io.KnownBytes.{Appends};
 ghost use Rattle.rg_words.specs.Written.{CanCount};
 ghost use Rattle.rg_hints.specs.Proved.{AreProved};
-ghost use Rattle.rgc.specs.Accepted.{conditions_of};
+ghost use Rattle.rg_parse.specs.Programs.{IsProgramRefusal};
+ghost use Rattle.rgc.specs.Accepted.{conditions_of, IsAcceptTextRefusal};
+ghost use Rattle.rgc.specs.Chosen.{IsDeriveRefusal, IsChosenClausesRefusal, IsChosenFindRefusal};
+ghost use Rattle.rgc.specs.Proofs.{IsUnproved};
+ghost use Rattle.rgc.specs.Valid.{IsClausesRefusal, IsFindRefusal, IsValidRefusal};
+ghost use Rattle.rgc.specs.declared.proofs_found.Unproved.{Unproved};
 ghost use Rattle.rgc.specs.Stages.{derived_program, derived_lines};
+ghost use Rattle.rgc_print.specs.Stopped.{IsStopped};
+ghost use Rattle.rgc_print.specs.Told.{HasToldFormula, HasToldCondition, HasToldUnproved};
 ghost use Rattle.rgc_print.specs.Printed.{HasPrintedNumbers, HasPrintedAccepted, HasPrintedConditions, HasPrintedProofs, HasPrintedListing, HasPrintedHolds, HasPrintedClauses, HasPrintedConditionClauses, HasPrintedLines, HasPrintedConditionLines};
 
 use crate::conditions::{write_conditions, write_listing};
@@ -29,6 +36,7 @@ pub fn print_numbers<W: Out>(alloc: Global, text: &[u8], out: &mut W) -> Result<
     requires { CanCount (W.failures out.old) }
     ensures printed { OnOk result (HasPrintedNumbers text.now (W.contents out.old) (W.contents out.new)) }
     ensures failures { OnOk result (W.failures out.new ≡ W.failures out.old) }
+    ensures stopped { IfErr result (IsStopped (IsProgramRefusal text.now) (W.contents out.old) (W.contents out.new) (W.failures out.old) (W.failures out.new)) }
 {
     let parsed = Parsed::read(alloc, text)?;
     write_numbers(alloc, parsed.program(), out)
@@ -49,6 +57,7 @@ pub fn print_accepted<W: Out>(
     requires { CanCount (W.failures out.old) }
     ensures printed { OnOk result (HasPrintedAccepted text.now derivation.now proofs.now (W.contents out.old) (W.contents out.new)) }
     ensures failures { OnOk result (W.failures out.new ≡ W.failures out.old) }
+    ensures stopped { IfErr result (IsStopped (IsAcceptTextRefusal text.now derivation.now proofs.now) (W.contents out.old) (W.contents out.new) (W.failures out.old) (W.failures out.new)) }
 {
     accept(alloc, text, derivation, proofs)?;
     write_all(out, b"accepted\n")?;
@@ -69,6 +78,7 @@ pub fn print_conditions<W: Out>(
     requires { CanCount (W.failures out.old) }
     ensures printed { OnOk result (HasPrintedConditions text.now derivation.now (W.contents out.old) (W.contents out.new)) }
     ensures failures { OnOk result (W.failures out.new ≡ W.failures out.old) }
+    ensures stopped { IfErr result (IsStopped (IsDeriveRefusal text.now derivation.now) (W.contents out.old) (W.contents out.new) (W.failures out.old) (W.failures out.new)) }
 {
     let derived = derive_program(alloc, text, derivation)?;
     write_conditions(alloc, &derived, out)
@@ -84,7 +94,9 @@ fn print_proofs_of<W: Out, P: Watcher>(
 ) -> Result<bool, Refusal>
     requires { CanCount (W.failures out.old) }
     ensures printed { IfOk result (λ b. IsTrue b → (proofs : List ℕ) × AreProved (conditions_of (derived_program derived.now) (derived_lines derived.now)) proofs × Appends (W.contents out.old) (W.contents out.new) proofs) }
-    ensures failures { IfOk result (λ b. IsTrue b → W.failures out.new ≡ W.failures out.old) }
+    ensures failures { OnOk result (W.failures out.new ≡ W.failures out.old) }
+    ensures told { IfOk result (λ b. b ≡ false → (unproved : List Unproved) × All (IsUnproved (conditions_of (derived_program derived.now) (derived_lines derived.now))) unproved × ((told : List ℕ) × Appends (W.contents out.old) (W.contents out.new) told)) }
+    ensures stopped { IfErr result (IsStopped (λ _. Unit {0}) (W.contents out.old) (W.contents out.new) (W.failures out.old) (W.failures out.new)) }
 {
     match find_proofs(alloc, derived, steps, watcher)? {
         ProofsFound::Proofs(proofs) => {
@@ -114,7 +126,9 @@ pub fn print_proofs<W: Out, P: Watcher>(
 ) -> Result<bool, Refusal>
     requires { CanCount (W.failures out.old) }
     ensures printed { IfOk result (λ b. IsTrue b → HasPrintedProofs text.now derivation.now (W.contents out.old) (W.contents out.new)) }
-    ensures failures { IfOk result (λ b. IsTrue b → W.failures out.new ≡ W.failures out.old) }
+    ensures failures { OnOk result (W.failures out.new ≡ W.failures out.old) }
+    ensures told { IfOk result (λ b. b ≡ false → HasToldUnproved text.now derivation.now (W.contents out.old) (W.contents out.new)) }
+    ensures stopped { IfErr result (IsStopped (λ _. Unit {0}) (W.contents out.old) (W.contents out.new) (W.failures out.old) (W.failures out.new)) }
 {
     let derived = derive_program(alloc, text, derivation)?;
     print_proofs_of(alloc, &derived, steps, out, watcher)
@@ -135,6 +149,7 @@ pub fn print_listing<W: Out>(
     requires { CanCount (W.failures out.old) }
     ensures printed { OnOk result (HasPrintedListing text.now derivation.now proofs.now (W.contents out.old) (W.contents out.new)) }
     ensures failures { OnOk result (W.failures out.new ≡ W.failures out.old) }
+    ensures stopped { IfErr result (IsStopped (IsAcceptTextRefusal text.now derivation.now proofs.now) (W.contents out.old) (W.contents out.new) (W.failures out.old) (W.failures out.new)) }
 {
     let emitted = build(alloc, text, derivation, proofs)?;
     write_listing(alloc, emitted.code(), out)
@@ -154,6 +169,7 @@ pub fn print_valid<W: Out>(
     requires { CanCount (W.failures out.old) }
     ensures printed { OnOk result (HasPrintedHolds text.now proofs.now (W.contents out.old) (W.contents out.new)) }
     ensures failures { OnOk result (W.failures out.new ≡ W.failures out.old) }
+    ensures stopped { IfErr result (IsStopped (IsValidRefusal text.now proofs.now) (W.contents out.old) (W.contents out.new) (W.failures out.old) (W.failures out.new)) }
 {
     valid(alloc, text, proofs)?;
     write_all(out, b"holds\n")?;
@@ -169,6 +185,7 @@ pub fn print_clauses<W: Out>(alloc: Global, text: &[u8], out: &mut W) -> Result<
     requires { CanCount (W.failures out.old) }
     ensures printed { OnOk result (HasPrintedClauses text.now (W.contents out.old) (W.contents out.new)) }
     ensures failures { OnOk result (W.failures out.new ≡ W.failures out.old) }
+    ensures stopped { IfErr result (IsStopped (IsClausesRefusal text.now) (W.contents out.old) (W.contents out.new) (W.failures out.old) (W.failures out.new)) }
 {
     let clauses = clauses(alloc, text)?;
     clauses.write_cnf(out)?;
@@ -190,6 +207,7 @@ pub fn print_condition_clauses<W: Out>(
     requires { CanCount (W.failures out.old) }
     ensures printed { OnOk result (HasPrintedConditionClauses text.now derivation.now number (W.contents out.old) (W.contents out.new)) }
     ensures failures { OnOk result (W.failures out.new ≡ W.failures out.old) }
+    ensures stopped { IfErr result (IsStopped (IsChosenClausesRefusal text.now derivation.now number) (W.contents out.old) (W.contents out.new) (W.failures out.old) (W.failures out.new)) }
 {
     let (_condition, clauses) = condition_clauses(alloc, text, derivation, number)?;
     clauses.write_cnf(out)?;
@@ -210,7 +228,9 @@ pub fn print_found<W: Out, P: Watcher>(
 ) -> Result<bool, Refusal>
     requires { CanCount (W.failures out.old) }
     ensures printed { IfOk result (λ b. IsTrue b → HasPrintedLines text.now (W.contents out.old) (W.contents out.new)) }
-    ensures failures { IfOk result (λ b. IsTrue b → W.failures out.new ≡ W.failures out.old) }
+    ensures failures { OnOk result (W.failures out.new ≡ W.failures out.old) }
+    ensures told { IfOk result (λ b. b ≡ false → HasToldFormula text.now (W.contents out.old) (W.contents out.new)) }
+    ensures stopped { IfErr result (IsStopped (IsFindRefusal text.now steps) (W.contents out.old) (W.contents out.new) (W.failures out.old) (W.failures out.new)) }
 {
     let (condition, judged) = find(alloc, text, steps, watcher)?;
     print_judged(alloc, &condition, &judged, out)
@@ -232,7 +252,9 @@ pub fn print_condition_found<W: Out, P: Watcher>(
 ) -> Result<bool, Refusal>
     requires { CanCount (W.failures out.old) }
     ensures printed { IfOk result (λ b. IsTrue b → HasPrintedConditionLines text.now derivation.now number (W.contents out.old) (W.contents out.new)) }
-    ensures failures { IfOk result (λ b. IsTrue b → W.failures out.new ≡ W.failures out.old) }
+    ensures failures { OnOk result (W.failures out.new ≡ W.failures out.old) }
+    ensures told { IfOk result (λ b. b ≡ false → HasToldCondition text.now derivation.now number (W.contents out.old) (W.contents out.new)) }
+    ensures stopped { IfErr result (IsStopped (IsChosenFindRefusal text.now derivation.now number steps) (W.contents out.old) (W.contents out.new) (W.failures out.old) (W.failures out.new)) }
 {
     let (condition, judged) = find_condition(alloc, text, derivation, number, steps, watcher)?;
     print_judged(alloc, &condition, &judged, out)

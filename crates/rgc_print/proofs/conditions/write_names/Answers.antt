@@ -1,9 +1,11 @@
-use Rattle.std.proofs.Common.{◌≡◌, ◌+◌, List, ℕ, rules, subst, sym}
+use Rattle.std.proofs.Common.{◌≡◌, ◌<◌, ◌+◌, List, ℕ, length, map, take, drop, rules, subst, sym}
+use Rattle.std.proofs.lemmas.Result.{err_from_is_err_and}
 use Rattle.std.specs.Prelude.{string_bytes}
 use Rattle.std.specs.Io.KnownBytes.{Appends}
 use Rattle.rg_words.proofs.Written.{appends_both}
-use Rattle.rgc_print.specs.Conditions.{condition_line}
-use Rattle.rgc_print.proofs.ConditionLines.{lines_taken}
+use Rattle.rgc_print.specs.Conditions.{condition_line, condition_lines}
+use Rattle.rgc_print.proofs.ConditionLines.{lines_taken, lines_split}
+use Rattle.rgc_print.proofs.Cuts.{cut_between, cut_within, cut_by_writer}
 use Rattle.rgc_print.proofs.conditions.write_names.Goals as goal
 
 pub loop-i-preserved : goal.loop-i-preserved
@@ -18,3 +20,23 @@ loop-i-preserved g c =
           (appends_both old middle new _ _ c.loop-i.invariant.went (subst (λ (t : List ℕ). Appends middle new t) line c.in_ok-write_all.ensures.0));
       failures = search rules;
     }
+
+pub returns-in_err-line-clause-stopped : goal.returns-in_err-line-clause-stopped
+returns-in_err-line-clause-stopped g c =
+    let p = err_from_is_err_and c.from_residual.result c.from_residual.ensures.1 in
+    let names = c.args.names.now in
+    let i = c.loop-i.i in
+    let within : i < length names = search rules in
+    let split = lines_split (λ s. string_bytes s) names i c.index-names-i.result within c.index-names-i.is in
+    rw p.1 (cut_between _ _ (condition_lines 1 (map string_bytes names)) _ _ _ (condition_lines 1 (map string_bytes (take i names))) c.loop-i.invariant.went c.loop-i.invariant.failures _ split p.2)
+
+pub returns-in_err-write_all-clause-stopped : goal.returns-in_err-write_all-clause-stopped
+returns-in_err-write_all-clause-stopped g c =
+    let p = err_from_is_err_and c.from_residual-in_err-write_all.result c.from_residual-in_err-write_all.ensures.1 in
+    let names = c.args.names.now in
+    let i = c.loop-i.i in
+    let within : i < length names = search rules in
+    let line : condition_line (i + 1) (string_bytes c.index-names-i.result) ≡ c.as_bytes.result.now = search rules in
+    let split = lines_split (λ s. string_bytes s) names i c.index-names-i.result within c.index-names-i.is in
+    rw p.1 (cut_within _ _ (condition_lines 1 (map string_bytes names)) _ _ _ (condition_lines 1 (map string_bytes (take i names))) c.loop-i.invariant.went c.loop-i.invariant.failures _ _ c.as_bytes.result.now (condition_lines (i + 1 + 1) (map string_bytes (drop (i + 1) names))) (rw (← line) split)
+    (cut_by_writer _ _ _ _ _ _ c.in_err-write_all.ensures p.2))

@@ -1,3 +1,5 @@
+use Rattle.rgc_print.proofs.Cuts.{refused_stops}
+use Rattle.std.proofs.lemmas.Result.{err_from_is_err_and}
 use Rattle.std.proofs.Common.{◌≡◌, ◌++◌, codes, rules, subst}
 use Rattle.std.proofs.lemmas.Result.{on_ok_weaker}
 use Rattle.std.proofs.Math.Logic.{∥∥₁_map}
@@ -7,6 +9,7 @@ use Rattle.rg_code.specs.declared.code.Code.{Code}
 use Rattle.rg_code.specs.Listing.{listing_data}
 use Rattle.rgc.specs.Stages.{emitted_program}
 use Rattle.rgc_print.proofs.Listings.{lawful_over}
+use Rattle.rgc.specs.Accepted.{IsAcceptTextRefusal}
 use Rattle.rgc_print.proofs.printed.print_listing.Goals as goal
 
 pub returns-clause-printed : goal.returns-clause-printed
@@ -24,3 +27,8 @@ returns-clause-printed g c =
       printed = subst (λ (code : Code). Appends old new (compact_text (listing_data code) ++ codes "\n")) same went;
     })
     c.write_listing.ensures.printed
+
+pub returns-in_err-emitted-clause-stopped : goal.returns-in_err-emitted-clause-stopped
+returns-in_err-emitted-clause-stopped g c =
+    let p = err_from_is_err_and c.from_residual.result c.from_residual.ensures.1 in
+    rw (p.1, p.2) (refused_stops (IsAcceptTextRefusal c.args.text.now c.args.derivation.now c.args.proofs.now) _ _ _ c.in_err-emitted.ensures.refused)
