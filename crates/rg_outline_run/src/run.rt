@@ -1,0 +1,208 @@
+//! A run, one line for each step.
+
+use crate::places::statement_at;
+use rg_outline::Expansion;
+use rg_outline_text::{Span, push_count, push_phrase};
+use rg_walk::{BreakingRun, Broken, RunStep, Unbroken};
+use rg_words::State;
+use std::alloc::AllocError;
+
+/// The most steps of a run that are shown.
+const MOST_STEPS: usize = 200;
+
+/// The most bytes of a statement that is shown.
+const MOST_NAMED: usize = 60;
+
+/// Adds the words that aren't 0 at the start.
+fn push_start(
+    expansion: &Expansion<'_>,
+    text: &mut Vec<u8>,
+    start: &State,
+) -> Result<(), AllocError> {
+    text.extend_from_slice(b"    start:")?;
+    let mut between: &[u8] = b" ";
+    for word in 0..start.len() {
+        if start.get(word) != 0 {
+            text.extend_from_slice(between)?;
+            text.extend_from_slice(expansion.scope.shown.at(word))?;
+            text.extend_from_slice(b" = ")?;
+            push_count(text, start.get(word))?;
+            between = b", ";
+        }
+    }
+    let rest: &[u8] = if between.len() == 1 {
+        b" all words are 0\n"
+    } else {
+        b", and all other words are 0\n"
+    };
+    text.extend_from_slice(rest)?;
+    Ok(())
+}
+
+/// The value of a word; past the last one it is 0.
+fn value_of(state: &State, word: usize) -> u64 {
+    if word < state.len() {
+        state.get(word)
+    } else {
+        0
+    }
+}
+
+/// Adds the words that a step changes.
+fn push_changes(
+    expansion: &Expansion<'_>,
+    text: &mut Vec<u8>,
+    before: &State,
+    after: &State,
+) -> Result<(), AllocError> {
+    let mut between: &[u8] = b" ";
+    for word in 0..before.len() {
+        let first = before.get(word);
+        let second = value_of(after, word);
+        if first != second {
+            text.extend_from_slice(between)?;
+            text.extend_from_slice(expansion.scope.shown.at(word))?;
+            text.extend_from_slice(b" = ")?;
+            push_count(text, first)?;
+            text.extend_from_slice(b" -> ")?;
+            push_count(text, second)?;
+            between = b", ";
+        }
+    }
+    if between.len() == 1 {
+        text.extend_from_slice(b" no word changes")?;
+    }
+    text.push(b'\n')?;
+    Ok(())
+}
+
+/// Adds a statement in one line; its beginning, where it is long.
+fn push_statement(
+    expansion: &Expansion<'_>,
+    text: &mut Vec<u8>,
+    span: Span,
+) -> Result<(), AllocError> {
+    let mut phrase = Vec::new(expansion.scope.alloc);
+    push_phrase(&mut phrase, span.of(expansion.scope.source))?;
+    text.push(b'`')?;
+    if phrase.len() > MOST_NAMED {
+        text.extend_from_slice(phrase.get(..MOST_NAMED - 3).unwrap_or(&[]))?;
+        text.extend_from_slice(b"...")?;
+    } else {
+        text.extend_from_slice(&phrase)?;
+    }
+    text.push(b'`')?;
+    Ok(())
+}
+
+/// Adds who makes a step, and at which line.
+fn push_maker(
+    expansion: &Expansion<'_>,
+    text: &mut Vec<u8>,
+    step: &RunStep,
+) -> Result<(), AllocError> {
+    text.extend_from_slice(b"    ")?;
+    let Some(part) = step.who.checked_sub(1) else {
+        text.extend_from_slice(b"env:")?;
+        return Ok(());
+    };
+    text.extend_from_slice(expansion.part_names.at(part))?;
+    if let Some(statement) = statement_at(expansion, part, step.place)? {
+        text.extend_from_slice(b", line ")?;
+        push_count(
+            text,
+            statement.span.position(expansion.scope.source).line as u64,
+        )?;
+        text.extend_from_slice(b", ")?;
+        push_statement(expansion, text, statement.span)?;
+    }
+    text.push(b':')?;
+    Ok(())
+}
+
+/// Adds the steps of a run.
+fn push_steps(
+    expansion: &Expansion<'_>,
+    text: &mut Vec<u8>,
+    run: &BreakingRun,
+) -> Result<(), AllocError> {
+    let hidden = run.steps.len().saturating_sub(MOST_STEPS);
+    if hidden > 0 {
+        text.extend_from_slice(b"    ")?;
+        push_count(text, hidden as u64)?;
+        text.extend_from_slice(b" steps that are not shown\n")?;
+    }
+    let mut before = &run.start;
+    for (index, step) in run.steps.iter().enumerate() {
+        if index >= hidden {
+            push_maker(expansion, text, step)?;
+            push_changes(expansion, text, before, &step.after)?;
+        }
+        before = &step.after;
+    }
+    Ok(())
+}
+
+/// Adds what a run breaks.
+fn push_broken(
+    expansion: &Expansion<'_>,
+    text: &mut Vec<u8>,
+    run: &BreakingRun,
+) -> Result<(), AllocError> {
+    match run.broken {
+        Broken::Guarantee => {
+            text.extend_from_slice(b"    the last step is outside the program's guar\n")
+        }
+        Broken::OwnGuarantee => {
+            text.extend_from_slice(b"    the last step is outside what ")?;
+            let who = run.steps.last().map_or(0, |step| step.who);
+            text.extend_from_slice(expansion.part_names.at(who.saturating_sub(1)))?;
+            text.extend_from_slice(
+                b" promises: the invariant, what others rely on, or its own guar\n",
+            )
+        }
+        Broken::Post => {
+            text.extend_from_slice(b"    all parts have ended, and the program's post is false\n")
+        }
+    }?;
+    Ok(())
+}
+
+/// Adds a run that breaks the specification, one line for each step: who makes it, the line and the statement, and the words that it changes;
+/// and then what is broken.
+///
+/// # Errors
+///
+/// `AllocError` where memory is refused; the text is then of no use.
+pub fn push_run(
+    expansion: &Expansion<'_>,
+    text: &mut Vec<u8>,
+    run: &BreakingRun,
+) -> Result<(), AllocError> {
+    text.extend_from_slice(b"this run breaks it:\n")?;
+    push_start(expansion, text, &run.start)?;
+    push_steps(expansion, text, run)?;
+    push_broken(expansion, text, run)
+}
+
+/// Adds that no run was found that breaks the specification, and how far was looked.
+///
+/// # Errors
+///
+/// `AllocError` where memory is refused; the text is then of no use.
+pub fn push_not_found(text: &mut Vec<u8>, unbroken: Unbroken) -> Result<(), AllocError> {
+    if unbroken.is_all {
+        text.extend_from_slice(b"no run breaks it: all were followed, ")?;
+        push_count(text, unbroken.steps)?;
+        text.extend_from_slice(b" steps\n")?;
+        return Ok(());
+    }
+    text.extend_from_slice(b"no run that breaks it was found within ")?;
+    push_count(text, unbroken.steps)?;
+    text.extend_from_slice(b" steps")?;
+    if unbroken.is_without_others {
+        text.extend_from_slice(b"; steps of the environment were not tried")?;
+    }
+    text.push(b'\n')?;
+    Ok(())
+}
