@@ -32,6 +32,8 @@ PATH = re.compile(r"(crates|docs|examples|scripts|share)/[\w./-]*\w")
 def pages():
     """The paths of all documents, from the root of the repository."""
     found = glob.glob("*.md", root_dir=project.ROOT) + glob.glob("docs/*.md", root_dir=project.ROOT)
+    # (the names of that page are those of C functions of the toolchain)
+    found.remove("docs/TRUSTED.md")
     return sorted(found + glob.glob("examples/**/*.md", root_dir=project.ROOT, recursive=True))
 
 
