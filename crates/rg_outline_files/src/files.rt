@@ -1,6 +1,7 @@
 //! The files that an outline stands for.
 
 use crate::told::{printable, told_of_expansion, told_of_source};
+use crate::walked::push_walk;
 use rg_outline::{Expansion, work_out};
 use rg_outline_print::{push_derivation, push_map, push_text, push_unmet};
 use rg_outline_reports::{Reports, push_json, push_lines};
@@ -8,6 +9,7 @@ use rg_outline_text::{Fault, Tokens};
 use rg_outline_told::{Failed, Told, push_conditions, subject_of};
 use rg_outline_tree::{Written, parse};
 use rg_outline_warnings::tell_warnings;
+use rg_walk::Walked;
 use std::alloc::{AllocError, Global};
 
 /// The files that an outline stands for, each as it is printed.
@@ -78,6 +80,8 @@ enum Wanted<'w> {
     Failures(&'w [Failed<'w>], &'w mut Vec<u8>),
     /// The warnings; whether no state meets the program's pre.
     Warnings(bool, &'w mut Vec<u8>),
+    /// What a walk of the text found.
+    Walk(&'w Walked, &'w mut Vec<u8>),
 }
 
 /// Prints the files of an outline that was worked out.
@@ -156,6 +160,17 @@ fn print_warnings(
     Ok(())
 }
 
+/// Prints what a walk found of an outline that was worked out.
+fn print_walk(
+    expansion: &Expansion<'_>,
+    outline: OutlineSource<'_>,
+    walked: &Walked,
+    lines: &mut Vec<u8>,
+) -> Result<(), Fault> {
+    push_walk(expansion, outline, walked, lines)?;
+    Ok(())
+}
+
 /// Works out an outline, and prints what is wanted of it.
 fn print_wanted(
     expansion: &mut Expansion<'_>,
@@ -169,6 +184,7 @@ fn print_wanted(
         Wanted::Places(places) => find_places(expansion, places),
         Wanted::Failures(failed, lines) => print_failures(expansion, outline, failed, lines),
         Wanted::Warnings(is_unmet, lines) => print_warnings(expansion, outline, is_unmet, lines),
+        Wanted::Walk(walked, lines) => print_walk(expansion, outline, walked, lines),
     }
 }
 
@@ -265,5 +281,20 @@ pub fn warnings_told(
 ) -> Result<Vec<u8>, NoFiles> {
     let mut told = Vec::new(alloc);
     print(alloc, outline, Wanted::Warnings(is_unmet, &mut told))?;
+    shown(alloc, outline.format, told)
+}
+
+/// What a walk of an outline's text found, in the outline's words: the run that breaks the specification, or how far was looked.
+///
+/// # Errors
+///
+/// As `OutlineFiles::of`.
+pub fn walk_told(
+    alloc: Global,
+    outline: OutlineSource<'_>,
+    walked: &Walked,
+) -> Result<Vec<u8>, NoFiles> {
+    let mut told = Vec::new(alloc);
+    print(alloc, outline, Wanted::Walk(walked, &mut told))?;
     shown(alloc, outline.format, told)
 }

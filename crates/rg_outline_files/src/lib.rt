@@ -3,9 +3,10 @@
 
 mod files;
 mod told;
+mod walked;
 
 pub use files::{
     Format, NoFiles, OutlineFiles, OutlineSource, Places, failures_told, outline_map,
-    outline_places, warnings_told,
+    outline_places, walk_told, warnings_told,
 };
 pub use rg_outline_told::{Failed, Failing};

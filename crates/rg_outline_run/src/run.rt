@@ -14,13 +14,12 @@ const MOST_STEPS: usize = 200;
 const MOST_NAMED: usize = 60;
 
 /// Adds the words that aren't 0 at the start.
-fn push_start(
+pub(crate) fn push_start(
     expansion: &Expansion<'_>,
     text: &mut Vec<u8>,
     start: &State,
 ) -> Result<(), AllocError> {
-    text.extend_from_slice(b"    start:")?;
-    let mut between: &[u8] = b" ";
+    let mut between: &[u8] = b"";
     for word in 0..start.len() {
         if start.get(word) != 0 {
             text.extend_from_slice(between)?;
@@ -30,10 +29,10 @@ fn push_start(
             between = b", ";
         }
     }
-    let rest: &[u8] = if between.len() == 1 {
-        b" all words are 0\n"
+    let rest: &[u8] = if between.is_empty() {
+        b"all words are 0"
     } else {
-        b", and all other words are 0\n"
+        b", and all other words are 0"
     };
     text.extend_from_slice(rest)?;
     Ok(())
@@ -72,7 +71,6 @@ fn push_changes(
     if between.len() == 1 {
         text.extend_from_slice(b" no word changes")?;
     }
-    text.push(b'\n')?;
     Ok(())
 }
 
@@ -101,7 +99,6 @@ fn push_maker(
     text: &mut Vec<u8>,
     step: &RunStep,
 ) -> Result<(), AllocError> {
-    text.extend_from_slice(b"    ")?;
     let Some(part) = step.who.checked_sub(1) else {
         text.extend_from_slice(b"env:")?;
         return Ok(());
@@ -120,7 +117,18 @@ fn push_maker(
     Ok(())
 }
 
-/// Adds the steps of a run.
+/// Adds a step: who makes it, at which line, and the words that it changes from those before it.
+pub(crate) fn push_step(
+    expansion: &Expansion<'_>,
+    text: &mut Vec<u8>,
+    before: &State,
+    step: &RunStep,
+) -> Result<(), AllocError> {
+    push_maker(expansion, text, step)?;
+    push_changes(expansion, text, before, &step.after)
+}
+
+/// Adds the steps of a run, one line for each.
 fn push_steps(
     expansion: &Expansion<'_>,
     text: &mut Vec<u8>,
@@ -135,8 +143,9 @@ fn push_steps(
     let mut before = &run.start;
     for (index, step) in run.steps.iter().enumerate() {
         if index >= hidden {
-            push_maker(expansion, text, step)?;
-            push_changes(expansion, text, before, &step.after)?;
+            text.extend_from_slice(b"    ")?;
+            push_step(expansion, text, before, step)?;
+            text.push(b'\n')?;
         }
         before = &step.after;
     }
@@ -144,25 +153,25 @@ fn push_steps(
 }
 
 /// Adds what a run breaks.
-fn push_broken(
+pub(crate) fn push_broken(
     expansion: &Expansion<'_>,
     text: &mut Vec<u8>,
     run: &BreakingRun,
 ) -> Result<(), AllocError> {
     match run.broken {
         Broken::Guarantee => {
-            text.extend_from_slice(b"    the last step is outside the program's guar\n")
+            text.extend_from_slice(b"the last step is outside the program's guar")
         }
         Broken::OwnGuarantee => {
-            text.extend_from_slice(b"    the last step is outside what ")?;
+            text.extend_from_slice(b"the last step is outside what ")?;
             let who = run.steps.last().map_or(0, |step| step.who);
             text.extend_from_slice(expansion.part_names.at(who.saturating_sub(1)))?;
             text.extend_from_slice(
-                b" promises: the invariant, what others rely on, or its own guar\n",
+                b" promises: the invariant, what others rely on, or its own guar",
             )
         }
         Broken::Post => {
-            text.extend_from_slice(b"    all parts have ended, and the program's post is false\n")
+            text.extend_from_slice(b"all parts have ended, and the program's post is false")
         }
     }?;
     Ok(())
@@ -179,10 +188,14 @@ pub fn push_run(
     text: &mut Vec<u8>,
     run: &BreakingRun,
 ) -> Result<(), AllocError> {
-    text.extend_from_slice(b"this run breaks it:\n")?;
+    text.extend_from_slice(b"this run breaks it:\n    start: ")?;
     push_start(expansion, text, &run.start)?;
+    text.push(b'\n')?;
     push_steps(expansion, text, run)?;
-    push_broken(expansion, text, run)
+    text.extend_from_slice(b"    ")?;
+    push_broken(expansion, text, run)?;
+    text.push(b'\n')?;
+    Ok(())
 }
 
 /// Adds that no run was found that breaks the specification, and how far was looked.

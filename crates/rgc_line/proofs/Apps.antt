@@ -8,11 +8,10 @@ use Rattle.clap.specs.declared.parser.matches.SubCommand.{SubCommand}
 use Rattle.clap.specs.declared.parser.matches.ArgMatches.{ArgMatches}
 use Rattle.clap.specs.declared.error.Error.{Error}
 use Rattle.rgc_line.specs.App.{rgc_app}
-use Rattle.rgc_line.specs.Line.{Names, HasContents, contents_of, IsFieldFault, IsLineFault}
+use Rattle.rgc_line.specs.Line.{IsFieldFault, IsLineFault}
 use Rattle.rgc_line.specs.declared.fields.FieldFault.{FieldFault}
-use Rattle.rgc_line.specs.declared.fields.FieldFault.TheVariants.{Incomplete, Apart}
+use Rattle.rgc_line.specs.declared.fields.FieldFault.TheVariants.{Incomplete, Apart, UnknownFormat, RunFiles}
 use Rattle.rgc_line.specs.declared.line.LineFault.TheVariants.{Fields}
-use Rattle.rgc_line.specs.declared.command.Command.{Command as RgCommand}
 
 -- a number that is read has a text
 pub number_read : (o : Option Text) (n : ℕ) (P : Text → Type 0) → (o ≡ None → Some n ≡ None) → ((t : Text) → o ≡ Some t → P t) → (t : Text) × (o ≡ Some t) × P t
@@ -50,11 +49,9 @@ pub subcommand_at : (a b : App) (words : List Text) (m : ArgMatches) → a ≡ b
 subcommand_at a b words m is simple h =
     let P : App → Type 0 = λ x. HasMatchesOf x words m in (subst P is h simple).1
 
--- a command by its name and rows
-pub names_of_rows : (sub : Option (Text × List Row)) (name : Text) (rows : List Row) (command : RgCommand) → sub ≡ Some (name, rows) → HasContents name rows (contents_of command) → Names sub command
-names_of_rows sub name rows command is has = (name, rows, is, has)
-
 -- a fault of a subcommand's matches is a fault of the words
 pub fields_refused : (words : List Text) (name : Text) (rows : List Row) (fault : FieldFault) → fault_of rgc_app words ≡ [] → subcommand_of rgc_app words ≡ Some (name, rows) → IsFieldFault rows fault → IsLineFault words (Fields fault)
 fields_refused words name rows Incomplete clean is why = clean
 fields_refused words name rows Apart clean is why = (clean, name, rows, is, why)
+fields_refused words name rows UnknownFormat clean is why = (clean, name, rows, is, why)
+fields_refused words name rows RunFiles clean is why = (clean, name, rows, is, why)

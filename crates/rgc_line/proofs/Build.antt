@@ -40,7 +40,7 @@ abbrev pub no_field : Field
 no_field = record { form = File; id = no_text; help = no_text }
 
 abbrev pub no_row : Row
-no_row = record { kind = Number; name = no_text; about = no_text; fields = record { ref_ptr = (0, 0); now = [] } }
+no_row = record { kind = Number; name = no_text; about = no_text; example = no_text; fields = record { ref_ptr = (0, 0); now = [] } }
 
 -- one more argument is added
 pub field_added : (old new : Command) (argument : Arg) (fields : List Field) (i : ℕ) → i < length fields → rule_of argument ≡ rule_at (get_or fields i no_field) → argument.global ≡ false → AddsArg old argument new

@@ -1,16 +1,21 @@
 -- What a command line says, by the matches of its subcommand.
-use Rattle.std.specs.Prelude.{◌≡◌, ◌⊎◌, ℕ, Option, Some, None, Ok, List, [], ◌∷◌}
+use Rattle.std.specs.Prelude.{◌≡◌, ◌⊎◌, ◌↔◌, ℕ, Bool, true, Option, Some, None, Ok, List, [], ◌∷◌, length, codes, slice_get}
 use Rattle.std.specs.Str.Parse.{ParsesUnsigned}
 use Rattle.std.specs.Borrow.{Bor}
-use Rattle.clap.specs.Words.{Row, Rule, Text, first_of, one_of, HasKind, fault_of, subcommand_of}
-use Rattle.rgc_line.specs.App.{rgc_app, row_of, chosen_derivation, chosen_condition}
+use Rattle.clap.specs.Words.{Row, Rule, Text, all_of, first_of, one_of, HasKind, fault_of, subcommand_of}
+use Rattle.rgc_line.specs.App.{rgc_app, row_of, chosen_derivation, chosen_condition, output, format, explained, threads, run_outline, run_text, run_derivation, run_proofs}
 use Rattle.rgc_line.specs.declared.line.LineFault.{LineFault}
 use Rattle.rgc_line.specs.declared.line.LineFault.TheVariants.{Usage, Fields}
 use Rattle.rgc_line.specs.declared.fields.FieldFault.{FieldFault}
-use Rattle.rgc_line.specs.declared.fields.FieldFault.TheVariants.{Incomplete, Apart}
+use Rattle.rgc_line.specs.declared.fields.FieldFault.TheVariants.{Incomplete, Apart, UnknownFormat, RunFiles}
 use Rattle.rgc_line.specs.declared.command.Chosen.{Chosen}
+use Rattle.rgc_line.specs.declared.command.Outlines.{Outlines}
+use Rattle.rgc_line.specs.declared.command.Format.{Format}
+use Rattle.rgc_line.specs.declared.command.Format.TheVariants.{Plain, Json}
+use Rattle.rgc_line.specs.declared.command.Settings.{Settings}
+use Rattle.rgc_line.specs.declared.line.Line.{Line}
 use Rattle.rgc_line.specs.declared.command.Command.{Command}
-use Rattle.rgc_line.specs.declared.command.Command.TheVariants.{Number, Check, Conditions, Prove, Emit, Run, Valid, Clauses, Find, Outline, Verify, Explain}
+use Rattle.rgc_line.specs.declared.command.Command.TheVariants.{Number, Check, Conditions, Prove, Emit, Run, RunOutline, Valid, Clauses, Find, Outline, Verify, Challenge, Explain}
 use Rattle.rgc_line.specs.declared.commands.Kind.{Kind}
 use Rattle.rgc_line.specs.declared.commands.Kind.TheVariants as kind
 
@@ -26,10 +31,21 @@ HasNumber rows id n = (text : Text) × (one_of id rows ≡ Some text) × ParsesU
 abbrev pub HasNo : List Row → Text → Type 0
 HasNo rows id = first_of id rows ≡ None
 
--- what the words have at a file or an option of a command: the name of a file, a number, or nothing
+-- of the files of this id, which the words name, this is the one at its place
+abbrev pub HasFileOf : List Row → Text → Outlines → Type 0
+HasFileOf rows id one = (names : List Text) × (all_of id rows ≡ Some names) × (length names ≡ one.count) × (slice_get names one.place ≡ Some one.outline.now)
+
+-- the words have this option, which takes none, or not
+abbrev pub HasFlag : List Row → Text → Bool → Type 0
+HasFlag rows id is_given = (is_given ≡ true) ↔ (first_of id rows ≡ Some (codes "true"))
+
+-- what the words have at a file or an option of a command: the name of a file or a word, one of several files, a number, that it is there or
+-- not, or nothing
 pub data Value : Type 0 where
   file : Bor Text → Value
+  file_of : Outlines → Value
   number : ℕ → Value
+  flag : Bool → Value
   absent : Value
 
 -- a file that may be left out
@@ -37,20 +53,26 @@ abbrev pub optional : Option (Bor Text) → Value
 optional None = absent
 optional (Some name) = file name
 
+-- a number that may be left out
+abbrev pub optional_number : Option ℕ → Value
+optional_number None = absent
+optional_number (Some n) = number n
+
 -- the words have this value at the id
 abbrev pub HasValue : List Row → Text → Value → Type 0
 HasValue rows id (file name) = HasFile rows id name
+HasValue rows id (file_of one) = HasFileOf rows id one
 HasValue rows id (number n) = HasNumber rows id n
+HasValue rows id (flag is_given) = HasFlag rows id is_given
 HasValue rows id absent = HasNo rows id
 
--- the words have these values at the arguments, one at each
+-- the words have these values at the first of the arguments, one at each
 abbrev pub HasValues : List Row → List Rule → List Value → Type 0
-HasValues rows [] [] = Unit {0}
+HasValues rows rules [] = Unit {0}
 HasValues rows [] (value ∷ values) = ⊥
-HasValues rows (rule ∷ rules) [] = ⊥
 HasValues rows (rule ∷ rules) (value ∷ values) = HasValue rows rule.id value × HasValues rows rules values
 
--- a row of the table, with values for its files and options in the row's order
+-- a row of the table, with values for its own files and options, in the row's order: what several commands have comes behind them
 pub record Contents : Type 0 where
   pub kind : Kind
   pub values : List Value
@@ -64,30 +86,57 @@ abbrev pub chosen_values : Option Chosen → List Value → List Value
 chosen_values None rest = absent ∷ absent ∷ rest
 chosen_values (Some chosen) rest = file chosen.derivation ∷ number chosen.condition ∷ rest
 
--- The commands by the table: what the row of each has for its files and options, in the row's order.
+-- The commands by the table: what the row of each has for its own files and options, in the row's order.
 abbrev pub contents_of : Command → Contents
 contents_of (Number text) = contents kind.Number (file text ∷ [])
 contents_of (Check text derivation proofs) = contents kind.Check (file text ∷ file derivation ∷ file proofs ∷ [])
-contents_of (Conditions text derivation) = contents kind.Conditions (file text ∷ file derivation ∷ [])
-contents_of (Prove text derivation steps) = contents kind.Prove (file text ∷ file derivation ∷ number steps ∷ [])
+contents_of (Conditions text derivation has_formulas) = contents kind.Conditions (file text ∷ file derivation ∷ flag has_formulas ∷ [])
+contents_of (Prove text derivation steps conditions) =
+    contents kind.Prove (file text ∷ file derivation ∷ number steps ∷ optional conditions ∷ [])
 contents_of (Emit text derivation proofs) = contents kind.Emit (file text ∷ file derivation ∷ file proofs ∷ [])
 contents_of (Run text derivation proofs start moves limit draw) = contents kind.Run
-    (file text ∷ file derivation ∷ file proofs ∷ optional start ∷ optional moves ∷ number limit ∷ optional draw ∷ [])
+    (optional start ∷ optional moves ∷ number limit ∷ optional draw ∷ absent ∷ file text ∷ file derivation ∷ file proofs ∷ [])
+contents_of (RunOutline outline start moves limit draw) = contents kind.Run
+    (optional start ∷ optional moves ∷ number limit ∷ optional draw ∷ file outline ∷ absent ∷ [])
 contents_of (Valid text proofs) = contents kind.Valid (file text ∷ file proofs ∷ [])
 contents_of (Clauses text chosen) = contents kind.Clauses (file text ∷ chosen_values chosen [])
 contents_of (Find text steps chosen) = contents kind.Find (file text ∷ chosen_values chosen (number steps ∷ []))
-contents_of (Outline outline derivation) = contents kind.Outline (file outline ∷ optional derivation ∷ [])
-contents_of (Verify outline steps) = contents kind.Verify (file outline ∷ number steps ∷ [])
+contents_of (Outline outline text derivation proofs map) =
+    contents kind.Outline (file outline ∷ optional text ∷ optional derivation ∷ optional proofs ∷ optional map ∷ [])
+contents_of (Verify outlines steps is_runs_only) =
+    contents kind.Verify (file_of outlines ∷ number steps ∷ flag is_runs_only ∷ [])
+contents_of (Challenge outline has_refused) = contents kind.Challenge (file outline ∷ flag has_refused ∷ [])
 contents_of (Explain n) = contents kind.Explain (number n ∷ [])
 
--- the subcommand is the row's, and its matches have the values of the row's files and options
+-- the subcommand is the row's, and its matches have the values of the row's own files and options
 abbrev pub HasContents : Text → List Row → Contents → Type 0
 HasContents name rows it = let row = row_of it.kind in (name ≡ row.name) × HasValues rows row.rules it.values
 
--- the subcommand and its matches are those of this command
-abbrev pub Names : Option (Text × List Row) → Command → Type 0
-Names subcommand command =
-    (name : Text) × (rows : List Row) × (subcommand ≡ Some (name, rows)) × HasContents name rows (contents_of command)
+-- the words ask for this format: one JSON value a line where they say so
+abbrev pub HasFormat : List Row → Format → Type 0
+HasFormat rows Plain = HasNo rows format.id ⊎ (first_of format.id rows ≡ Some (codes "plain"))
+HasFormat rows Json = first_of format.id rows ≡ Some (codes "json")
+
+-- what is asked of several commands, by the words
+pub record HasSettings (rows : List Row) (settings : Settings) : Type 0 where
+  pub output : HasValue rows output.id (optional settings.output)
+  pub format : HasFormat rows settings.format
+  pub explained : HasFlag rows explained.id settings.is_explained
+  pub threads : HasValue rows threads.id (optional_number settings.threads)
+
+-- a command over several files is the one over the file at this place
+abbrev pub IsAt : ℕ → Command → Type 0
+IsAt place (Verify outlines _ _) = outlines.place ≡ place
+IsAt place _ = Unit {0}
+
+-- the subcommand and its matches are those of this line
+pub record Says (subcommand : Option (Text × List Row)) (place : ℕ) (line : Line) : Type 0 where
+  pub name : Text
+  pub rows : List Row
+  pub is : subcommand ≡ Some (name, rows)
+  pub contents : HasContents name rows (contents_of line.command)
+  pub settings : HasSettings rows line.settings
+  pub at : IsAt place line.command
 
 -- of the two options that choose a condition, the words have one alone
 abbrev pub AreApart : List Row → Type 0
@@ -95,14 +144,26 @@ AreApart rows =
     (((file : Text) × (first_of chosen_derivation.id rows ≡ Some file)) × HasNo rows chosen_condition.id)
     ⊎ (HasNo rows chosen_derivation.id × (number : Text) × (first_of chosen_condition.id rows ≡ Some number))
 
+-- the word for the format is none of the two
+abbrev pub IsUnknownFormat : List Row → Type 0
+IsUnknownFormat rows = (word : Text) × (first_of format.id rows ≡ Some word) × (word ≡ codes "plain" → ⊥) × (word ≡ codes "json" → ⊥)
+
+-- a run is asked for of an outline and of files, or of no outline and of some of the three files alone
+abbrev pub AreRunFilesApart : List Row → Type 0
+AreRunFilesApart rows =
+    (((outline : Text) × (first_of run_outline.id rows ≡ Some outline)) × (text : Text) × (first_of run_text.id rows ≡ Some text))
+    ⊎ (HasNo rows run_outline.id × (HasNo rows run_text.id ⊎ (HasNo rows run_derivation.id ⊎ HasNo rows run_proofs.id)))
+
 -- why matches give no command
 abbrev pub IsFieldFault : List Row → FieldFault → Type 0
 IsFieldFault rows Incomplete = Unit {0}
 IsFieldFault rows Apart = AreApart rows
+IsFieldFault rows UnknownFormat = IsUnknownFormat rows
+IsFieldFault rows RunFiles = AreRunFilesApart rows
 
--- why the words name no command: memory, or a fault that `clap` finds in them, or options that go together and do not
+-- why the words name no command: memory, or a fault that `clap` finds in them, or options that do not fit
 abbrev pub IsLineFault : List Text → LineFault → Type 0
 IsLineFault words (Usage error) = HasKind (fault_of rgc_app words) error
 IsLineFault words (Fields Incomplete) = fault_of rgc_app words ≡ []
-IsLineFault words (Fields Apart) =
-    (fault_of rgc_app words ≡ []) × (name : Text) × (rows : List Row) × (subcommand_of rgc_app words ≡ Some (name, rows)) × AreApart rows
+IsLineFault words (Fields fault) =
+    (fault_of rgc_app words ≡ []) × (name : Text) × (rows : List Row) × (subcommand_of rgc_app words ≡ Some (name, rows)) × IsFieldFault rows fault

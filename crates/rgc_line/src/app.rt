@@ -6,7 +6,7 @@ ghost use Rattle.rgc_line.specs.App.{rgc_top, rgc_app};
 ghost use Rattle.rgc_line.specs.Inner.Table.{rule_at, shape_at, with_subcommands, IsLeafOf};
 
 use crate::commands::{COMMANDS, Field, Form, Row};
-use clap::{Arg, Command};
+use clap::{Arg, ArgAction, Command};
 use std::alloc::{AllocError, Global};
 
 /// A file or an option.
@@ -17,7 +17,10 @@ fn argument<'a>(alloc: Global, field: &Field) -> Arg<'a>
     let argument = Arg::new(alloc, field.id).help(field.help);
     match field.form {
         Form::File => argument.required(true),
+        Form::Place => argument,
+        Form::Files => argument.required(true).num_args(1..),
         Form::OptionalFile => argument.long(field.id).value_name("FILE"),
+        Form::OptionalText => argument.long(field.id).value_name("WORD"),
         Form::OptionalNumber => argument
             .long(field.id)
             .value_name("K")
@@ -30,6 +33,7 @@ fn argument<'a>(alloc: Global, field: &Field) -> Arg<'a>
             .value_name("N")
             .value_parser(clap::value_parser!(u64))
             .default_value("1000000"),
+        Form::Flag => argument.long(field.id).action(ArgAction::SetTrue),
     }
 }
 
@@ -37,7 +41,9 @@ fn argument<'a>(alloc: Global, field: &Field) -> Arg<'a>
 fn leaf<'a>(alloc: Global, row: &Row) -> Result<Command<'a>, AllocError>
     ensures { IfOk result (IsLeafOf row.now) }
 {
-    let mut command = Command::new(alloc, row.name).about(row.about);
+    let mut command = Command::new(alloc, row.name)
+        .about(row.about)
+        .after_help(row.example);
     for field in row.fields {
         command = command.arg(argument(alloc, field))?;
     }

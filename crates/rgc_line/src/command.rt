@@ -12,6 +12,47 @@ pub struct Chosen<'a> {
     pub condition: u64,
 }
 
+/// One of the outlines that a command is about.
+#[derive(Clone, Copy)]
+pub struct Outlines<'a> {
+    /// Its file, by its path as given.
+    pub outline: &'a str,
+    /// Its place among them, from 0.
+    pub place: usize,
+    /// How many they are.
+    pub count: usize,
+}
+
+/// How the output is written.
+#[derive(Clone, Copy, PartialEq, Eq)]
+pub enum Format {
+    /// Lines to be read.
+    Plain,
+    /// One JSON value a line.
+    Json,
+}
+
+/// What can be asked of several commands.
+#[derive(Clone, Copy)]
+pub struct Settings<'a> {
+    /// A file for the output, by its path as given; it is written and not read.
+    pub output: Option<&'a str>,
+    /// How the output is written.
+    pub format: Format,
+    /// Whether a refusal is explained at the line that it is about.
+    pub is_explained: bool,
+    /// The most threads; one for each processor, where it isn't given.
+    pub threads: Option<u64>,
+}
+
+/// The settings where nothing is asked for.
+pub const PLAIN: Settings<'static> = Settings {
+    output: None,
+    format: Format::Plain,
+    is_explained: false,
+    threads: None,
+};
+
 /// A command with its files, each by its path as given.
 #[derive(Clone, Copy)]
 pub enum Command<'a> {
@@ -25,16 +66,19 @@ pub enum Command<'a> {
         derivation: &'a str,
         proofs: &'a str,
     },
-    /// The names of the conditions of a program's derivation.
+    /// The names of the conditions of a program's derivation, and the conditions as formulas where that is asked.
     Conditions {
         text: &'a str,
         derivation: &'a str,
+        has_formulas: bool,
     },
-    /// A proofs file for all conditions of a program's derivation, with at most so many decisions for each.
+    /// A proofs file for all conditions of a program's derivation, or for a range of them as it is given, with at most so many decisions
+    /// for each.
     Prove {
         text: &'a str,
         derivation: &'a str,
         steps: u64,
+        conditions: Option<&'a str>,
     },
     /// The listing of the code of an accepted program.
     Emit {
@@ -48,6 +92,14 @@ pub enum Command<'a> {
         text: &'a str,
         derivation: &'a str,
         proofs: &'a str,
+        start: Option<&'a str>,
+        moves: Option<&'a str>,
+        limit: u64,
+        draw: Option<&'a str>,
+    },
+    /// The same of an outline, which is verified first.
+    RunOutline {
+        outline: &'a str,
         start: Option<&'a str>,
         moves: Option<&'a str>,
         limit: u64,
@@ -70,15 +122,25 @@ pub enum Command<'a> {
         steps: u64,
         chosen: Option<Chosen<'a>>,
     },
-    /// The text that an outline stands for; its derivation goes to a file where one is named, which is written and not read.
+    /// The text that an outline stands for, its derivation, proofs of all its conditions, and its map: each goes to a file where one is named,
+    /// which is written and not read, and the text to the output where none is named for it.
     Outline {
         outline: &'a str,
+        text: Option<&'a str>,
         derivation: Option<&'a str>,
+        proofs: Option<&'a str>,
+        map: Option<&'a str>,
     },
-    /// Whether what an outline stands for is proved, with at most so many decisions for each condition.
+    /// Whether what an outline stands for is proved, with at most so many decisions for each condition; or the runs of its program alone.
     Verify {
-        outline: &'a str,
+        outlines: Outlines<'a>,
         steps: u64,
+        is_runs_only: bool,
+    },
+    /// The small changes of an outline's program that its specification doesn't see, and the others too where that is asked.
+    Challenge {
+        outline: &'a str,
+        has_refused: bool,
     },
     /// What a refusal of this number means.
     Explain {
@@ -119,7 +181,11 @@ impl<'a> Command<'a> {
                 proofs,
                 ..
             } => (Some(text), Some(derivation), Some(proofs)),
-            Command::Conditions { text, derivation }
+            Command::Conditions {
+                text,
+                derivation,
+                ..
+            }
             | Command::Prove {
                 text,
                 derivation,
@@ -129,13 +195,16 @@ impl<'a> Command<'a> {
             Command::Clauses { text, chosen } | Command::Find { text, chosen, .. } => {
                 (Some(text), chosen.map(|chosen| chosen.derivation), None)
             }
-            Command::Outline { outline, .. } | Command::Verify { outline, .. } => {
-                (Some(outline), None, None)
-            }
+            Command::Outline { outline, .. }
+            | Command::RunOutline { outline, .. }
+            | Command::Challenge { outline, .. } => (Some(outline), None, None),
+            Command::Verify { outlines, .. } => (Some(outlines.outline), None, None),
             Command::Explain { .. } => (None, None, None),
         };
         let (start, moves) = match *self {
-            Command::Run { start, moves, .. } => (start, moves),
+            Command::Run { start, moves, .. } | Command::RunOutline { start, moves, .. } => {
+                (start, moves)
+            }
             _ => (None, None),
         };
         Named {

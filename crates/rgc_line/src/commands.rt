@@ -14,6 +14,7 @@ pub enum Kind {
     Find,
     Outline,
     Verify,
+    Challenge,
     Explain,
 }
 
@@ -22,14 +23,22 @@ pub enum Kind {
 pub enum Form {
     /// A file that has to be named, by its place.
     File,
+    /// A file by its place, which may be left out.
+    Place,
+    /// Files, of which at least one has to be named, by their place, the last one.
+    Files,
     /// A file that may be left out, after `--` and the field's id.
     OptionalFile,
+    /// A text that may be left out, after `--` and the field's id; no file is named by it.
+    OptionalText,
     /// A number that may be left out, after `--` and the field's id.
     OptionalNumber,
     /// A number that has to be given, by its place.
     NeededNumber,
     /// A number after `--` and the field's id, which is 1,000,000 where it isn't given.
     NumberOrMillion,
+    /// What is asked for by `--` and the field's id alone.
+    Flag,
 }
 
 /// A file or an option of a command.
@@ -40,46 +49,47 @@ pub struct Field {
     pub help: &'static str,
 }
 
-/// A command: its name, what it does, and its files and options.
+/// A command: its name, what it does, its files and options, and an example of it.
 #[derive(Clone, Copy)]
 pub struct Row {
     pub kind: Kind,
     pub name: &'static str,
     pub about: &'static str,
+    pub example: &'static str,
     pub fields: &'static [Field],
 }
 
-const PROGRAM: Field = Field {
+pub const PROGRAM: Field = Field {
     form: Form::File,
     id: "TEXT",
     help: "a program",
 };
 
-const FORMULA: Field = Field {
+pub const FORMULA: Field = Field {
     form: Form::File,
     id: "TEXT",
     help: "a text `words .. show ..`",
 };
 
-const FORMULA_OR_PROGRAM: Field = Field {
+pub const FORMULA_OR_PROGRAM: Field = Field {
     form: Form::File,
     id: "TEXT",
     help: "a text `words .. show ..`; with the two options, a program",
 };
 
-const DERIVATION: Field = Field {
+pub const DERIVATION: Field = Field {
     form: Form::File,
     id: "DERIVATION",
     help: "lines that derive the parts of the program",
 };
 
-const PROOFS: Field = Field {
+pub const PROOFS: Field = Field {
     form: Form::File,
     id: "PROOFS",
     help: "hint lines in sections, one for each condition that needs one",
 };
 
-const HINTS: Field = Field {
+pub const HINTS: Field = Field {
     form: Form::File,
     id: "PROOFS",
     help: "hint lines: id, literals, 0, hints, 0",
@@ -97,131 +107,276 @@ pub const CHOSEN_CONDITION: Field = Field {
     help: "the number of one of its conditions, from 1",
 };
 
-const STEPS: Field = Field {
+pub const STEPS: Field = Field {
     form: Form::NumberOrMillion,
     id: "steps",
     help: "the most decisions, of each search",
 };
 
-const START: Field = Field {
+pub const START: Field = Field {
     form: Form::OptionalFile,
     id: "start",
     help: "the values of the words at the start; without it each is 0",
 };
 
-const MOVES: Field = Field {
+pub const MOVES: Field = Field {
     form: Form::OptionalFile,
     id: "moves",
     help: "the moves of the environment, each with its place among the records",
 };
 
-const LIMIT: Field = Field {
+pub const LIMIT: Field = Field {
     form: Form::NumberOrMillion,
     id: "limit",
     help: "the most steps of the parts",
 };
 
-const OUTLINE: Field = Field {
+pub const OUTLINE: Field = Field {
     form: Form::File,
     id: "OUTLINE",
     help: "a program with assertions between its statements",
 };
 
-const WRITTEN_DERIVATION: Field = Field {
+pub const WRITTEN_DERIVATION: Field = Field {
     form: Form::OptionalFile,
     id: "derivation",
     help: "a file to write the derivation to",
 };
 
-const REFUSAL: Field = Field {
+/// The files of a run, which an outline stands for too.
+pub const RUN_PROGRAM: Field = Field {
+    form: Form::Place,
+    id: "TEXT",
+    help: "a program",
+};
+
+pub const RUN_DERIVATION: Field = Field {
+    form: Form::Place,
+    id: "DERIVATION",
+    help: "lines that derive the parts of the program",
+};
+
+pub const RUN_PROOFS: Field = Field {
+    form: Form::Place,
+    id: "PROOFS",
+    help: "hint lines in sections, one for each condition that needs one",
+};
+
+pub const RUN_OUTLINE: Field = Field {
+    form: Form::OptionalFile,
+    id: "outline",
+    help: "an outline in the place of the three files; it is verified first",
+};
+
+pub const WRITTEN_TEXT: Field = Field {
+    form: Form::OptionalFile,
+    id: "text",
+    help: "a file to write the program to, in the place of the output",
+};
+
+pub const WRITTEN_PROOFS: Field = Field {
+    form: Form::OptionalFile,
+    id: "proofs",
+    help: "a file to write proofs of all conditions to, which are looked for",
+};
+
+pub const REFUSED: Field = Field {
+    form: Form::Flag,
+    id: "refused",
+    help: "tell the changes that are refused too, each with why",
+};
+
+pub const OUTLINES: Field = Field {
+    form: Form::Files,
+    id: "OUTLINE",
+    help: "programs with assertions between their statements",
+};
+
+pub const MAP: Field = Field {
+    form: Form::OptionalFile,
+    id: "map",
+    help: "a file to write to from which place of the outline each line and each condition comes",
+};
+
+pub const CONDITIONS: Field = Field {
+    form: Form::OptionalText,
+    id: "conditions",
+    help: "the numbers A-B of the first and the last condition to prove; without it all",
+};
+
+pub const FORMULAS: Field = Field {
+    form: Form::Flag,
+    id: "formulas",
+    help: "behind each name the condition as a text for find, valid and clauses",
+};
+
+pub const RUNS_ONLY: Field = Field {
+    form: Form::Flag,
+    id: "runs-only",
+    help: "follow the runs of the program alone, without its assertions",
+};
+
+pub const THREADS: Field = Field {
+    form: Form::OptionalNumber,
+    id: "threads",
+    help: "the most threads; without it one for each processor",
+};
+
+pub const OUTPUT: Field = Field {
+    form: Form::OptionalFile,
+    id: "output",
+    help: "a file for the output, written whole or not at all",
+};
+
+pub const FORMAT: Field = Field {
+    form: Form::OptionalText,
+    id: "format",
+    help: "plain for lines to be read, or json for one JSON value a line",
+};
+
+pub const EXPLAINED: Field = Field {
+    form: Form::Flag,
+    id: "explain",
+    help: "show below a refusal the line that it is about, and what could stand there",
+};
+
+pub const REFUSAL: Field = Field {
     form: Form::NeededNumber,
     id: "NUMBER",
     help: "the number of a refusal",
 };
 
-const DRAW: Field = Field {
+pub const DRAW: Field = Field {
     form: Form::OptionalFile,
     id: "draw",
     help: "a file to draw the run to",
 };
 
 /// The commands, in the order in which the help lists them.
-pub static COMMANDS: [Row; 12] = [
+pub static COMMANDS: [Row; 13] = [
     Row {
         kind: Kind::Number,
         name: "number",
         about: "Prints the statements with their numbers",
-        fields: &[PROGRAM],
+        example: "Example: rgc number counter.rg",
+        fields: &[PROGRAM, FORMAT, EXPLAINED],
     },
     Row {
         kind: Kind::Check,
         name: "check",
         about: "Says whether the derivation and the proofs are accepted for the program",
-        fields: &[PROGRAM, DERIVATION, PROOFS],
+        example: "Example: rgc check counter.rg counter.rgd counter.lrat",
+        fields: &[PROGRAM, DERIVATION, PROOFS, THREADS, FORMAT, EXPLAINED],
     },
     Row {
         kind: Kind::Conditions,
         name: "conditions",
         about: "Prints the pre and the names of the conditions",
-        fields: &[PROGRAM, DERIVATION],
+        example: "Example: rgc conditions counter.rg counter.rgd",
+        fields: &[PROGRAM, DERIVATION, FORMULAS, FORMAT, EXPLAINED],
     },
     Row {
         kind: Kind::Prove,
         name: "prove",
         about: "Looks for proofs of all conditions, or for states at which some fail",
-        fields: &[PROGRAM, DERIVATION, STEPS],
+        example: "Example: rgc prove counter.rg counter.rgd --output counter.lrat",
+        fields: &[
+            PROGRAM, DERIVATION, STEPS, CONDITIONS, THREADS, OUTPUT, FORMAT, EXPLAINED,
+        ],
     },
     Row {
         kind: Kind::Emit,
         name: "emit",
         about: "Prints the listing of the code of an accepted program",
-        fields: &[PROGRAM, DERIVATION, PROOFS],
+        example: "Example: rgc emit counter.rg counter.rgd counter.lrat",
+        fields: &[PROGRAM, DERIVATION, PROOFS, THREADS, OUTPUT, EXPLAINED],
     },
     Row {
         kind: Kind::Run,
         name: "run",
         about: "Runs the parts of an accepted program side by side, and prints the records of their steps",
-        fields: &[PROGRAM, DERIVATION, PROOFS, START, MOVES, LIMIT, DRAW],
+        example: "Example: rgc run counter.rg counter.rgd counter.lrat --draw run.svg",
+        fields: &[
+            START,
+            MOVES,
+            LIMIT,
+            DRAW,
+            RUN_OUTLINE,
+            RUN_PROGRAM,
+            RUN_DERIVATION,
+            RUN_PROOFS,
+            THREADS,
+            FORMAT,
+            EXPLAINED,
+        ],
     },
     Row {
         kind: Kind::Valid,
         name: "valid",
         about: "Says whether the hint lines prove the formula",
-        fields: &[FORMULA, HINTS],
+        example: "Example: rgc valid sum.rg sum.lrat",
+        fields: &[FORMULA, HINTS, THREADS, EXPLAINED],
     },
     Row {
         kind: Kind::Clauses,
         name: "clauses",
         about: "Prints the clauses of the formula or of the condition in the DIMACS cnf format",
-        fields: &[FORMULA_OR_PROGRAM, CHOSEN_DERIVATION, CHOSEN_CONDITION],
+        example: "Example: rgc clauses counter.rg --derivation counter.rgd --condition 3",
+        fields: &[
+            FORMULA_OR_PROGRAM,
+            CHOSEN_DERIVATION,
+            CHOSEN_CONDITION,
+            OUTPUT,
+            EXPLAINED,
+        ],
     },
     Row {
         kind: Kind::Find,
         name: "find",
         about: "Looks for hint lines that prove the formula or the condition, or for states at which it fails",
+        example: "Example: rgc find sum.rg --output sum.lrat",
         fields: &[
             FORMULA_OR_PROGRAM,
             CHOSEN_DERIVATION,
             CHOSEN_CONDITION,
             STEPS,
+            OUTPUT,
+            EXPLAINED,
         ],
     },
     Row {
         kind: Kind::Outline,
         name: "outline",
         about: "Prints the program that an outline stands for, and writes its derivation",
-        fields: &[OUTLINE, WRITTEN_DERIVATION],
+        example: "Example: rgc outline lock.rgo --derivation lock.rgd",
+        fields: &[
+            OUTLINE,
+            WRITTEN_TEXT,
+            WRITTEN_DERIVATION,
+            WRITTEN_PROOFS,
+            MAP,
+            THREADS,
+        ],
     },
     Row {
         kind: Kind::Verify,
         name: "verify",
         about: "Proves that an outline's program meets its specification, or says where it doesn't",
-        fields: &[OUTLINE, STEPS],
+        example: "Example: rgc verify lock.rgo",
+        fields: &[OUTLINES, STEPS, RUNS_ONLY, THREADS, FORMAT],
+    },
+    Row {
+        kind: Kind::Challenge,
+        name: "challenge",
+        about: "Changes an outline's program in small ways, and tells which changes its specification doesn't see",
+        example: "Example: rgc challenge lock.rgo",
+        fields: &[OUTLINE, REFUSED, THREADS],
     },
     Row {
         kind: Kind::Explain,
         name: "explain",
         about: "Says what a refusal means and what to do, with an example that meets it",
+        example: "Example: rgc explain 26",
         fields: &[REFUSAL],
     },
 ];

@@ -1,14 +1,13 @@
-//! The fields of a command, from the matches of its subcommand.
+//! One file or option, from the matches of a subcommand.
 
-ghost use Rattle.std.specs.Prelude.{◌≡◌, ◌<◌, IfOk, IfErr, IfSome, length};
+ghost use Rattle.std.specs.Prelude.{◌≡◌, IfOk, IfErr};
 ghost use Rattle.clap.specs.Words.{found_of, rows_of};
-ghost use Rattle.rgc_line.specs.App.{row_of};
-ghost use Rattle.rgc_line.specs.Line.{HasFile, HasNumber, HasValue, optional, HasContents, contents_of, IsFieldFault};
-ghost use Rattle.rgc_line.specs.Inner.Table.{id_at, IsListed, IsNamed, IsTable, HasOption, HasChosen};
+ghost use Rattle.rgc_line.specs.Line.{HasFile, HasFileOf, HasFlag, HasNumber, HasValue, optional, optional_number, IsFieldFault};
+ghost use Rattle.rgc_line.specs.Inner.Table.{HasOption, HasChosen};
 ghost use Rattle.rgc_line.specs.declared.fields.FieldFault.TheVariants.{Incomplete};
 
-use crate::command::{Chosen, Command};
-use crate::commands::{CHOSEN_CONDITION, CHOSEN_DERIVATION, COMMANDS, Kind, Row};
+use crate::command::{Chosen, Outlines};
+use crate::commands::{CHOSEN_CONDITION, CHOSEN_DERIVATION};
 use clap::ArgMatches;
 use thiserror::Error;
 
@@ -21,15 +20,22 @@ pub enum FieldFault {
     /// One of two options that go together stands alone.
     #[error("--derivation and --condition go together")]
     Apart,
+    /// A format that isn't known.
+    #[error("--format takes plain or json")]
+    UnknownFormat,
+    /// A run of an outline and of files, or of some files alone.
+    #[error("run takes TEXT DERIVATION PROOFS, or --outline FILE")]
+    RunFiles,
 }
 
-fn option<'a>(matches: &ArgMatches<'a>, id: &str) -> Option<&'a str>
-    ensures { HasOption (rows_of (found_of matches.now)) id.now result }
+pub fn option<'a>(matches: &ArgMatches<'a>, id: &str) -> Option<&'a str>
+    ensures has { HasOption (rows_of (found_of matches.now)) id.now result }
+    ensures value { HasValue (rows_of (found_of matches.now)) id.now (optional result) }
 {
     matches.get_str(id)
 }
 
-fn file<'a>(matches: &ArgMatches<'a>, id: &str) -> Result<&'a str, FieldFault>
+pub fn file<'a>(matches: &ArgMatches<'a>, id: &str) -> Result<&'a str, FieldFault>
     ensures file { IfOk result (HasFile (rows_of (found_of matches.now)) id.now) }
     ensures fault { IfErr result (λ f. f ≡ Incomplete) }
 {
@@ -39,7 +45,30 @@ fn file<'a>(matches: &ArgMatches<'a>, id: &str) -> Result<&'a str, FieldFault>
     }
 }
 
-fn given_number(matches: &ArgMatches<'_>, id: &str) -> Result<u64, FieldFault>
+/// The file at a place among those of this id.
+pub fn file_of<'a>(
+    matches: &ArgMatches<'a>,
+    id: &str,
+    place: usize,
+) -> Result<Outlines<'a>, FieldFault>
+    ensures file { IfOk result (HasFileOf (rows_of (found_of matches.now)) id.now) }
+    ensures place { IfOk result (λ o. o.place ≡ place) }
+    ensures fault { IfErr result (λ f. f ≡ Incomplete) }
+{
+    let Some(names) = matches.get_strs(id) else {
+        return Err(FieldFault::Incomplete);
+    };
+    if place < names.len() {
+        return Ok(Outlines {
+            outline: names[place],
+            place,
+            count: names.len(),
+        });
+    }
+    Err(FieldFault::Incomplete)
+}
+
+pub fn given_number(matches: &ArgMatches<'_>, id: &str) -> Result<u64, FieldFault>
     ensures number { IfOk result (HasNumber (rows_of (found_of matches.now)) id.now) }
     ensures fault { IfErr result (λ f. f ≡ Incomplete) }
 {
@@ -49,122 +78,29 @@ fn given_number(matches: &ArgMatches<'_>, id: &str) -> Result<u64, FieldFault>
     }
 }
 
-/// The files and options of a command on a line, each by its place in the command's row, from 0.
-#[derive(Clone, Copy)]
-struct Given<'g, 'a> {
-    matches: &'g ArgMatches<'a>,
-    row: &'g Row,
+/// A number that may be left out.
+pub fn number_or_none(matches: &ArgMatches<'_>, id: &str) -> Result<Option<u64>, FieldFault>
+    ensures number { IfOk result (λ n. HasValue (rows_of (found_of matches.now)) id.now (optional_number n)) }
+    ensures fault { IfErr result (λ f. f ≡ Incomplete) }
+{
+    match option(matches, id) {
+        Some(_) => Ok(Some(given_number(matches, id)?)),
+        None => Ok(None),
+    }
 }
 
-impl<'a> Given<'_, 'a> {
-    /// The id of the file or the option.
-    fn id(&self, place: usize) -> &'static str
-        requires listed { IsListed self.now.row.now }
-        requires place { place < length (row_of self.now.row.now.kind).rules }
-        ensures { result.now ≡ id_at (row_of self.now.row.now.kind).rules place }
-    {
-        self.row.fields[place].id
-    }
-
-    /// A file that has to be named.
-    fn file(&self, place: usize) -> Result<&'a str, FieldFault>
-        requires listed { IsListed self.now.row.now }
-        requires place { place < length (row_of self.now.row.now.kind).rules }
-        ensures file { IfOk result (HasFile (rows_of (found_of self.now.matches.now)) (id_at (row_of self.now.row.now.kind).rules place)) }
-        ensures fault { IfErr result (λ f. f ≡ Incomplete) }
-    {
-        let name = file(self.matches, self.id(place))?;
-        Ok(name)
-    }
-
-    /// A file that may be left out.
-    fn option(&self, place: usize) -> Option<&'a str>
-        requires listed { IsListed self.now.row.now }
-        requires place { place < length (row_of self.now.row.now.kind).rules }
-        ensures { HasValue (rows_of (found_of self.now.matches.now)) (id_at (row_of self.now.row.now.kind).rules place) (optional result) }
-    {
-        option(self.matches, self.id(place))
-    }
-
-    /// A number that is given or has a default.
-    fn number(&self, place: usize) -> Result<u64, FieldFault>
-        requires listed { IsListed self.now.row.now }
-        requires place { place < length (row_of self.now.row.now.kind).rules }
-        ensures number { IfOk result (HasNumber (rows_of (found_of self.now.matches.now)) (id_at (row_of self.now.row.now.kind).rules place)) }
-        ensures fault { IfErr result (λ f. f ≡ Incomplete) }
-    {
-        let number = given_number(self.matches, self.id(place))?;
-        Ok(number)
-    }
-
-    /// The command of the row.
-    fn command(&self) -> Result<Command<'a>, FieldFault>
-        requires { IsListed self.now.row.now }
-        ensures contents { IfOk result (λ c. HasContents self.now.row.now.name.now (rows_of (found_of self.now.matches.now)) (contents_of c)) }
-        ensures fault { IfErr result (IsFieldFault (rows_of (found_of self.now.matches.now))) }
-    {
-        match self.row.kind {
-            Kind::Number => Ok(Command::Number {
-                text: self.file(0)?,
-            }),
-            Kind::Check => Ok(Command::Check {
-                text: self.file(0)?,
-                derivation: self.file(1)?,
-                proofs: self.file(2)?,
-            }),
-            Kind::Conditions => Ok(Command::Conditions {
-                text: self.file(0)?,
-                derivation: self.file(1)?,
-            }),
-            Kind::Prove => Ok(Command::Prove {
-                text: self.file(0)?,
-                derivation: self.file(1)?,
-                steps: self.number(2)?,
-            }),
-            Kind::Emit => Ok(Command::Emit {
-                text: self.file(0)?,
-                derivation: self.file(1)?,
-                proofs: self.file(2)?,
-            }),
-            Kind::Run => Ok(Command::Run {
-                text: self.file(0)?,
-                derivation: self.file(1)?,
-                proofs: self.file(2)?,
-                start: self.option(3),
-                moves: self.option(4),
-                limit: self.number(5)?,
-                draw: self.option(6),
-            }),
-            Kind::Valid => Ok(Command::Valid {
-                text: self.file(0)?,
-                proofs: self.file(1)?,
-            }),
-            Kind::Clauses => Ok(Command::Clauses {
-                text: self.file(0)?,
-                chosen: chosen(self.matches)?,
-            }),
-            Kind::Find => Ok(Command::Find {
-                text: self.file(0)?,
-                chosen: chosen(self.matches)?,
-                steps: self.number(3)?,
-            }),
-            Kind::Outline => Ok(Command::Outline {
-                outline: self.file(0)?,
-                derivation: self.option(1),
-            }),
-            Kind::Verify => Ok(Command::Verify {
-                outline: self.file(0)?,
-                steps: self.number(1)?,
-            }),
-            Kind::Explain => Ok(Command::Explain {
-                number: self.number(0)?,
-            }),
-        }
+/// Whether the option is there.
+pub fn is_given(matches: &ArgMatches<'_>, id: &str) -> bool
+    ensures { HasFlag (rows_of (found_of matches.now)) id.now result }
+{
+    match option(matches, id) {
+        Some(text) => text == "true",
+        None => false,
     }
 }
 
 /// The condition that the two options choose, where both are given.
-fn chosen<'a>(matches: &ArgMatches<'a>) -> Result<Option<Chosen<'a>>, FieldFault>
+pub fn chosen<'a>(matches: &ArgMatches<'a>) -> Result<Option<Chosen<'a>>, FieldFault>
     ensures chosen { IfOk result (HasChosen (rows_of (found_of matches.now))) }
     ensures fault { IfErr result (IsFieldFault (rows_of (found_of matches.now))) }
 {
@@ -181,29 +117,5 @@ fn chosen<'a>(matches: &ArgMatches<'a>) -> Result<Option<Chosen<'a>>, FieldFault
             Err(fault) => Err(fault),
         },
         _ => Err(FieldFault::Apart),
-    }
-}
-
-/// The row of a name.
-fn row_named<'r>(rows: &'r [Row], name: &str) -> Option<&'r Row>
-    requires { IsTable rows.now }
-    ensures { IfSome result (λ row. IsNamed name.now row.now) }
-{
-    for row in rows {
-        if row.name == name {
-            return Some(row);
-        }
-    }
-    None
-}
-
-/// The command of a subcommand's name and matches.
-pub fn command_of<'a>(name: &str, matches: &ArgMatches<'a>) -> Result<Command<'a>, FieldFault>
-    ensures contents { IfOk result (λ c. HasContents name.now (rows_of (found_of matches.now)) (contents_of c)) }
-    ensures fault { IfErr result (IsFieldFault (rows_of (found_of matches.now))) }
-{
-    match row_named(&COMMANDS, name) {
-        Some(row) => Given { matches, row }.command(),
-        None => Err(FieldFault::Incomplete),
     }
 }

@@ -6,7 +6,9 @@ mod command;
 mod commands;
 mod fields;
 mod line;
+mod readers;
+mod settings;
 
-pub use command::{Chosen, Command, Named};
+pub use command::{Chosen, Command, Format, Named, Outlines, PLAIN, Settings};
 pub use fields::FieldFault;
 pub use line::{Line, LineFault};

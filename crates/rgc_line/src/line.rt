@@ -3,11 +3,12 @@
 ghost use Rattle.std.specs.Prelude.{◌≡◌, [], map, IfOk, MatchResult};
 ghost use Rattle.clap.specs.Words.{subcommand_of, fault_of};
 ghost use Rattle.rgc_line.specs.App.{rgc_app};
-ghost use Rattle.rgc_line.specs.Line.{Names, IsLineFault};
+ghost use Rattle.rgc_line.specs.Line.{Says, IsLineFault};
 
 use crate::app::rgc_command;
-use crate::command::Command;
-use crate::fields::{FieldFault, command_of};
+use crate::command::{Command, Settings};
+use crate::fields::FieldFault;
+use crate::readers::line_of;
 use std::alloc::Global;
 use std::convert::AsStr;
 use thiserror::Error;
@@ -26,16 +27,27 @@ pub enum LineFault {
 pub struct Line<'a> {
     /// What the program is asked to do.
     pub command: Command<'a>,
+    /// How it is asked to do it.
+    pub settings: Settings<'a>,
 }
 
 impl<'a> Line<'a> {
-    /// Reads the words, of which the first is the program's name.
-    pub fn read<S: AsStr>(alloc: Global, words: &'a [S]) -> Result<Line<'a>, LineFault>
+    /// Reads the words, of which the first is the program's name. Of a command over several files it is the one over the file at this place,
+    /// from 0.
+    ///
+    /// # Errors
+    ///
+    /// `Usage` with the fault that `clap` finds in the words, or where memory is refused; `Fields` where options don't fit together, where an
+    /// option has a word that it doesn't know, or where there is no file at the place.
+    pub fn read<S: AsStr>(
+        alloc: Global,
+        words: &'a [S],
+        place: usize,
+    ) -> Result<Line<'a>, LineFault>
         // The command, its files and its options are those that `clap` reads in the words.
-        ensures command { IfOk result (λ line. Names (subcommand_of rgc_app (map S.text words.now)) line.command) }
+        ensures line { IfOk result (Says (subcommand_of rgc_app (map S.text words.now)) place) }
 
-        // Words come to a command only where `clap` finds no fault in them, and else to a fault that it finds, or to two options that go
-        // together and don't.
+        // Words come to a command only where `clap` finds no fault in them, and else to a fault that it finds, or to options that don't fit.
         ensures fault { MatchResult result
             (λ _. fault_of rgc_app (map S.text words.now) ≡ [])
             (IsLineFault (map S.text words.now)) }
@@ -51,8 +63,8 @@ impl<'a> Line<'a> {
         let Some((name, inner)) = matches.subcommand() else {
             return Err(LineFault::Fields(FieldFault::Incomplete));
         };
-        match command_of(name, inner) {
-            Ok(command) => Ok(Line { command }),
+        match line_of(name, inner, place) {
+            Ok(line) => Ok(line),
             Err(fault) => Err(LineFault::Fields(fault)),
         }
     }

@@ -1,18 +1,23 @@
 //! The program `rgc`: it reads the words and the files, and does the command.
 #![tactic(auto)]
 
+ghost use Rattle.std.specs.Prelude.{◌≡◌};
+ghost use Rattle.rg_words.specs.Written.{CanCount};
+
 use clap::error::ErrorKind;
 use rg_find::Watcher;
+use rg_outline_paint::painted;
 use rg_words::limits::{MOST_PROOF_BYTES, MOST_TEXT_BYTES};
-use rg_words::{Buffered, Device};
+use rg_words::{Buffered, Device, Out, Taker, write_all};
 use rgc_line::{Command, Line, LineFault, Named};
-use rgc_perform::{Files, perform};
+use rgc_perform::{Files, Sides, perform};
 use std::alloc::AllocError;
+use std::env::VarError;
 use std::fs::{self, File};
 use std::io::{IsTerminal, Read};
 use std::process::ExitCode;
 use std::sync::Wait;
-use std::thread::Threads;
+use std::thread::{Threads, available_parallelism};
 use std::{env, io};
 
 /// The name of a file that stands for standard input.
@@ -97,62 +102,168 @@ impl Watcher for Terminal<'_> {
     }
 }
 
-/// Whether what the command prints goes out at once: a person waits for it, or it goes through a buffer of its own.
-fn is_printed_at_once(command: &Command<'_>) -> bool {
-    matches!(
-        command,
-        Command::Find { .. } | Command::Prove { .. } | Command::Run { .. } | Command::Verify { .. }
-    )
+/// What a command is done with.
+#[derive(Drop)]
+struct Means<'m, R> {
+    rt: &'m HostRuntime,
+    threads: &'m R,
+    /// The most threads for one command.
+    most: usize,
 }
 
-/// Does the command over its files, and writes what it printed; the status. The picture of a run, or the derivation of an outline, is put into `side`.
-fn done<R: Threads + Wait + Sync>(
-    rt: &HostRuntime,
-    threads: &R,
+/// Where the output of a command goes.
+#[derive(Clone, Copy)]
+enum Way {
+    /// To standard output at once: a person waits for it.
+    AtOnce,
+    /// To standard output through a buffer of its own.
+    Buffered,
+    /// To memory first: to a file as a whole, to standard output and to standard error, or in colour.
+    Whole,
+}
+
+/// Whether standard output is a terminal that is to be coloured.
+fn is_coloured(rt: &HostRuntime) -> bool {
+    rt.stdout().is_terminal() && matches!(env::var(rt, "NO_COLOR"), Err(VarError::NotPresent))
+}
+
+/// Where the output of the command goes.
+fn way_of(rt: &HostRuntime, line: &Line<'_>) -> Way {
+    if line.settings.output.is_some() {
+        return Way::Whole;
+    }
+    match line.command {
+        Command::Find { .. } | Command::Prove { .. } if !rt.stdout().is_terminal() => Way::Whole,
+        Command::Verify { .. } if is_coloured(rt) => Way::Whole,
+        Command::Find { .. }
+        | Command::Prove { .. }
+        | Command::Run { .. }
+        | Command::RunOutline { .. }
+        | Command::Outline { .. }
+        | Command::Challenge { .. }
+        | Command::Verify { .. } => Way::AtOnce,
+        _ => Way::Buffered,
+    }
+}
+
+/// Does the command with this writer for its output; the status.
+fn performed<R: Threads + Wait + Sync, W: Out>(
+    means: &Means<'_, R>,
     line: &Line<'_>,
     files: &Files<'_>,
-    side: &mut Vec<u8>,
-) -> Result<u8, AllocError> {
-    let alloc = rt.alloc();
+    out: &mut W,
+    sides: &mut Sides,
+) -> u8
+    requires { CanCount (W.failures out.old) }
+    ensures { result ≡ 0 → W.failures out.new ≡ W.failures out.old }
+{
+    let rt = means.rt;
     let mut faults = Device::new(rt.stderr());
-    let mut watcher = Terminal {
+    let watcher = Terminal {
         rt,
         is_terminal: rt.stderr().is_terminal(),
         next: CONFLICTS_TOLD,
     };
-    if is_printed_at_once(&line.command) {
-        let mut out = Device::new(rt.stdout());
-        let status = perform(
-            threads,
-            alloc,
-            line,
-            files,
-            &mut out,
-            &mut faults,
-            &mut watcher,
-            side,
-        );
-        return Ok(status);
-    }
-    let mut out = Buffered::new(alloc, Device::new(rt.stdout()))?;
-    let status = perform(
-        threads,
-        alloc,
+    perform(
+        means.threads,
+        rt.alloc(),
+        means.most,
         line,
         files,
-        &mut out,
+        out,
         &mut faults,
-        &mut watcher,
-        side,
-    );
+        &watcher,
+        sides,
+    )
+}
+
+/// Does the command through a buffer; the status.
+fn buffered<R: Threads + Wait + Sync>(
+    means: &Means<'_, R>,
+    line: &Line<'_>,
+    files: &Files<'_>,
+    sides: &mut Sides,
+) -> Result<u8, AllocError> {
+    let rt = means.rt;
+    let mut out = Buffered::new(rt.alloc(), Device::new(rt.stdout()))?;
+    let status = performed(means, line, files, &mut out, sides);
     if status == 0 && out.flush().is_err() {
         return Ok(tell(rt, "refused 63"));
     }
     Ok(status)
 }
 
-/// Writes the second file of a command; the status.
-fn write_side(rt: &HostRuntime, name: &str, side: &[u8], fault: &str) -> u8 {
+/// Writes bytes to standard output; the status where they went out.
+fn shown(rt: &HostRuntime, bytes: &[u8], status: u8) -> u8 {
+    let mut out = Device::new(rt.stdout());
+    match write_all(&mut out, bytes) {
+        Ok(()) => status,
+        Err(_) => tell(rt, "refused 63"),
+    }
+}
+
+/// Writes bytes to standard error, where they can be written.
+fn told(rt: &HostRuntime, bytes: &[u8]) {
+    let mut faults = Device::new(rt.stderr());
+    let _ = write_all(&mut faults, bytes);
+}
+
+/// Writes what a command has printed to where it goes; the status. What is told of a search without a proof goes to standard error too, or
+/// there alone where the output is a file's.
+fn written(rt: &HostRuntime, line: &Line<'_>, bytes: &[u8], status: u8) -> Result<u8, AllocError> {
+    match (line.settings.output, line.command) {
+        (Some(name), _) if status == 0 => write_whole(rt, name, bytes),
+        (Some(_), _) => {
+            told(rt, bytes);
+            Ok(status)
+        }
+        (None, Command::Verify { .. }) => {
+            let text = painted(rt.alloc(), bytes)?;
+            Ok(shown(rt, &text, status))
+        }
+        (None, _) => {
+            if status == 1 {
+                told(rt, bytes);
+            }
+            Ok(shown(rt, bytes, status))
+        }
+    }
+}
+
+/// Does the command with its output in memory, and writes that; the status.
+fn whole<R: Threads + Wait + Sync>(
+    means: &Means<'_, R>,
+    line: &Line<'_>,
+    files: &Files<'_>,
+    sides: &mut Sides,
+) -> Result<u8, AllocError> {
+    let mut out = Taker::new(means.rt.alloc(), usize::MAX);
+    let status = performed(means, line, files, &mut out, sides);
+    written(means.rt, line, out.bytes(), status)
+}
+
+/// Does the command over its files, and writes what it printed; the status. What it writes beside that is put into `sides`.
+fn done<R: Threads + Wait + Sync>(
+    means: &Means<'_, R>,
+    line: &Line<'_>,
+    files: &Files<'_>,
+    sides: &mut Sides,
+) -> Result<u8, AllocError> {
+    match way_of(means.rt, line) {
+        Way::AtOnce => {
+            let mut out = Device::new(means.rt.stdout());
+            Ok(performed(means, line, files, &mut out, sides))
+        }
+        Way::Buffered => buffered(means, line, files, sides),
+        Way::Whole => whole(means, line, files, sides),
+    }
+}
+
+/// Writes a file that a command names; the status.
+fn write_side(rt: &HostRuntime, name: Option<&str>, side: &[u8], fault: &str) -> u8 {
+    let Some(name) = name else {
+        return 0;
+    };
     match fs::write(rt, name, side) {
         Ok(()) => 0,
         Err(error) if error.kind() == io::ErrorKind::OutOfMemory => tell(rt, "refused 99"),
@@ -160,34 +271,58 @@ fn write_side(rt: &HostRuntime, name: &str, side: &[u8], fault: &str) -> u8 {
     }
 }
 
-/// Writes the picture of a run, or the derivation of an outline, to the file that the command names for it, if it names one; the status.
-fn write_side_of(rt: &HostRuntime, command: &Command<'_>, side: &[u8]) -> u8 {
+/// Writes the output to a file, as a whole or not at all: to a file beside it, which then takes its name; the status.
+fn write_whole(rt: &HostRuntime, name: &str, bytes: &[u8]) -> Result<u8, AllocError> {
+    let beside = format!(in rt.alloc(); "{name}.part")?;
+    let status = write_side(rt, Some(&beside), bytes, "device output");
+    if status != 0 {
+        let _ = fs::remove_file(rt, beside.as_str());
+        return Ok(status);
+    }
+    match fs::rename(rt, beside.as_str(), name) {
+        Ok(()) => Ok(0),
+        Err(_) => {
+            let _ = fs::remove_file(rt, beside.as_str());
+            Ok(tell(rt, "device output"))
+        }
+    }
+}
+
+/// Writes the files that the command names beside its output; the status.
+fn write_sides(rt: &HostRuntime, command: &Command<'_>, sides: &Sides) -> u8 {
     match *command {
-        Command::Run {
-            draw: Some(name),
-            ..
-        } => write_side(rt, name, side, "device draw"),
+        Command::Run { draw, .. } | Command::RunOutline { draw, .. } => {
+            write_side(rt, draw, &sides.picture, "device draw")
+        }
         Command::Outline {
-            derivation: Some(name),
+            text,
+            derivation,
+            proofs,
+            map,
             ..
-        } => write_side(rt, name, side, "device derivation"),
+        } => {
+            let side = &sides.outline;
+            write_side(rt, text, &side.text, "device text")
+                .max(write_side(rt, derivation, &side.derivation, "device derivation"))
+                .max(write_side(rt, proofs, &side.proofs, "device proofs"))
+                .max(write_side(rt, map, &side.map, "device map"))
+        }
         _ => 0,
     }
 }
 
 /// Does the command over its files, and writes all that it made; the status.
 fn done_and_drawn<R: Threads + Wait + Sync>(
-    rt: &HostRuntime,
-    threads: &R,
+    means: &Means<'_, R>,
     line: &Line<'_>,
     files: &Files<'_>,
 ) -> Result<u8, AllocError> {
-    let mut side = Vec::new(rt.alloc());
-    let status = done(rt, threads, line, files, &mut side)?;
+    let mut sides = Sides::new(means.rt.alloc());
+    let status = done(means, line, files, &mut sides)?;
     if status != 0 {
         return Ok(status);
     }
-    Ok(write_side_of(rt, &line.command, &side))
+    Ok(write_sides(means.rt, &line.command, &sides))
 }
 
 /// The bytes of the files that a command names: none where one isn't named or can't be read.
@@ -246,6 +381,14 @@ impl Contents {
     }
 }
 
+/// The most threads for a command: those that it asks for, and else one for each processor.
+fn most_threads<R: Threads>(threads: &R, line: &Line<'_>) -> usize {
+    match line.settings.threads {
+        Some(number) => usize::try_from(number).unwrap_or(usize::MAX),
+        None => available_parallelism(threads).map_or(1, |number| number.get()),
+    }
+}
+
 /// Reads the files that the command names, and does it; the status.
 fn run<R: Threads + Wait + Sync>(
     rt: &HostRuntime,
@@ -259,7 +402,35 @@ fn run<R: Threads + Wait + Sync>(
     }
     let mut contents = Contents::empty();
     contents.read(rt, &named)?;
-    done_and_drawn(rt, threads, line, &contents.files())
+    let most = most_threads(threads, line);
+    done_and_drawn(&Means { rt, threads, most }, line, &contents.files())
+}
+
+/// Over how many files the command is to be done, one after another.
+fn files_of(command: &Command<'_>) -> usize {
+    match command {
+        Command::Verify { outlines, .. } => outlines.count,
+        _ => 1,
+    }
+}
+
+/// Does what the words ask for, over each file of a command that takes several; the worst status.
+fn run_words<R: Threads + Wait + Sync>(
+    rt: &HostRuntime,
+    threads: &R,
+    words: &[String],
+) -> Result<u8, AllocError> {
+    let first = match Line::read(rt.alloc(), words, 0) {
+        Ok(line) => line,
+        Err(fault) => return Ok(usage(rt, &fault)),
+    };
+    let mut worst = run(rt, threads, &first)?;
+    for place in 1..files_of(&first.command) {
+        if let Ok(line) = Line::read(rt.alloc(), words, place) {
+            worst = worst.max(run(rt, threads, &line)?);
+        }
+    }
+    Ok(worst)
 }
 
 /// The words of the command line, with the program's name as its users know it.
@@ -281,10 +452,7 @@ fn work<R: Threads + Wait + Sync>(rt: &HostRuntime, threads: &R) -> Result<u8, A
             return Ok(2);
         }
     };
-    match Line::read(rt.alloc(), words.as_slice()) {
-        Ok(line) => run(rt, threads, &line),
-        Err(fault) => Ok(usage(rt, &fault)),
-    }
+    run_words(rt, threads, words.as_slice())
 }
 
 fn main(rt: HostRuntime) -> ExitCode {

@@ -2,6 +2,14 @@
 #![tactic(auto)]
 
 mod commands;
+mod dispatch;
+mod explained;
 mod explaining;
+mod files;
+mod json;
+mod outlines;
+mod ranges;
+mod stops;
 
-pub use commands::{Files, perform};
+pub use dispatch::perform;
+pub use files::{Files, Sides};

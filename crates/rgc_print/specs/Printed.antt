@@ -1,5 +1,5 @@
 -- What a command over texts has printed where it is done.
-use Rattle.std.specs.Prelude.{◌≡◌, ℕ, ◌≤◌, List, ◌++◌, length, Option, map, codes}
+use Rattle.std.specs.Prelude.{◌≡◌, ℕ, ◌≤◌, ◌-◌, List, ◌++◌, length, Option, map, codes}
 use Rattle.std.specs.Io.KnownBytes.{Appends}
 use Rattle.serde_json.specs.Written.{compact_text}
 use Rattle.rg_words.specs.declared.limits.TheConstants.{MOST_VARIABLES}
@@ -14,6 +14,7 @@ use Rattle.rg_hints.specs.Lines.{Section}
 use Rattle.rg_hints.specs.Normal.{section_text}
 use Rattle.rg_hints.specs.Verdict.{IsClosed}
 use Rattle.rg_hints.specs.Proved.{AreProved}
+use Rattle.rg_pool.specs.Parts.{ArePartProved}
 use Rattle.rg_code.specs.Listing.{listing_data}
 use Rattle.rg_code.specs.CodeTrees.{code_blocks, names_of_code}
 use Rattle.rg_code.specs.declared.code.Code.{Code}
@@ -22,6 +23,7 @@ use Rattle.rg_parse.specs.Programs.{SpellsProgram}
 use Rattle.rgc.specs.Chosen.{AreDerived, IsChosen}
 use Rattle.rgc_print.specs.Conditions.{conditions_text}
 use Rattle.rgc_print.specs.Numbers.{numbers_text}
+use Rattle.rgc.specs.Proofs.{IsRange, in_range}
 use Rattle.rgc.specs.Valid.{HasClauses, ShownHolds, IsProved}
 
 -- the text spells a program, and its statements went out with their numbers
@@ -51,6 +53,16 @@ pub record HasPrintedProofs (text derivation : List ℕ) (old new : Option (List
   pub derived : AreDerived text derivation program lines
   pub proofs : List ℕ
   pub proved : AreProved (conditions_of program lines) proofs
+  pub printed : Appends old new proofs
+
+-- the same of the conditions from the first of these numbers to the last
+pub record HasPrintedPart (text derivation : List ℕ) (first last : ℕ) (old new : Option (List ℕ)) : Type 0 where
+  pub program : ProgramTree
+  pub lines : List LineTree
+  pub derived : AreDerived text derivation program lines
+  pub range : IsRange first last (length (conditions_of program lines))
+  pub proofs : List ℕ
+  pub proved : ArePartProved (length (conditions_of program lines)) (first - 1) (in_range first last (conditions_of program lines)) proofs
   pub printed : Appends old new proofs
 
 -- the code is over the program's words, and its parts have the names of the program's

@@ -7,8 +7,9 @@ mod numbers;
 mod printed;
 
 pub use conditions::{write_conditions, write_listing};
-pub use numbers::write_numbers;
+pub use numbers::{kind_text, part_name, write_numbers};
 pub use printed::{
     print_accepted, print_clauses, print_condition_clauses, print_condition_found,
-    print_conditions, print_found, print_listing, print_numbers, print_proofs, print_valid,
+    print_conditions, print_found, print_listing, print_numbers, print_proofs, print_proofs_part,
+    print_valid,
 };

@@ -13,7 +13,8 @@ use rg_tree::program::Program;
 use rg_words::{Out, Refusal, write_all};
 use std::alloc::{AllocError, Global};
 
-fn kind_text(kind: StatementKind) -> &'static str
+/// The word for a kind of statement.
+pub fn kind_text(kind: StatementKind) -> &'static str
     ensures { result.now ≡ kind_text kind }
 {
     match kind {
@@ -27,7 +28,7 @@ fn kind_text(kind: StatementKind) -> &'static str
 }
 
 /// The name of a part by its number, from 1; no text where there is none.
-fn part_name(parts: &[Part], number: usize) -> &str
+pub fn part_name(parts: &[Part], number: usize) -> &str
     ensures { result.now ≡ part_name (map part parts.now) number }
 {
     if number == 0 || number > parts.len() {

@@ -1,19 +1,15 @@
 //! What each command over texts prints.
 
-ghost use Rattle.std.specs.Prelude.{◌≡◌, ℕ, List, All, IsTrue, false, IfOk, IfErr, OnOk};
-ghost use Rattle.std.specs.Io.KnownBytes.{Appends};
+ghost use Rattle.std.specs.Prelude.{◌≡◌, IsTrue, false, IfOk, IfErr, OnOk};
 ghost use Rattle.rg_words.specs.Written.{CanCount};
-ghost use Rattle.rg_hints.specs.Proved.{AreProved};
 ghost use Rattle.rg_parse.specs.Programs.{IsProgramRefusal};
-ghost use Rattle.rgc.specs.Accepted.{conditions_of, IsAcceptTextRefusal};
+ghost use Rattle.rgc.specs.Accepted.{IsAcceptTextRefusal};
 ghost use Rattle.rgc.specs.Chosen.{IsDeriveRefusal, IsChosenClausesRefusal, IsChosenFindRefusal};
-ghost use Rattle.rgc.specs.Proofs.{IsUnproved};
 ghost use Rattle.rgc.specs.Valid.{IsClausesRefusal, IsFindRefusal, IsValidRefusal};
-ghost use Rattle.rgc.specs.declared.proofs_found.Unproved.{Unproved};
-ghost use Rattle.rgc.specs.Stages.{derived_program, derived_lines};
 ghost use Rattle.rgc_print.specs.Stopped.{IsStopped};
 ghost use Rattle.rgc_print.specs.Told.{HasToldFormula, HasToldCondition, HasToldUnproved};
-ghost use Rattle.rgc_print.specs.Printed.{HasPrintedNumbers, HasPrintedAccepted, HasPrintedConditions, HasPrintedProofs, HasPrintedListing, HasPrintedHolds, HasPrintedClauses, HasPrintedConditionClauses, HasPrintedLines, HasPrintedConditionLines};
+ghost use Rattle.rgc_print.specs.Inner.Lines.{PrintsFound, TellsFound};
+ghost use Rattle.rgc_print.specs.Printed.{HasPrintedNumbers, HasPrintedAccepted, HasPrintedConditions, HasPrintedProofs, HasPrintedPart, HasPrintedListing, HasPrintedHolds, HasPrintedClauses, HasPrintedConditionClauses, HasPrintedLines, HasPrintedConditionLines};
 
 use crate::conditions::{write_conditions, write_listing};
 use crate::judged::print_judged;
@@ -22,10 +18,11 @@ use rg_code::checked::Checked;
 use rg_find::Watcher;
 use rg_words::{Out, Refusal, write_all};
 use rgc::{
-    Derived, Parsed, ProofsFound, accept, build, clauses, condition_clauses, derive_program,
-    failures_text, find, find_condition, find_proofs, valid,
+    Derived, Parsed, ProofsFound, accept_all, build_all, clauses, condition_clauses,
+    derive_program, failures_text, find, find_condition, find_part, find_proofs_all, valid_all,
 };
 use std::alloc::Global;
+use std::thread::Threads;
 
 /// Prints the statements of a program with their numbers.
 ///
@@ -42,13 +39,16 @@ pub fn print_numbers<W: Out>(alloc: Global, text: &[u8], out: &mut W) -> Result<
     write_numbers(alloc, parsed.program(), out)
 }
 
-/// Prints `accepted` where the derivation and the proofs are accepted for the program.
+/// Prints `accepted` where the derivation and the proofs are accepted for the program. Conditions are looked at in at most so many threads;
+/// their count changes no answer.
 ///
 /// # Errors
 ///
-/// As `rgc::accept`; `Write` where the writer failed. `Memory` where memory is refused.
-pub fn print_accepted<W: Out>(
+/// As `rgc::accept_all`; `Write` where the writer failed. `Memory` where memory is refused.
+pub fn print_accepted<R: Threads + Sync, W: Out>(
+    rt: &R,
     alloc: Global,
+    threads: usize,
     text: &[u8],
     derivation: &[u8],
     proofs: &[u8],
@@ -59,7 +59,7 @@ pub fn print_accepted<W: Out>(
     ensures failures { OnOk result (W.failures out.new ≡ W.failures out.old) }
     ensures stopped { IfErr result (IsStopped (IsAcceptTextRefusal text.now derivation.now proofs.now) (W.contents out.old) (W.contents out.new) (W.failures out.old) (W.failures out.new)) }
 {
-    accept(alloc, text, derivation, proofs)?;
+    accept_all(rt, alloc, threads, text, derivation, proofs)?;
     write_all(out, b"accepted\n")?;
     Ok(())
 }
@@ -84,45 +84,47 @@ pub fn print_conditions<W: Out>(
     write_conditions(alloc, &derived, out)
 }
 
-/// Prints proofs of all conditions of a derivation that was read; else, and then it answers false, which of them fail or were given up.
-fn print_proofs_of<W: Out, P: Watcher>(
+/// Prints the proofs that were found; else, and then it answers false, which conditions fail or were given up.
+fn print_search<W: Out>(
     alloc: Global,
     derived: &Derived,
-    steps: u64,
+    found: &ProofsFound,
     out: &mut W,
-    watcher: &mut P,
 ) -> Result<bool, Refusal>
     requires { CanCount (W.failures out.old) }
-    ensures printed { IfOk result (λ b. IsTrue b → (proofs : List ℕ) × AreProved (conditions_of (derived_program derived.now) (derived_lines derived.now)) proofs × Appends (W.contents out.old) (W.contents out.new) proofs) }
+    ensures printed { IfOk result (λ b. IsTrue b → PrintsFound found.now (W.contents out.old) (W.contents out.new)) }
     ensures failures { OnOk result (W.failures out.new ≡ W.failures out.old) }
-    ensures told { IfOk result (λ b. b ≡ false → (unproved : List Unproved) × All (IsUnproved (conditions_of (derived_program derived.now) (derived_lines derived.now))) unproved × ((told : List ℕ) × Appends (W.contents out.old) (W.contents out.new) told)) }
+    ensures told { IfOk result (λ b. b ≡ false → TellsFound found.now (W.contents out.old) (W.contents out.new)) }
     ensures stopped { IfErr result (IsStopped (λ _. Unit {0}) (W.contents out.old) (W.contents out.new) (W.failures out.old) (W.failures out.new)) }
 {
-    match find_proofs(alloc, derived, steps, watcher)? {
+    match found {
         ProofsFound::Proofs(proofs) => {
             write_all(out, proofs.as_bytes())?;
             Ok(true)
         }
         ProofsFound::Failures(unproved) => {
-            let told = failures_text(alloc, derived, &unproved)?;
+            let told = failures_text(alloc, derived, unproved)?;
             write_all(out, told.as_bytes())?;
             Ok(false)
         }
     }
 }
 
-/// Prints proofs of all conditions of a program's derivation; else, and then it answers false, which of them fail or were given up.
+/// Prints proofs of all conditions of a program's derivation; else, and then it answers false, which of them fail or were given up. Conditions
+/// are looked at in at most so many threads; their count changes nothing that is printed.
 ///
 /// # Errors
 ///
-/// The first fault of the text, then of the derivation; else as `rgc::find_proofs`. `Write` where the writer failed. `Memory` where memory is refused.
-pub fn print_proofs<W: Out, P: Watcher>(
+/// The first fault of the text, then of the derivation; else as `rgc::find_proofs_all`. `Write` where the writer failed. `Memory` where memory is refused.
+pub fn print_proofs<R: Threads + Sync, W: Out, P: Watcher + Copy + Sync>(
+    rt: &R,
     alloc: Global,
+    threads: usize,
     text: &[u8],
     derivation: &[u8],
     steps: u64,
     out: &mut W,
-    watcher: &mut P,
+    watcher: &P,
 ) -> Result<bool, Refusal>
     requires { CanCount (W.failures out.old) }
     ensures printed { IfOk result (λ b. IsTrue b → HasPrintedProofs text.now derivation.now (W.contents out.old) (W.contents out.new)) }
@@ -131,16 +133,48 @@ pub fn print_proofs<W: Out, P: Watcher>(
     ensures stopped { IfErr result (IsStopped (λ _. Unit {0}) (W.contents out.old) (W.contents out.new) (W.failures out.old) (W.failures out.new)) }
 {
     let derived = derive_program(alloc, text, derivation)?;
-    print_proofs_of(alloc, &derived, steps, out, watcher)
+    let found = find_proofs_all(rt, alloc, threads, &derived, steps, watcher)?;
+    print_search(alloc, &derived, &found, out)
 }
 
-/// Prints the listing of the code of an accepted program.
+/// Prints proofs of the conditions from the first of these numbers to the last; else, and then it answers false, which of them fail or were
+/// given up. What ranges print, put one after another in their order, is a proofs file for all of their conditions.
 ///
 /// # Errors
 ///
-/// As `rgc::build`; `Write` where the writer failed. `Memory` where memory is refused.
-pub fn print_listing<W: Out>(
+/// The first fault of the text, then of the derivation; else as `rgc::find_part`. `Write` where the writer failed. `Memory` where memory is refused.
+pub fn print_proofs_part<R: Threads + Sync, W: Out, P: Watcher + Copy + Sync>(
+    rt: &R,
     alloc: Global,
+    threads: usize,
+    text: &[u8],
+    derivation: &[u8],
+    first: u64,
+    last: u64,
+    steps: u64,
+    out: &mut W,
+    watcher: &P,
+) -> Result<bool, Refusal>
+    requires { CanCount (W.failures out.old) }
+    ensures printed { IfOk result (λ b. IsTrue b → HasPrintedPart text.now derivation.now first last (W.contents out.old) (W.contents out.new)) }
+    ensures failures { OnOk result (W.failures out.new ≡ W.failures out.old) }
+    ensures told { IfOk result (λ b. b ≡ false → HasToldUnproved text.now derivation.now (W.contents out.old) (W.contents out.new)) }
+    ensures stopped { IfErr result (IsStopped (λ _. Unit {0}) (W.contents out.old) (W.contents out.new) (W.failures out.old) (W.failures out.new)) }
+{
+    let derived = derive_program(alloc, text, derivation)?;
+    let found = find_part(rt, alloc, threads, &derived, first, last, steps, watcher)?;
+    print_search(alloc, &derived, &found, out)
+}
+
+/// Prints the listing of the code of an accepted program, which is accepted in at most so many threads.
+///
+/// # Errors
+///
+/// As `rgc::build_all`; `Write` where the writer failed. `Memory` where memory is refused.
+pub fn print_listing<R: Threads + Sync, W: Out>(
+    rt: &R,
+    alloc: Global,
+    threads: usize,
     text: &[u8],
     derivation: &[u8],
     proofs: &[u8],
@@ -151,17 +185,19 @@ pub fn print_listing<W: Out>(
     ensures failures { OnOk result (W.failures out.new ≡ W.failures out.old) }
     ensures stopped { IfErr result (IsStopped (IsAcceptTextRefusal text.now derivation.now proofs.now) (W.contents out.old) (W.contents out.new) (W.failures out.old) (W.failures out.new)) }
 {
-    let emitted = build(alloc, text, derivation, proofs)?;
+    let emitted = build_all(rt, alloc, threads, text, derivation, proofs)?;
     write_listing(alloc, emitted.code(), out)
 }
 
-/// Prints `holds` where the hint lines prove the formula.
+/// Prints `holds` where the hint lines prove the formula. Many lines are checked in four pieces, where there are two threads or more.
 ///
 /// # Errors
 ///
-/// As `rgc::valid`; `Write` where the writer failed. `Memory` where memory is refused.
-pub fn print_valid<W: Out>(
+/// As `rgc::valid_all`; `Write` where the writer failed. `Memory` where memory is refused.
+pub fn print_valid<R: Threads + Sync, W: Out>(
+    rt: &R,
     alloc: Global,
+    threads: usize,
     text: &[u8],
     proofs: &[u8],
     out: &mut W,
@@ -171,7 +207,7 @@ pub fn print_valid<W: Out>(
     ensures failures { OnOk result (W.failures out.new ≡ W.failures out.old) }
     ensures stopped { IfErr result (IsStopped (IsValidRefusal text.now proofs.now) (W.contents out.old) (W.contents out.new) (W.failures out.old) (W.failures out.new)) }
 {
-    valid(alloc, text, proofs)?;
+    valid_all(rt, alloc, threads, text, proofs)?;
     write_all(out, b"holds\n")?;
     Ok(())
 }

@@ -5,7 +5,7 @@ use rg_find::Unwatched;
 use rg_words::limits::{MOST_PROOF_BYTES, MOST_TEXT_BYTES};
 use rg_words::write_all;
 use rgc_line::{Line, LineFault};
-use rgc_perform::{Files, perform};
+use rgc_perform::{Files, Sides, perform};
 use rgc_row_data::{Answer, Given, writer};
 use std::alloc::{AllocError, Global};
 use std::sync::Wait;
@@ -51,6 +51,14 @@ fn usage(alloc: Global, fault: &LineFault) -> Result<Answer, AllocError> {
     })
 }
 
+/// The most threads for a command: those that it asks for, and else one.
+fn most_threads(line: &Line<'_>) -> usize {
+    match line.settings.threads {
+        Some(number) => usize::try_from(number).unwrap_or(usize::MAX),
+        None => 1,
+    }
+}
+
 /// The answer of a command.
 fn performed<R: Threads + Wait + Sync>(
     threads: &R,
@@ -68,22 +76,23 @@ fn performed<R: Threads + Wait + Sync>(
     };
     let mut out = writer(alloc);
     let mut faults = writer(alloc);
-    let mut written = Vec::new(alloc);
+    let mut sides = Sides::new(alloc);
     let status = perform(
         threads,
         alloc,
+        most_threads(line),
         line,
         &files,
         &mut out,
         &mut faults,
-        &mut Unwatched,
-        &mut written,
+        &Unwatched,
+        &mut sides,
     );
     Answer {
         status,
         out,
         faults,
-        written,
+        written: sides.first(&line.command),
     }
 }
 
@@ -94,7 +103,7 @@ pub(crate) fn answer_to<R: Threads + Wait + Sync>(
     words: &[&str],
     given: Given<'_>,
 ) -> Result<Answer, AllocError> {
-    match Line::read(alloc, words) {
+    match Line::read(alloc, words, 0) {
         Ok(line) => Ok(performed(threads, alloc, &line, given)),
         Err(fault) => usage(alloc, &fault),
     }

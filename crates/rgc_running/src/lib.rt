@@ -1,6 +1,8 @@
 //! A run of an accepted program: what it prints and what is told of it.
 #![tactic(auto)]
 
+mod json;
 mod running;
 
-pub use running::{RunFiles, print_run};
+pub use json::print_run_json;
+pub use running::{RunFiles, end_run, play_files, print_run};

@@ -18,12 +18,12 @@ use rg_runner::player::play;
 use rg_tree::moves::Move;
 use rg_tree::program::Program;
 use rg_words::{Layout, Out, Place, Refusal, RefusalNumber, SourceFile, State, write_all};
-use rgc::{Emitted, build};
+use rgc::{Emitted, build_all};
 use std::alloc::{AllocError, Global};
 use std::sync::Wait;
 use std::thread::Threads;
 
-/// What a run is made of: the bytes of its files, and how many steps parts may make; and whether it is drawn.
+/// What a run is made of: the bytes of its files, how many steps parts may make, and whether it is drawn.
 #[derive(Clone, Copy)]
 pub struct RunFiles<'a> {
     pub text: &'a [u8],
@@ -33,6 +33,8 @@ pub struct RunFiles<'a> {
     pub moves: Option<&'a [u8]>,
     pub limit: u64,
     pub is_drawn: bool,
+    /// The most threads in which conditions are looked at; the run itself has one for each part.
+    pub threads: usize,
 }
 
 /// The state at the start: the one that a start spells; without one each word is 0.
@@ -104,7 +106,11 @@ fn draw_run(
 
 /// Ends a run: it is drawn where that is asked, the line that says why it is over is printed, and the moves that were passed over are told.
 /// What can be refused comes first, so that of a run that is refused no move is told.
-fn end_run<W: Out, F: Out>(
+///
+/// # Errors
+///
+/// `Write` where the writer failed, `Memory` where memory is refused.
+pub fn end_run<W: Out, F: Out>(
     alloc: Global,
     program: &Program,
     closed: &Closed<'_>,
@@ -128,8 +134,12 @@ fn end_run<W: Out, F: Out>(
     Ok(())
 }
 
-/// Runs code from its start with its moves, and prints a line for each step.
-fn play_files<'e, R: Threads + Wait + Sync, W: Out>(
+/// Runs code from its start with its moves, and prints a line for each step. Of the files the start and the moves are read, and no other.
+///
+/// # Errors
+///
+/// As `print_run` from the start on.
+pub fn play_files<'e, R: Threads + Wait + Sync, W: Out>(
     rt: &R,
     alloc: Global,
     emitted: &'e Emitted,
@@ -183,7 +193,7 @@ fn print_emitted<R: Threads + Wait + Sync, W: Out, F: Out>(
 ///
 /// # Errors
 ///
-/// As `rgc::build`; then the first fault of the start, and that of the moves; then `Limit` for too many steps, and
+/// As `rgc::build_all`; then the first fault of the start, and that of the moves; then `Limit` for too many steps, and
 /// `StartOutsidePre`. `Write` where the writer failed, `Memory` where memory is refused, in any thread.
 pub fn print_run<R: Threads + Wait + Sync, W: Out, F: Out>(
     rt: &R,
@@ -199,6 +209,13 @@ pub fn print_run<R: Threads + Wait + Sync, W: Out, F: Out>(
     ensures failures { OnOk result (W.failures out.new ≡ W.failures out.old) }
     ensures quiet { OnErr result (F.failures faults.new ≡ F.failures faults.old) }
 {
-    let emitted = build(alloc, files.text, files.derivation, files.proofs)?;
+    let emitted = build_all(
+        rt,
+        alloc,
+        files.threads,
+        files.text,
+        files.derivation,
+        files.proofs,
+    )?;
     print_emitted(rt, alloc, &emitted, files, out, faults, picture)
 }

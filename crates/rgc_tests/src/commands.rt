@@ -99,6 +99,7 @@ const CONDITIONS: Printed = Printed {
     command: Command::Conditions {
         text: "text",
         derivation: "derivation",
+        has_formulas: false,
     },
     texts: PROGRAM,
     text: "pre true\n1 line 1 reach\n2 line 1 step\n3 line 1 pre stable\n4 line 1 post stable\n5 line 2 reach\n6 line 2 step\n7 line 2 pre stable\n8 line 2 post stable\n9 all pre a\n10 all pre b\n11 all rely a\n12 all rely b\n13 all guar b rely a\n14 all guar a rely b\n15 all guar a\n16 all guar b\n17 all post\n",

@@ -14,7 +14,7 @@ fn steps_of(command: Command<'_>) -> Option<u64> {
 
 /// The most decisions that the words ask for.
 fn steps_in(alloc: Global, words: &[&str]) -> Option<u64> {
-    match Line::read(alloc, words) {
+    match Line::read(alloc, words, 0) {
         Ok(line) => steps_of(line.command),
         Err(_) => None,
     }

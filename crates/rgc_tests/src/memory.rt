@@ -5,8 +5,8 @@ use rg_code::checked::Checked;
 use rg_find::Unwatched;
 use rg_words::{Device, RefusalNumber};
 use rgc::build;
-use rgc_line::Line;
-use rgc_perform::perform;
+use rgc_line::{Line, PLAIN};
+use rgc_perform::{Sides, perform};
 use std::alloc::Global;
 use std::sync::Wait;
 use std::test::Fail;
@@ -24,18 +24,20 @@ fn is_printed_or_told(text: &str, status: u8, out: &[u8], faults: &[u8]) -> bool
 fn prints_or_tells<R: Threads + Wait + Sync>(rt: &R, alloc: Global, row: &Printed) -> bool {
     let line = Line {
         command: row.command,
+        settings: PLAIN,
     };
     let mut out = [0u8; 600];
     let mut faults = [0u8; 100];
     let status = perform(
         rt,
         alloc,
+        2,
         &line,
         &row.texts.files(),
         &mut Device::new(out.as_mut_slice()),
         &mut Device::new(faults.as_mut_slice()),
-        &mut Unwatched,
-        &mut Vec::new(alloc),
+        &Unwatched,
+        &mut Sides::new(alloc),
     );
     is_printed_or_told(row.text, status, out.as_slice(), faults.as_slice())
 }

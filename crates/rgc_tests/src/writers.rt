@@ -3,8 +3,8 @@
 use crate::commands::{Printed, rows};
 use rg_find::Unwatched;
 use rg_words::{Fuse, Out, Taker};
-use rgc_line::{Command, Line};
-use rgc_perform::{Files, perform};
+use rgc_line::{Command, Line, PLAIN};
+use rgc_perform::{Files, Sides, perform};
 use std::alloc::Global;
 use std::sync::Wait;
 use std::test::Fail;
@@ -29,18 +29,20 @@ fn tells_a_failure<R: Threads + Wait + Sync>(
 ) -> bool {
     let line = Line {
         command: row.command,
+        settings: PLAIN,
     };
     let mut out = Fuse::new(Taker::new(alloc, 1), kept as u64);
     let mut faults = Taker::new(alloc, 1);
     let status = perform(
         rt,
         alloc,
+        1,
         &line,
         &row.texts.files(),
         &mut out,
         &mut faults,
-        &mut Unwatched,
-        &mut Vec::new(alloc),
+        &Unwatched,
+        &mut Sides::new(alloc),
     );
     tells_what_went_out(row.text, kept, status, out.inner().bytes(), faults.bytes())
 }
@@ -66,6 +68,7 @@ fn status_past_faults<R: Threads + Wait + Sync>(
             text: "text",
             chosen: None,
         },
+        settings: PLAIN,
     };
     let files = Files {
         text,
@@ -79,12 +82,13 @@ fn status_past_faults<R: Threads + Wait + Sync>(
     let status = perform(
         rt,
         alloc,
+        1,
         &line,
         &files,
         &mut out,
         &mut faults,
-        &mut Unwatched,
-        &mut Vec::new(alloc),
+        &Unwatched,
+        &mut Sides::new(alloc),
     );
     if out.bytes().is_empty() && faults.inner().bytes().len() == 4 {
         return Some(status);

@@ -8,6 +8,7 @@ use Rattle.rg_tree.specs.Statements.{ProgramTree}
 use Rattle.rg_tree.specs.Programs.{IsSatisfied}
 use Rattle.rgc.specs.Accepted.{conditions_of, AreAccepted}
 use Rattle.rgc.specs.Chosen.{AreDerived}
+use Rattle.rgc_walked.specs.Refuted.{IsRefuted}
 use Rattle.rgc_verify.specs.declared.verdict.Form.{Form}
 use Rattle.rgc_verify.specs.declared.verdict.Form.TheVariants.{Alone, Named, Json}
 
@@ -59,3 +60,11 @@ pub record HasPrintedVerdict (form : Form) (old new : Option (List ℕ)) : Type 
 -- the same as a line to be read
 abbrev pub HasPrintedVerified : Option (List ℕ) → Option (List ℕ) → Type 0
 HasPrintedVerified old new = HasPrintedVerdict Alone old new
+
+-- some text spells a program that doesn't satisfy its specification
+abbrev pub HasBreakingRun : Type 0
+HasBreakingRun = (text : List ℕ) × IsRefuted text
+
+-- what a walk found went out
+abbrev pub HasPrintedRuns : Option (List ℕ) → Option (List ℕ) → Type 0
+HasPrintedRuns old new = (told : List ℕ) × Appends old new told

@@ -1,12 +1,15 @@
-//! Outlines: what they stand for, and whether it is proved.
+//! Outlines: what they stand for, whether it is proved, and whether a run breaks it.
 #![tactic(auto)]
 
 mod outline;
 mod outlines;
+mod runs;
 mod verdict;
 mod verify;
 
 pub use outline::{print_map, print_outline};
-pub use outlines::{NoVerdict, print_unproved, verify_outline};
+pub use outlines::verify_outline;
+pub use rgc_walked::NoVerdict;
+pub use runs::runs_only;
 pub use verdict::Form;
 pub use verify::print_verified;

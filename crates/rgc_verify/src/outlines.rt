@@ -4,54 +4,20 @@ ghost use Rattle.std.specs.Prelude.{◌≡◌, IsTrue, IfOk, OnOk};
 ghost use Rattle.rg_words.specs.Written.{CanCount};
 ghost use Rattle.rgc_verify.specs.Verified.{HasPrintedVerdict};
 
-use crate::verdict::Form;
+use crate::verdict::{Form, push_name};
 use crate::verify::print_verified;
 use rg_find::{Judged, Unwatched, Watcher};
 use rg_outline_files::{
     Failed, Failing, NoFiles, OutlineFiles, OutlineSource, failures_told, warnings_told,
 };
-use rg_words::{Out, Refusal, WriteFault, write_all};
+use rg_words::{Out, State, write_all};
 use rgc::{Unproved, find};
+use rgc_walked::{NoVerdict, tell_walk};
 use std::alloc::{AllocError, Global};
+use std::thread::Threads;
 
 /// The most decisions of the search for a state that meets a pre.
 const MOST_STEPS_FOR_PRE: u64 = 1_000;
-
-/// Why it isn't said whether an outline is verified.
-#[derive(Drop)]
-pub enum NoVerdict {
-    /// The outline is refused; what tells its first fault.
-    Outline(Vec<u8>),
-    /// Its files are refused, or the output, or memory.
-    Refused(Refusal),
-}
-
-impl From<NoFiles> for NoVerdict {
-    fn from(none: NoFiles) -> NoVerdict {
-        match none {
-            NoFiles::Told(lines) => NoVerdict::Outline(lines),
-            NoFiles::Memory => NoVerdict::Refused(Refusal::from(AllocError)),
-        }
-    }
-}
-
-impl From<WriteFault> for NoVerdict {
-    fn from(fault: WriteFault) -> NoVerdict {
-        NoVerdict::Refused(Refusal::from(fault))
-    }
-}
-
-impl From<AllocError> for NoVerdict {
-    fn from(fault: AllocError) -> NoVerdict {
-        NoVerdict::Refused(Refusal::from(fault))
-    }
-}
-
-impl From<Refusal> for NoVerdict {
-    fn from(refusal: Refusal) -> NoVerdict {
-        NoVerdict::Refused(refusal)
-    }
-}
 
 /// What is known of a condition without a proof, as it is told of an outline.
 fn failing(judged: &Judged) -> Failing<'_> {
@@ -74,22 +40,64 @@ fn failed_of(alloc: Global, unproved: &[Unproved]) -> Result<Vec<Failed<'_>>, Al
     Ok(failed)
 }
 
-/// Tells on the output which conditions of an outline have no proof.
-///
-/// # Errors
-///
-/// As `verify_outline`.
-pub fn print_unproved<W: Out>(
+/// What is told of the conditions of an outline that have no proof.
+fn conditions_told(
     alloc: Global,
     outline: OutlineSource<'_>,
     unproved: &[Unproved],
+) -> Result<Vec<u8>, NoFiles> {
+    let failed = failed_of(alloc, unproved)?;
+    failures_told(alloc, outline, &failed)
+}
+
+/// The values of the words of a state, in their order.
+fn values_of(alloc: Global, state: &State) -> Result<Vec<u64>, AllocError> {
+    let mut values = Vec::new(alloc);
+    for word in 0..state.len() {
+        values.push(state.get(word))?;
+    }
+    Ok(values)
+}
+
+/// The states at which conditions fail.
+fn states_of(alloc: Global, unproved: &[Unproved]) -> Result<Vec<Vec<u64>>, AllocError> {
+    let mut states = Vec::new(alloc);
+    for one in unproved {
+        if let Judged::Fails(state, _) = &one.judged {
+            states.push(values_of(alloc, state)?)?;
+        }
+    }
+    Ok(states)
+}
+
+/// Adds what a walk of an outline finds, whose conditions fail at some states.
+fn push_walk(
+    alloc: Global,
+    outline: OutlineSource<'_>,
+    files: &OutlineFiles,
+    unproved: &[Unproved],
+    told: &mut Vec<u8>,
+) -> Result<(), NoVerdict> {
+    let states = states_of(alloc, unproved)?;
+    let _ = tell_walk(alloc, outline, files, &states, told)?;
+    Ok(())
+}
+
+/// Tells on the output which conditions of an outline have no proof, and then a run that breaks its specification, or that none was found.
+fn print_unproved<W: Out>(
+    alloc: Global,
+    outline: OutlineSource<'_>,
+    files: &OutlineFiles,
+    unproved: &[Unproved],
+    form: Form<'_>,
     out: &mut W,
 ) -> Result<(), NoVerdict>
     requires { CanCount (W.failures out.old) }
     ensures failures { OnOk result (W.failures out.new ≡ W.failures out.old) }
 {
-    let failed = failed_of(alloc, unproved)?;
-    let told = failures_told(alloc, outline, &failed)?;
+    let mut told = conditions_told(alloc, outline, unproved)?;
+    push_name(form, &mut told)?;
+    push_walk(alloc, outline, files, unproved, &mut told)?;
     write_all(out, &told)?;
     Ok(())
 }
@@ -114,20 +122,23 @@ fn push_warnings(
     Ok(())
 }
 
-/// Prints how many conditions of an outline were proved, in this form; else tells which aren't, and answers false. Its warnings are put behind what
-/// `warnings` holds; they change no answer.
+/// Prints how many conditions of an outline were proved, in this form; else tells which aren't, and a run that breaks the specification or
+/// that none was found, and answers false. Proofs are looked for and checked in at most so many threads, each search with a copy of the
+/// watcher. The outline's warnings are put behind what `warnings` holds; they change no answer.
 ///
 /// # Errors
 ///
 /// - `NoVerdict::Outline` where the outline is refused, with what tells its first fault.
 /// - `NoVerdict::Refused` as `print_verified`.
-pub fn verify_outline<W: Out, P: Watcher>(
+pub fn verify_outline<R: Threads + Sync, W: Out, P: Watcher + Copy + Sync>(
+    rt: &R,
     alloc: Global,
+    threads: usize,
     outline: OutlineSource<'_>,
     form: Form<'_>,
     steps: u64,
     out: &mut W,
-    watcher: &mut P,
+    watcher: &P,
     warnings: &mut Vec<u8>,
 ) -> Result<bool, NoVerdict>
     requires { CanCount (W.failures out.old) }
@@ -137,10 +148,10 @@ pub fn verify_outline<W: Out, P: Watcher>(
 {
     let files = OutlineFiles::of(alloc, outline)?;
     push_warnings(alloc, outline, &files, warnings)?;
-    match print_verified(alloc, &files, steps, form, out, watcher)? {
+    match print_verified(rt, alloc, threads, &files, steps, form, out, watcher)? {
         None => Ok(true),
         Some(unproved) => {
-            print_unproved(alloc, outline, &unproved, out)?;
+            print_unproved(alloc, outline, &files, &unproved, form, out)?;
             Ok(false)
         }
     }

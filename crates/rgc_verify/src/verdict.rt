@@ -8,7 +8,7 @@ ghost use Rattle.rgc_verify.specs.Verified.{verdict_data, verdict_text, verified
 use serde_json::{Value, json};
 use std::alloc::{AllocError, Global};
 
-/// How it is said that an outline is verified.
+/// How it is said whether an outline is verified, or whether a run breaks it.
 #[derive(Clone, Copy)]
 pub enum Form<'a> {
     /// A line to be read.
@@ -91,4 +91,13 @@ pub(crate) fn verdict_line(
         Form::Named(name) => named_counts(alloc, name, conditions, found),
         Form::Json(name) => counts_line(alloc, name, conditions, found),
     }
+}
+
+/// Adds the outline's name where its lines begin with it.
+pub(crate) fn push_name(form: Form<'_>, told: &mut Vec<u8>) -> Result<(), AllocError> {
+    if let Form::Named(name) = form {
+        told.extend_from_slice(name.as_bytes())?;
+        told.extend_from_slice(b": ")?;
+    }
+    Ok(())
 }

@@ -10,8 +10,9 @@ use crate::verdict::{Form, verdict_line};
 use rg_find::Watcher;
 use rg_outline_files::OutlineFiles;
 use rg_words::{Out, Refusal, write_all};
-use rgc::{Derived, ProofsFound, Unproved, derive_program, find_proofs};
+use rgc::{Derived, ProofsFound, Unproved, derive_program, find_proofs_all};
 use std::alloc::Global;
+use std::thread::Threads;
 
 /// How many sections a proofs file has: each has one `s`, in its head.
 fn sections_in(proofs: &[u8]) -> usize {
@@ -19,8 +20,10 @@ fn sections_in(proofs: &[u8]) -> usize {
 }
 
 /// Prints how many conditions were proved, where the proofs prove them all.
-fn print_counts<W: Out>(
+fn print_counts<R: Threads + Sync, W: Out>(
+    rt: &R,
     alloc: Global,
+    threads: usize,
     derived: Derived,
     proofs: &[u8],
     form: Form<'_>,
@@ -31,33 +34,36 @@ fn print_counts<W: Out>(
     ensures failures { OnOk result (W.failures out.new ≡ W.failures out.old) }
 {
     let conditions = derived.conditions(alloc)?.len();
-    derived.prove(alloc, proofs)?;
+    derived.prove_all(rt, alloc, threads, proofs)?;
     let line = verdict_line(alloc, form, conditions, sections_in(proofs))?;
     write_all(out, line.as_bytes())?;
     Ok(())
 }
 
 /// Prints how many conditions of an outline's program were proved; else the conditions for which there is no proof, and then nothing is printed.
+/// Proofs are looked for and checked in at most so many threads, each search with a copy of the watcher.
 ///
 /// # Errors
 ///
-/// As `print_outline`; then as `rgc::find_proofs`.
-pub fn print_verified<W: Out, P: Watcher>(
+/// As `print_outline`; then as `rgc::find_proofs_all`.
+pub fn print_verified<R: Threads + Sync, W: Out, P: Watcher + Copy + Sync>(
+    rt: &R,
     alloc: Global,
+    threads: usize,
     files: &OutlineFiles,
     steps: u64,
     form: Form<'_>,
     out: &mut W,
-    watcher: &mut P,
+    watcher: &P,
 ) -> Result<Option<Vec<Unproved>>, Refusal>
     requires { CanCount (W.failures out.old) }
     ensures printed { IfOk result (λ unproved. unproved ≡ None → HasPrintedVerdict form.entry (W.contents out.old) (W.contents out.new)) }
     ensures failures { OnOk result (W.failures out.new ≡ W.failures out.old) }
 {
     let derived = derive_program(alloc, &files.text, &files.derivation)?;
-    match find_proofs(alloc, &derived, steps, watcher)? {
+    match find_proofs_all(rt, alloc, threads, &derived, steps, watcher)? {
         ProofsFound::Proofs(proofs) => {
-            print_counts(alloc, derived, proofs.as_bytes(), form, out)?;
+            print_counts(rt, alloc, threads, derived, proofs.as_bytes(), form, out)?;
             Ok(None)
         }
         ProofsFound::Failures(unproved) => Ok(Some(unproved)),

@@ -1,24 +1,30 @@
 -- The rows of the table as the code has them.
-use Rattle.std.specs.Prelude.{◌≡◌, ℕ, Option, Some, None, List, [], ◌∷◌, map, false, option_map, zero, suc}
+use Rattle.std.specs.Prelude.{◌≡◌, Option, List, [], ◌∷◌, map, false, option_map, Some, None}
 use Rattle.std.specs.Borrow.{Bor}
 use Rattle.clap.specs.Words.{App, Rule, Row as Given, Shape, Text, app_of, first_of, with_subcommand}
 use Rattle.clap.specs.declared.builder.command.Command.{Command}
 use Rattle.clap.specs.declared.builder.command.Command.TheViews.{out-Command}
-use Rattle.rgc_line.specs.App.{file_rule, option_rule, number_rule, needed_rule, default_rule, leaf, row_of, chosen_derivation, chosen_condition}
-use Rattle.rgc_line.specs.Line.{HasFile, HasNumber, HasNo}
+use Rattle.rgc_line.specs.App.{file_rule, place_rule, files_rule, option_rule, number_rule, needed_rule, default_rule, flag_rule, leaf, row_of, chosen_derivation, chosen_condition}
+use Rattle.rgc_line.specs.Line.{HasFile, HasNumber, HasNo, HasValues, contents_of}
+use Rattle.rgc_line.specs.declared.command.Command.{Command as RgCommand}
+use Rattle.rgc_line.specs.declared.commands.Kind.{Kind}
 use Rattle.rgc_line.specs.declared.command.Chosen.{Chosen}
 use Rattle.rgc_line.specs.declared.commands.Field.{Field}
 use Rattle.rgc_line.specs.declared.commands.Row.{Row}
 use Rattle.rgc_line.specs.declared.commands.Form.{Form}
-use Rattle.rgc_line.specs.declared.commands.Form.TheVariants.{File, OptionalFile, OptionalNumber, NeededNumber, NumberOrMillion}
+use Rattle.rgc_line.specs.declared.commands.Form.TheVariants.{File, Place, Files, OptionalFile, OptionalText, OptionalNumber, NeededNumber, NumberOrMillion, Flag}
 
 -- the argument of a form and an id
 abbrev pub rule_of_form : Form → Text → Rule
 rule_of_form File id = file_rule id
+rule_of_form Place id = place_rule id
+rule_of_form Files id = files_rule id
 rule_of_form OptionalFile id = option_rule id
+rule_of_form OptionalText id = option_rule id
 rule_of_form OptionalNumber id = number_rule id
 rule_of_form NeededNumber id = needed_rule id
 rule_of_form NumberOrMillion id = default_rule id
+rule_of_form Flag id = flag_rule id
 
 -- the argument that a field is
 abbrev pub rule_at : Field → Rule
@@ -49,11 +55,9 @@ IsTable rows = map shape_at rows ≡ map (λ row. row_of row.kind) rows
 abbrev pub IsNamed : Text → Row → Type 0
 IsNamed name row = (row.name.now ≡ name) × IsListed row
 
--- the id of the argument at a place, counted from 0
-abbrev pub id_at : List Rule → ℕ → Text
-id_at [] place = []
-id_at (rule ∷ rest) zero = rule.id
-id_at (rule ∷ rest) (suc place) = id_at rest place
+-- the command is of this kind, and the matches have its values
+abbrev pub Reads : Kind → List Given → RgCommand → Type 0
+Reads kind rows command = ((contents_of command).kind ≡ kind) × HasValues rows (row_of kind).rules (contents_of command).values
 
 -- the file of this id is the one that the words name, and none where they name none
 abbrev pub HasOption : List Given → Text → Option (Bor Text) → Type 0

@@ -1,18 +1,18 @@
 use Rattle.std.proofs.lemmas.Result.{IfOk-weaker}
 use Rattle.rgc.specs.Stages.{derived_program, derived_lines}
+use Rattle.rgc_print.proofs.Found.{proofs_of_all, told_of_all}
 use Rattle.rgc_print.proofs.printed.print_proofs.Goals as goal
 
 pub returns-clause-printed : goal.returns-clause-printed
 returns-clause-printed g c =
-    IfOk-weaker c.print_proofs_of.result _ _
-    (λ _ went found.
-    let p = went found in
-    record {
-      program = derived_program c.in_ok-derived.derived;
-      lines = derived_lines c.in_ok-derived.derived;
-      derived = c.in_ok-derived.ensures.derived;
-      proofs = p.0;
-      proved = p.1;
-      printed = p.2;
-    })
-    c.print_proofs_of.ensures.printed
+    let derived = c.in_ok-derived.derived in
+    IfOk-weaker c.print_search.result _ _
+    (λ _ went is. proofs_of_all _ _ (derived_program derived) (derived_lines derived) c.in_ok-found.found _ _ c.in_ok-derived.ensures.derived c.in_ok-found.ensures (went is))
+    c.print_search.ensures.printed
+
+pub returns-clause-told : goal.returns-clause-told
+returns-clause-told g c =
+    let derived = c.in_ok-derived.derived in
+    IfOk-weaker c.print_search.result _ _
+    (λ _ went is. told_of_all _ _ (derived_program derived) (derived_lines derived) c.in_ok-found.found _ _ c.in_ok-derived.ensures.derived c.in_ok-found.ensures (went is))
+    c.print_search.ensures.told

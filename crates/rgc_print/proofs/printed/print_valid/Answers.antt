@@ -3,7 +3,7 @@ use Rattle.rgc_print.proofs.Cuts.{refused_stops}
 use Rattle.rgc.specs.Valid.{IsValidRefusal}
 use Rattle.rgc_print.proofs.printed.print_valid.Goals as goal
 
-pub returns-in_err-valid-clause-stopped : goal.returns-in_err-valid-clause-stopped
-returns-in_err-valid-clause-stopped g c =
+pub returns-in_err-valid_all-clause-stopped : goal.returns-in_err-valid_all-clause-stopped
+returns-in_err-valid_all-clause-stopped g c =
     let p = err_from_is_err_and c.from_residual.result c.from_residual.ensures.1 in
-    rw (p.1, p.2) (refused_stops (IsValidRefusal c.args.text.now c.args.proofs.now) _ _ _ c.in_err-valid.ensures.refused)
+    rw (p.1, p.2) (refused_stops (IsValidRefusal c.args.text.now c.args.proofs.now) _ _ _ c.in_err-valid_all.ensures.refused)

@@ -20,8 +20,8 @@ returns-clause-printed g c =
     let len : c.len-conditions.result ≡ length items = search rules in
     let count : c.len-conditions.result ≡ length asked = len ∙ sym (length-map items condition_tree) ∙ same in
     record {
-      proved = c.in_ok-prove.ensures.proved;
-      satisfied = subst (λ (p : ProgramTree). IsSatisfied p) c.in_ok-prove.ensures.program c.in_ok-prove.ensures.satisfied;
+      proved = c.in_ok-prove_all.ensures.proved;
+      satisfied = subst (λ (p : ProgramTree). IsSatisfied p) c.in_ok-prove_all.ensures.program c.in_ok-prove_all.ensures.satisfied;
       found = found;
       printed = subst (λ (t : List ℕ). Appends (g.W.Out.contents c.args.out.now) (g.W.Out.contents c.write_all.new.out) t) (line ∙ ap (λ (n : ℕ). verdict_text c.args.form n found) count) c.in_ok-write_all.ensures.0;
     }

@@ -1,0 +1,34 @@
+-- What is said of the text of a changed program.
+use Rattle.std.specs.Prelude.{ℕ, List}
+use Rattle.rg_tree.specs.Statements.{ProgramTree}
+use Rattle.rg_tree.specs.Programs.{IsSatisfied}
+use Rattle.rg_parse.specs.Programs.{SpellsProgram}
+use Rattle.rgc.specs.Accepted.{AreAccepted}
+use Rattle.rgc_challenge.specs.declared.answers.Answer.{Answer}
+use Rattle.rgc_challenge.specs.declared.answers.Answer.TheVariants.{Survives, Breaks, Unfit, Undecided}
+use Rattle.rgc_challenge.specs.declared.answers.Answered.{Answered}
+
+-- the text, some derivation and some proofs are accepted for a program, which therefore satisfies its specification
+pub record IsProvedText (text : List ℕ) : Type 0 where
+  pub derivation : List ℕ
+  pub proofs : List ℕ
+  pub program : ProgramTree
+  pub accepted : AreAccepted text derivation proofs program
+  pub satisfied : IsSatisfied program
+
+-- the text spells a program that doesn't satisfy its specification
+pub record IsRefutedText (text : List ℕ) : Type 0 where
+  pub program : ProgramTree
+  pub spells : SpellsProgram text program
+  pub unsatisfied : IsSatisfied program → ⊥
+
+-- what is said of a text is so; where only the assertions don't fit, or it is undecided, that says nothing
+abbrev pub IsSaid : List ℕ → Answer → Type 0
+IsSaid text Survives = IsProvedText text
+IsSaid text Breaks = IsRefutedText text
+IsSaid text Unfit = Unit {0}
+IsSaid text Undecided = Unit {0}
+
+-- what is said of the text of a changed program is so
+abbrev pub IsAnswered : Answered → Type 0
+IsAnswered a = IsSaid a.text.items a.answer

@@ -1,0 +1,11 @@
+//! What is proved by an outline: its program is changed in each small way, and each changed program is proved, or walked.
+#![tactic(auto)]
+
+mod answers;
+mod asked;
+mod challenges;
+mod told;
+
+pub use answers::{Answer, Answered};
+pub use asked::{is_proved, walk_text};
+pub use challenges::{Options, challenge};

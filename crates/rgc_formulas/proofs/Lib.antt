@@ -1,0 +1,4 @@
+pub mod Assigned
+pub mod Equal
+pub mod Fitting
+pub mod Written

@@ -1,0 +1,41 @@
+-- Lines of items, one after another.
+use Rattle.std.proofs.Common.{◌≡◌, ◌<◌, ◌+◌, ◌∙◌, ℕ, zero, suc, List, [], ◌∷◌, length, map, take, get_or, Option, String, Global, refl, ap, sym, subst, arith}
+use Rattle.std.specs.List.{flat_map}
+use Rattle.std.specs.Prelude.{string_bytes}
+use Rattle.std.specs.Io.KnownBytes.{Appends}
+use Rattle.rg_words.specs.Layout.{Word}
+use Rattle.rg_words.proofs.Written.{appends_both, items_more}
+use Rattle.rg_tree.specs.Statements.{PartTree}
+use Rattle.rg_tree.specs.declared.numbered.Numbered.{Numbered}
+use Rattle.rgc.specs.declared.proofs_found.Unproved.{Unproved}
+use Rattle.rgc_print.specs.Numbers.{part_name}
+use Rattle.rgc_json.specs.Lines.{json_line}
+use Rattle.rgc_json.specs.Numbers.{statement_data, statement_lines}
+use Rattle.rgc_json.specs.Proofs.{name_at, unproved_data, unproved_lines}
+
+module _ (old middle new : Option (List ℕ)) where
+  -- the texts of some items went out, and that of the next
+  pub item_goes : {X : Type 0} (f : X → List ℕ) (xs : List X) (i : ℕ) (d : X) (text : List ℕ) → i < length xs → Appends old middle (flat_map f (take i xs)) → text ≡ f (get_or xs i d) → Appends middle new text → Appends old new (flat_map f (take (i + 1) xs))
+  item_goes f xs i d text within went is next =
+      subst (λ (t : List ℕ). Appends old new t) (sym (items_more f xs i d within))
+      (appends_both old middle new (flat_map f (take i xs)) (f (get_or xs i d)) went (subst (λ (t : List ℕ). Appends middle new t) is next))
+
+  -- lines of statements, and the next one
+  pub statement_goes : (parts : List PartTree) (statements : List Numbered) (i : ℕ) (d : Numbered) (name : List ℕ) → i < length statements → Appends old middle (statement_lines parts (take i statements)) → name ≡ part_name parts (get_or statements i d).part
+      → Appends middle new (json_line (statement_data name (get_or statements i d))) → Appends old new (statement_lines parts (take (i + 1) statements))
+  statement_goes parts statements i d name within went named next =
+      item_goes (λ (s : Numbered). json_line (statement_data (part_name parts s.part) s)) statements i d _ within went
+      (ap (λ (n : List ℕ). json_line (statement_data n (get_or statements i d))) named) next
+
+  -- lines of conditions without a proof, and the next one
+  pub unproved_goes : (words : List Word) (names : List (List ℕ)) (us : List Unproved) (i : ℕ) (u : Unproved) (name : List ℕ) → i < length us → u ≡ get_or us i u → Appends old middle (unproved_lines words names (take i us)) → name ≡ name_at names u.number
+      → Appends middle new (json_line (unproved_data words name u)) → Appends old new (unproved_lines words names (take (i + 1) us))
+  unproved_goes words names us i u name within at went named next =
+      item_goes (λ (v : Unproved). json_line (unproved_data words (name_at names v.number) v)) us i u _ within went
+      (ap (λ (n : List ℕ). json_line (unproved_data words n u)) named ∙ ap (λ (v : Unproved). json_line (unproved_data words (name_at names v.number) v)) at) next
+
+-- the name at a place
+pub name_at_place : (names : List (String Global)) (i : ℕ) (s : String Global) → i < length names → s ≡ get_or names i s → name_at (map string_bytes names) (suc i) ≡ string_bytes s
+name_at_place [] i s less at = absurd (omega arith)
+name_at_place (n ∷ names) zero s less at = subst (λ (x : String Global). string_bytes n ≡ string_bytes x) (sym at) refl
+name_at_place (n ∷ names) (suc i) s less at = name_at_place names i s (omega arith) at

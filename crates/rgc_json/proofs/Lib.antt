@@ -1,0 +1,5 @@
+pub mod Floats
+pub mod ConditionLines
+pub mod Values
+pub mod Items
+pub mod Found

@@ -1,0 +1,51 @@
+-- What was written of an outline.
+use Rattle.std.specs.Prelude.{◌≡◌, ℕ, List, ◌++◌, Bool, true, false, Option}
+use Rattle.std.specs.Io.KnownBytes.{Appends}
+use Rattle.rg_tree.specs.Lines.{LineTree}
+use Rattle.rg_tree.specs.Statements.{ProgramTree}
+use Rattle.rg_hints.specs.Proved.{AreProved}
+use Rattle.rgc.specs.declared.proofs_found.ProofsFound.{ProofsFound}
+use Rattle.rgc.specs.Accepted.{conditions_of}
+use Rattle.rgc.specs.Chosen.{AreDerived}
+use Rattle.rgc.specs.Proofs.{AreFoundFor}
+use Rattle.rgc_outlined.specs.declared.write.Wanted.{Wanted}
+use Rattle.rgc_outlined.specs.declared.write.Sides.{Sides}
+
+-- a file was put behind what was there, where it is wanted
+abbrev pub IsPut : Bool → List ℕ → List ℕ → List ℕ → Type 0
+IsPut true file old new = new ≡ old ++ file
+IsPut false file old new = new ≡ old
+
+-- a text went out where it isn't put beside the output; else nothing did
+abbrev pub IsPrinted : Bool → List ℕ → Option (List ℕ) → Option (List ℕ) → Type 0
+IsPrinted true text old new = new ≡ old
+IsPrinted false text old new = Appends old new text
+
+-- each of these three that is wanted was put, and the text went out where it isn't
+pub record HasPut (text derivation proofs : List ℕ) (wanted : Wanted) (before after : Sides) (old new : Option (List ℕ)) : Type 0 where
+  pub text_put : IsPut wanted.has_text text before.text.items after.text.items
+  pub derivation_put : IsPut wanted.has_derivation derivation before.derivation.items after.derivation.items
+  pub proofs_put : IsPut wanted.has_proofs proofs before.proofs.items after.proofs.items
+  pub printed : IsPrinted wanted.has_text text old new
+
+-- what was found where proofs are wanted
+abbrev pub AreFoundWhere : Bool → ProgramTree → List LineTree → ProofsFound → Type 0
+AreFoundWhere true program lines found = AreFoundFor program lines found
+AreFoundWhere false program lines found = Unit {0}
+
+-- the proofs prove all conditions, where they are wanted
+abbrev pub AreProvedWhere : Bool → ProgramTree → List LineTree → List ℕ → Type 0
+AreProvedWhere true program lines proofs = AreProved (conditions_of program lines) proofs
+AreProvedWhere false program lines proofs = Unit {0}
+
+-- a text spells a program, whose parts a derivation derives, and proofs prove its conditions; what is wanted of them was put, and the text went out where it
+-- isn't
+pub record HasWritten (wanted : Wanted) (before after : Sides) (old new : Option (List ℕ)) : Type 0 where
+  pub text : List ℕ
+  pub derivation : List ℕ
+  pub proofs : List ℕ
+  pub program : ProgramTree
+  pub lines : List LineTree
+  pub derived : AreDerived text derivation program lines
+  pub proved : AreProvedWhere wanted.has_proofs program lines proofs
+  pub put : HasPut text derivation proofs wanted before after old new

@@ -1,0 +1,173 @@
+//! The files that an outline stands for, written out.
+
+ghost use Rattle.std.specs.Prelude.{◌≡◌, IsTrue, IfOk, OnOk};
+ghost use Rattle.rg_words.specs.Written.{CanCount};
+ghost use Rattle.rgc.specs.Stages.{derived_program, derived_lines};
+ghost use Rattle.rgc_outlined.specs.Written.{IsPut, IsPrinted, HasPut, AreFoundWhere, HasWritten};
+
+use crate::stop::NotDone;
+use crate::told::print_unproved;
+use rg_find::Watcher;
+use rg_outline_files::{OutlineFiles, OutlineSource, outline_map};
+use rg_words::{Out, Refusal, write_all};
+use rgc::{Derived, ProofsFound, derive_program, find_proofs_all};
+use std::alloc::{AllocError, Global};
+use std::thread::Threads;
+
+/// Which files are wanted beside the output.
+#[derive(Clone, Copy)]
+pub struct Wanted {
+    /// The program; it goes to the output where it isn't wanted beside it.
+    pub has_text: bool,
+    /// The lines that derive its parts.
+    pub has_derivation: bool,
+    /// The proofs of all conditions.
+    pub has_proofs: bool,
+    /// Which place of the outline each line of the derivation and each condition comes from.
+    pub has_map: bool,
+}
+
+/// The bytes of the files that are wanted beside the output.
+#[derive(Drop)]
+pub struct Sides {
+    pub text: Vec<u8>,
+    pub derivation: Vec<u8>,
+    pub proofs: Vec<u8>,
+    pub map: Vec<u8>,
+}
+
+impl Sides {
+    /// Files without bytes.
+    pub fn new(alloc: Global) -> Sides {
+        Sides {
+            text: Vec::new(alloc),
+            derivation: Vec::new(alloc),
+            proofs: Vec::new(alloc),
+            map: Vec::new(alloc),
+        }
+    }
+}
+
+/// Puts a file behind what is there, where it is wanted.
+fn put_one(is_wanted: bool, file: &[u8], side: &mut Vec<u8>) -> Result<(), AllocError>
+    ensures { OnOk result (IsPut is_wanted file.now side.old.items side.new.items) }
+{
+    if is_wanted {
+        side.extend_from_slice(file)?;
+    }
+    Ok(())
+}
+
+/// Prints the text where it isn't put beside the output.
+fn print_text<W: Out>(is_put: bool, text: &[u8], out: &mut W) -> Result<(), Refusal>
+    requires { CanCount (W.failures out.old) }
+    ensures printed { OnOk result (IsPrinted is_put text.now (W.contents out.old) (W.contents out.new)) }
+    ensures failures { OnOk result (W.failures out.new ≡ W.failures out.old) }
+{
+    if !is_put {
+        write_all(out, text)?;
+    }
+    Ok(())
+}
+
+/// Puts the files that are wanted behind what is there, and prints the text where it isn't wanted so.
+fn put<W: Out>(
+    files: &OutlineFiles,
+    proofs: &[u8],
+    map: &[u8],
+    wanted: Wanted,
+    out: &mut W,
+    sides: &mut Sides,
+) -> Result<(), Refusal>
+    requires { CanCount (W.failures out.old) }
+    ensures put { OnOk result (HasPut files.now.text.items files.now.derivation.items proofs.now wanted sides.old sides.new (W.contents out.old) (W.contents out.new)) }
+    ensures failures { OnOk result (W.failures out.new ≡ W.failures out.old) }
+{
+    put_one(wanted.has_text, &files.text, &mut sides.text)?;
+    put_one(
+        wanted.has_derivation,
+        &files.derivation,
+        &mut sides.derivation,
+    )?;
+    put_one(wanted.has_proofs, proofs, &mut sides.proofs)?;
+    put_one(wanted.has_map, map, &mut sides.map)?;
+    print_text(wanted.has_text, &files.text, out)
+}
+
+/// Looks for proofs where they are wanted; else there are none.
+fn proofs_where<R: Threads + Sync, P: Watcher + Copy + Sync>(
+    rt: &R,
+    alloc: Global,
+    threads: usize,
+    derived: &Derived,
+    is_wanted: bool,
+    steps: u64,
+    watcher: &P,
+) -> Result<ProofsFound, Refusal>
+    ensures { IfOk result (AreFoundWhere is_wanted (derived_program derived.now) (derived_lines derived.now)) }
+{
+    if is_wanted {
+        return find_proofs_all(rt, alloc, threads, derived, steps, watcher);
+    }
+    Ok(ProofsFound::Proofs(String::new(alloc)))
+}
+
+/// The map of an outline where it is wanted; else nothing.
+fn map_where(
+    alloc: Global,
+    outline: OutlineSource<'_>,
+    is_wanted: bool,
+) -> Result<Vec<u8>, NotDone> {
+    if is_wanted {
+        return Ok(outline_map(alloc, outline)?);
+    }
+    Ok(Vec::new(alloc))
+}
+
+/// Puts the files that an outline stands for behind what is there, those that are wanted, and prints the program's text where it isn't
+/// wanted so. Proofs are looked for only where they are wanted, in at most so many threads, each search with a copy of the watcher; they prove all
+/// conditions. Where they aren't found, it is told on the output which conditions have none, no file is put, and the answer is false. Of the map
+/// nothing is promised.
+///
+/// # Errors
+///
+/// - `NotDone::Outline` where the outline is refused, with what tells its first fault.
+/// - `NotDone::Refused` where its text or derivation is refused, as any files are; where proofs are wanted, as `rgc::find_proofs_all`; then
+///   `Write` where the writer failed. `Memory` where memory is refused.
+pub fn write_outline<R: Threads + Sync, W: Out, P: Watcher + Copy + Sync>(
+    rt: &R,
+    alloc: Global,
+    threads: usize,
+    outline: OutlineSource<'_>,
+    wanted: Wanted,
+    steps: u64,
+    out: &mut W,
+    watcher: &P,
+    sides: &mut Sides,
+) -> Result<bool, NotDone>
+    requires { CanCount (W.failures out.old) }
+    ensures written { IfOk result (λ b. IsTrue b → HasWritten wanted sides.old sides.new (W.contents out.old) (W.contents out.new)) }
+    ensures failures { OnOk result (W.failures out.new ≡ W.failures out.old) }
+{
+    let files = OutlineFiles::of(alloc, outline)?;
+    let map = map_where(alloc, outline, wanted.has_map)?;
+    let derived = derive_program(alloc, &files.text, &files.derivation)?;
+    match proofs_where(
+        rt,
+        alloc,
+        threads,
+        &derived,
+        wanted.has_proofs,
+        steps,
+        watcher,
+    )? {
+        ProofsFound::Proofs(proofs) => {
+            put(&files, proofs.as_bytes(), &map, wanted, out, sides)?;
+            Ok(true)
+        }
+        ProofsFound::Failures(unproved) => {
+            print_unproved(alloc, outline, &unproved, out)?;
+            Ok(false)
+        }
+    }
+}

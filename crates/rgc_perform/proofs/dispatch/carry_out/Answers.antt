@@ -1,0 +1,41 @@
+use Rattle.rgc_perform.proofs.dispatch.carry_out.Goals as goal
+
+pub returns-in-Number-clause-done : goal.returns-in-Number-clause-done
+returns-in-Number-clause-done g c = rw c.in-Number.is (c.number.ensures.done c.in-Number.text)
+
+pub returns-in-Check-clause-done : goal.returns-in-Check-clause-done
+returns-in-Check-clause-done g c = rw c.in-Check.is (c.check.ensures.done c.in-Check.text c.in-Check.derivation c.in-Check.proofs)
+
+pub returns-in-Conditions-clause-done : goal.returns-in-Conditions-clause-done
+returns-in-Conditions-clause-done g c = rw c.in-Conditions.is (c.conditions.ensures.done c.in-Conditions.text c.in-Conditions.derivation)
+
+pub returns-in-Prove-clause-done : goal.returns-in-Prove-clause-done
+returns-in-Prove-clause-done g c = rw c.in-Prove.is (c.prove.ensures.done c.in-Prove.text c.in-Prove.derivation)
+
+pub returns-in-Emit-clause-done : goal.returns-in-Emit-clause-done
+returns-in-Emit-clause-done g c = rw c.in-Emit.is (c.emit.ensures.done c.in-Emit.text c.in-Emit.derivation c.in-Emit.proofs)
+
+pub returns-in-Run-clause-done : goal.returns-in-Run-clause-done
+returns-in-Run-clause-done g c =
+    let done = rw c.new-options.ensures at c.run.ensures.done in
+    rw c.in-Run.is (done c.in-Run.text c.in-Run.derivation c.in-Run.proofs c.in-Run.draw)
+
+pub returns-in-Valid-clause-done : goal.returns-in-Valid-clause-done
+returns-in-Valid-clause-done g c = rw c.in-Valid.is (c.valid.ensures.done c.in-Valid.text c.in-Valid.proofs)
+
+pub returns-in-Clauses-clause-done : goal.returns-in-Clauses-clause-done
+returns-in-Clauses-clause-done g c = rw c.in-Clauses.is (c.clauses.ensures.done c.in-Clauses.text)
+
+pub returns-in-Find-clause-done : goal.returns-in-Find-clause-done
+returns-in-Find-clause-done g c = rw c.in-Find.is (c.find.ensures.done c.in-Find.text)
+
+pub returns-in-RunOutline-clause-done : goal.returns-in-RunOutline-clause-done
+returns-in-RunOutline-clause-done g c =
+    let done = rw c.new-options-in-RunOutline.ensures at c.run_outline_of.ensures.done in
+    rw c.in-RunOutline.is (done c.in-RunOutline.name c.in-RunOutline.draw)
+
+pub returns-in-Outline-clause-done : goal.returns-in-Outline-clause-done
+returns-in-Outline-clause-done g c = rw c.in-Outline.is (c.outline.ensures.done c.in-Outline.name)
+
+pub returns-in-Challenge-clause-done : goal.returns-in-Challenge-clause-done
+returns-in-Challenge-clause-done g c = rw c.in-Challenge.is (c.challenge_outline.ensures.done c.in-Challenge.name)

@@ -1,0 +1,66 @@
+//! Why a command isn't done.
+
+use rg_outline_files::NoFiles;
+use rg_words::{Refusal, WriteFault};
+use rgc_outlined::NotDone;
+use rgc_verify::NoVerdict;
+use std::alloc::AllocError;
+
+/// Why a command isn't done.
+#[derive(Drop)]
+pub(crate) enum Stop {
+    /// A file can't be read; the line that says so.
+    Device(&'static str),
+    Refused(Refusal),
+    /// An outline is refused, or not verified; the lines that say why, or its warnings.
+    Outline(Vec<u8>),
+    /// What the words say doesn't fit; the line that says so.
+    Usage(&'static str),
+    /// The output says that no proof was found.
+    Told,
+}
+
+impl From<NoFiles> for Stop {
+    fn from(none: NoFiles) -> Stop {
+        match none {
+            NoFiles::Told(lines) => Stop::Outline(lines),
+            NoFiles::Memory => Stop::Refused(Refusal::from(AllocError)),
+        }
+    }
+}
+
+impl From<NoVerdict> for Stop {
+    fn from(none: NoVerdict) -> Stop {
+        match none {
+            NoVerdict::Outline(lines) => Stop::Outline(lines),
+            NoVerdict::Refused(refusal) => Stop::Refused(refusal),
+        }
+    }
+}
+
+impl From<NotDone> for Stop {
+    fn from(none: NotDone) -> Stop {
+        match none {
+            NotDone::Outline(lines) => Stop::Outline(lines),
+            NotDone::Refused(refusal) => Stop::Refused(refusal),
+        }
+    }
+}
+
+impl From<WriteFault> for Stop {
+    fn from(fault: WriteFault) -> Stop {
+        Stop::Refused(Refusal::from(fault))
+    }
+}
+
+impl From<AllocError> for Stop {
+    fn from(fault: AllocError) -> Stop {
+        Stop::Refused(Refusal::from(fault))
+    }
+}
+
+impl From<Refusal> for Stop {
+    fn from(refusal: Refusal) -> Stop {
+        Stop::Refused(refusal)
+    }
+}
