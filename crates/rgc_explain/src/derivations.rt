@@ -2,7 +2,7 @@
 
 use crate::entries::Entry;
 
-pub const UNEXPECTED_IN_DERIVATION: Entry = Entry {
+const UNEXPECTED_IN_DERIVATION: Entry = Entry {
     name: "UnexpectedInDerivation",
     when: "as 2, in a derivation",
     meaning: "Up to the token before, the derivation could have gone on to be right; with this one it\n\
@@ -25,7 +25,7 @@ derivation\n\
 \x20   line 1 basic 1 pre true guar true rely true post true\n",
 };
 
-pub const LINE_NUMBER: Entry = Entry {
+const LINE_NUMBER: Entry = Entry {
     name: "LineNumber",
     when: "the k-th line's number isn't k",
     meaning: "Lines of a derivation are numbered 1, 2, 3 and on.",
@@ -46,7 +46,7 @@ derivation\n\
 \x20   line 2 basic 1 pre true rely true guar true post true\n",
 };
 
-pub const NOT_EARLIER: Entry = Entry {
+const NOT_EARLIER: Entry = Entry {
     name: "NotEarlier",
     when: "a premise that is 0 or not below its line",
     meaning: "A line follows from lines before it.",
@@ -67,7 +67,7 @@ derivation\n\
 \x20   line 1 conseq 1 from 1 pre true rely true guar true post true\n",
 };
 
-pub const RULE_DOES_NOT_FIT: Entry = Entry {
+const RULE_DOES_NOT_FIT: Entry = Entry {
     name: "RuleDoesNotFit",
     when: "the rule isn't for that kind of statement, or the count of premises is wrong",
     meaning: "`basic` is for `skip` and assignments, `atomic` for `await`, `seq` for a sequence, `if` and\n\
@@ -90,7 +90,7 @@ derivation\n\
 \x20   line 1 atomic 1 pre true rely true guar true post true\n",
 };
 
-pub const WRONG_STATEMENT: Entry = Entry {
+const WRONG_STATEMENT: Entry = Entry {
     name: "WrongStatement",
     when: "no such statement, or a premise of another statement than the rule asks",
     meaning: "The line names a statement that the program doesn't have, or one of its premises speaks of\n\
@@ -114,7 +114,7 @@ derivation\n\
 \x20   line 1 basic 2 pre true rely true guar true post true\n",
 };
 
-pub const FORMULA_DIFFERS: Entry = Entry {
+const FORMULA_DIFFERS: Entry = Entry {
     name: "FormulaDiffers",
     when: "a formula tree that isn't as the rule asks",
     meaning: "The rules ask that some formulas are equal as trees: rely and guarantee of a premise are\n\
@@ -140,7 +140,7 @@ derivation\n\
 \x20   line 2 loop 1 from 1 pre true rely true guar true post true\n",
 };
 
-pub const PART_NOT_DERIVED: Entry = Entry {
+const PART_NOT_DERIVED: Entry = Entry {
     name: "PartNotDerived",
     when: "no line derives a part",
     meaning: "For each part a line must speak of its whole body with exactly the part's pre, rely,\n\
@@ -161,3 +161,24 @@ text\n\
 \n\
 derivation: an empty file\n",
 };
+
+/// The entry of a fault of a derivation, by its number; none where no refusal has it.
+pub(crate) fn derivation_entry(number: u64) -> Option<Entry> {
+    match number {
+        21 => Some(UNEXPECTED_IN_DERIVATION),
+        22 => Some(LINE_NUMBER),
+        23 => Some(NOT_EARLIER),
+        24 => Some(RULE_DOES_NOT_FIT),
+        _ => derivation_entry_further(number),
+    }
+}
+
+/// The same for further numbers.
+fn derivation_entry_further(number: u64) -> Option<Entry> {
+    match number {
+        25 => Some(WRONG_STATEMENT),
+        26 => Some(FORMULA_DIFFERS),
+        27 => Some(PART_NOT_DERIVED),
+        _ => None,
+    }
+}

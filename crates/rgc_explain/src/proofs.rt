@@ -2,7 +2,7 @@
 
 use crate::entries::Entry;
 
-pub const UNREADABLE: Entry = Entry {
+const UNREADABLE: Entry = Entry {
     name: "Unreadable",
     when: "a proofs line of no known form, or a hint line before the first head",
     meaning: "A line of a proofs file is `section K`, or a hint line: an id, literals, 0, hints, 0.",
@@ -18,7 +18,7 @@ proofs\n\
 \x20   8 0 7 5 1 4\n",
 };
 
-pub const NO_SECTION: Entry = Entry {
+const NO_SECTION: Entry = Entry {
     name: "NoSection",
     when: "a condition has no section in the proofs file, and its clauses hold no empty clause",
     meaning: "Each condition needs a section with the hint lines that prove it, but for those whose\n\
@@ -52,7 +52,7 @@ derivation\n\
 proofs: an empty file\n",
 };
 
-pub const ID_ORDER: Entry = Entry {
+const ID_ORDER: Entry = Entry {
     name: "IdOrder",
     when: "an id not above the given clauses and all earlier ids of its section; a section head not above the one before",
     meaning: "The given clauses have the ids 1 to m. The ids of the lines rise from there, and so do the\n\
@@ -69,7 +69,7 @@ proofs\n\
 \x20   7 0 7 5 1 4 0\n",
 };
 
-pub const HINT_NOT_EARLIER: Entry = Entry {
+const HINT_NOT_EARLIER: Entry = Entry {
     name: "HintNotEarlier",
     when: "a hint that names neither a given clause nor an earlier line of the section",
     meaning: "A hint is the id of a clause that is known where the line stands.",
@@ -86,7 +86,7 @@ proofs\n\
 \x20   8 0 9 0\n",
 };
 
-pub const HINT_NOT_UNIT: Entry = Entry {
+const HINT_NOT_UNIT: Entry = Entry {
     name: "HintNotUnit",
     when: "a hint clause with two or more literals that aren't false",
     meaning: "The hints of a line are taken in order. Each must have at most one literal that isn't false\n\
@@ -104,7 +104,7 @@ proofs\n\
 \x20   8 0 7 1 5 4 0\n",
 };
 
-pub const NO_CONFLICT: Entry = Entry {
+const NO_CONFLICT: Entry = Entry {
     name: "NoConflict",
     when: "the hints ran out",
     meaning: "After all hints of the line no clause is false, so the line wasn't seen to follow.",
@@ -120,7 +120,7 @@ proofs\n\
 \x20   8 0 7 0\n",
 };
 
-pub const NO_EMPTY_CLAUSE: Entry = Entry {
+const NO_EMPTY_CLAUSE: Entry = Entry {
     name: "NoEmptyClause",
     when: "all lines follow, and neither one of them nor a given clause is empty",
     meaning: "Each line is right, and the proof doesn't end: its last line would be the empty clause.",
@@ -136,7 +136,7 @@ proofs\n\
 \x20   8 4 0 7 0\n",
 };
 
-pub const UNKNOWN_CONDITION: Entry = Entry {
+const UNKNOWN_CONDITION: Entry = Entry {
     name: "UnknownCondition",
     when: "a number that names no condition, of a section's head or of `--condition`",
     meaning: "Conditions have the numbers that `rgc conditions` prints, from 1.",
@@ -156,3 +156,25 @@ text\n\
 derivation\n\
 \x20   line 1 basic 1 pre true rely true guar true post true\n",
 };
+
+/// The entry of a fault of a proofs file, by its number; none where no refusal has it.
+pub(crate) fn proof_entry(number: u64) -> Option<Entry> {
+    match number {
+        41 => Some(UNREADABLE),
+        42 => Some(NO_SECTION),
+        43 => Some(ID_ORDER),
+        44 => Some(HINT_NOT_EARLIER),
+        _ => proof_entry_further(number),
+    }
+}
+
+/// The same for further numbers.
+fn proof_entry_further(number: u64) -> Option<Entry> {
+    match number {
+        45 => Some(HINT_NOT_UNIT),
+        46 => Some(NO_CONFLICT),
+        47 => Some(NO_EMPTY_CLAUSE),
+        48 => Some(UNKNOWN_CONDITION),
+        _ => None,
+    }
+}

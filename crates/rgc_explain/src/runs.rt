@@ -2,7 +2,7 @@
 
 use crate::entries::Entry;
 
-pub const START_OUTSIDE_PRE: Entry = Entry {
+const START_OUTSIDE_PRE: Entry = Entry {
     name: "StartOutsidePre",
     when: "the start isn't in the pre",
     meaning: "Runs begin in states in which the program's pre holds. Words that the start doesn't name are\n\
@@ -29,7 +29,7 @@ start\n\
 proofs: what `rgc prove text derivation` prints\n",
 };
 
-pub const OUTSIDE_RELY: Entry = Entry {
+const OUTSIDE_RELY: Entry = Entry {
     name: "OutsideRely",
     when: "a move isn't inside the rely",
     meaning: "The environment may make the steps alone that the program's rely allows. The move was passed\n\
@@ -56,7 +56,7 @@ moves\n\
 proofs: what `rgc prove text derivation` prints\n",
 };
 
-pub const WRITE: Entry = Entry {
+const WRITE: Entry = Entry {
     name: "Write",
     when: "the writer failed",
     meaning: "The output couldn't be written in full: the disk is full, or what reads it has ended.",
@@ -65,7 +65,7 @@ output.",
     example: "",
 };
 
-pub const MISMATCH: Entry = Entry {
+const MISMATCH: Entry = Entry {
     name: "Mismatch",
     when: "the printed records aren't the history",
     meaning: "The threads of a run didn't do what they promise to each other. The proofs say that it can't\n\
@@ -74,7 +74,7 @@ come.",
     example: "",
 };
 
-pub const STRANGER: Entry = Entry {
+const STRANGER: Entry = Entry {
     name: "Stranger",
     when: "a record whose number was already taken",
     meaning: "The threads of a run didn't do what they promise to each other. The proofs say that it can't\n\
@@ -83,7 +83,7 @@ come.",
     example: "",
 };
 
-pub const MOVES_ENDED: Entry = Entry {
+const MOVES_ENDED: Entry = Entry {
     name: "MovesEnded",
     when: "a move after the last one",
     meaning: "The library's caller made a move after it had said that no more come. The command `run`\n\
@@ -92,7 +92,7 @@ doesn't.",
     example: "",
 };
 
-pub const FIXED_MOVED: Entry = Entry {
+const FIXED_MOVED: Entry = Entry {
     name: "FixedMoved",
     when: "a move that changes a fixed word",
     meaning: "A fixed word keeps its first value for the whole run, also in the steps of the environment.\n\
@@ -119,7 +119,7 @@ moves\n\
 proofs: what `rgc prove text derivation` prints\n",
 };
 
-pub const MEMORY: Entry = Entry {
+const MEMORY: Entry = Entry {
     name: "Memory",
     when: "an allocation was refused during the call; nothing else gives it",
     meaning: "The system refused memory, or a thread.",
@@ -127,3 +127,25 @@ pub const MEMORY: Entry = Entry {
 most inputs.",
     example: "",
 };
+
+/// The entry of a fault of a run, or of the machine, by its number; none where no refusal has it.
+pub(crate) fn run_entry(number: u64) -> Option<Entry> {
+    match number {
+        61 => Some(START_OUTSIDE_PRE),
+        62 => Some(OUTSIDE_RELY),
+        63 => Some(WRITE),
+        64 => Some(MISMATCH),
+        _ => run_entry_further(number),
+    }
+}
+
+/// The same for further numbers.
+fn run_entry_further(number: u64) -> Option<Entry> {
+    match number {
+        65 => Some(STRANGER),
+        66 => Some(MOVES_ENDED),
+        67 => Some(FIXED_MOVED),
+        99 => Some(MEMORY),
+        _ => None,
+    }
+}

@@ -2,7 +2,7 @@
 
 use crate::entries::Entry;
 
-pub const BAD_BYTE: Entry = Entry {
+const BAD_BYTE: Entry = Entry {
     name: "BadByte",
     when: "a byte that begins no token",
     meaning: "No token begins with this byte. Outside comments a text has names, numbers, keywords and the\n\
@@ -17,7 +17,7 @@ text\n\
 \x20   show (x = 1) && (x = 1)\n",
 };
 
-pub const UNEXPECTED: Entry = Entry {
+const UNEXPECTED: Entry = Entry {
     name: "Unexpected",
     when: "the first token such that the tokens up to it begin no spelling",
     meaning: "Up to the token before, the text could have gone on to be right; with this one it can't.\n\
@@ -33,7 +33,7 @@ text\n\
 \x20   show (x == 1)\n",
 };
 
-pub const UNKNOWN_NAME: Entry = Entry {
+const UNKNOWN_NAME: Entry = Entry {
     name: "UnknownName",
     when: "a word that isn't declared",
     meaning: "The name stands where a word is meant, and no word of this name is declared.",
@@ -47,7 +47,7 @@ text\n\
 \x20   show (y = 1)\n",
 };
 
-pub const NAME_TWICE: Entry = Entry {
+const NAME_TWICE: Entry = Entry {
     name: "NameTwice",
     when: "a second declaration of a word, a second part of one name, a word given twice in a start or a move",
     meaning: "A name stands for one thing alone.",
@@ -60,7 +60,7 @@ text\n\
 \x20   show (x = 1)\n",
 };
 
-pub const WIDTH: Entry = Entry {
+const WIDTH: Entry = Entry {
     name: "Width",
     when: "a width that isn't 1 to 64",
     meaning: "A word has 1 to 64 bits.",
@@ -73,7 +73,7 @@ text\n\
 \x20   show (x = 1)\n",
 };
 
-pub const NUMBER_TOO_LARGE: Entry = Entry {
+const NUMBER_TOO_LARGE: Entry = Entry {
     name: "NumberTooLarge",
     when: "a number that is too large for where it stands",
     meaning: "In a comparison or an assignment a number is below 2 to the width of its word; a shift count\n\
@@ -87,7 +87,7 @@ text\n\
 \x20   show (x < 256)\n",
 };
 
-pub const WIDTHS_DIFFER: Entry = Entry {
+const WIDTHS_DIFFER: Entry = Entry {
     name: "WidthsDiffer",
     when: "a word whose width isn't its group's",
     meaning: "All words of one comparison, or of one assignment, have the width of the first word in it.",
@@ -100,7 +100,7 @@ text\n\
 \x20   show (x = y)\n",
 };
 
-pub const WIDTH_UNKNOWN: Entry = Entry {
+const WIDTH_UNKNOWN: Entry = Entry {
     name: "WidthUnknown",
     when: "the first number of a group without a word",
     meaning: "A comparison of numbers alone has no width.",
@@ -113,7 +113,7 @@ text\n\
 \x20   show (5 = 5)\n",
 };
 
-pub const PRIME: Entry = Entry {
+const PRIME: Entry = Entry {
     name: "Prime",
     when: "a primed word where one state is spoken of",
     meaning: "A primed word is the value behind a step. A pre, a post, a test and an assignment speak of\n\
@@ -133,7 +133,7 @@ text\n\
 \x20   end\n",
 };
 
-pub const DEPTH: Entry = Entry {
+const DEPTH: Entry = Entry {
     name: "Depth",
     when: "the opener that would be open inside 200 others; the connective before a 65th operand of one chain",
     meaning: "Formulas and statements are nested at most 200 deep, and a chain of `and` or `or` has at\n\
@@ -151,7 +151,7 @@ text\n\
 \x20     true and true and true and true and true and true and true and true and true and true and true and true and true)\n",
 };
 
-pub const LIMIT: Entry = Entry {
+const LIMIT: Entry = Entry {
     name: "Limit",
     when: "another limit of the language is passed",
     meaning: "There are at most 64 words, 32 parts, 4,000 statements, 20,000 lines of a derivation,\n\
@@ -171,7 +171,7 @@ text\n\
 \x20   show true\n",
 };
 
-pub const UNFINISHED: Entry = Entry {
+const UNFINISHED: Entry = Entry {
     name: "Unfinished",
     when: "the tokens end too early; the place is the line of the last token, or 1",
     meaning: "The file ends where something must still come.",
@@ -184,7 +184,7 @@ text\n\
 \x20   show (x = 1\n",
 };
 
-pub const FIXED_ASSIGNED: Entry = Entry {
+const FIXED_ASSIGNED: Entry = Entry {
     name: "FixedAssigned",
     when: "an assignment to a fixed word",
     meaning: "A fixed word keeps its first value for the whole run.",
@@ -201,3 +201,37 @@ text\n\
 \x20     n := 1\n\
 \x20   end\n",
 };
+
+/// The entry of a fault of a text, by its number; none where no refusal has it.
+pub(crate) fn text_entry(number: u64) -> Option<Entry> {
+    match number {
+        1 => Some(BAD_BYTE),
+        2 => Some(UNEXPECTED),
+        3 => Some(UNKNOWN_NAME),
+        4 => Some(NAME_TWICE),
+        5 => Some(WIDTH),
+        _ => text_entry_further(number),
+    }
+}
+
+/// The same for further numbers.
+fn text_entry_further(number: u64) -> Option<Entry> {
+    match number {
+        6 => Some(NUMBER_TOO_LARGE),
+        7 => Some(WIDTHS_DIFFER),
+        8 => Some(WIDTH_UNKNOWN),
+        9 => Some(PRIME),
+        _ => text_entry_last(number),
+    }
+}
+
+/// The same for further numbers.
+fn text_entry_last(number: u64) -> Option<Entry> {
+    match number {
+        10 => Some(DEPTH),
+        11 => Some(LIMIT),
+        12 => Some(UNFINISHED),
+        13 => Some(FIXED_ASSIGNED),
+        _ => None,
+    }
+}
