@@ -4,7 +4,6 @@ use crate::conditions::shown;
 use rg_clauses::Clauses;
 use rg_words::{Fuse, Refusal, RefusalNumber, SourceFile, Taker};
 use std::alloc::{AllocError, Global};
-use std::test::Fail;
 
 /// The text for `((x = 1) and (y = 1)) implies (x = 1)`.
 const IMPLICATION: &[u8] =
@@ -36,34 +35,42 @@ fn flat_is_the_worked_one(clauses: &Clauses) -> bool {
     literals == expected.as_slice() && starts == [0, 2, 4, 7, 9, 11, 14].as_slice()
 }
 
+/// Whether the clauses of the implication are the worked ones.
+fn are_worked(alloc: Global) -> bool {
+    match implication(alloc) {
+        Ok(clauses) => {
+            counts_are_the_worked_ones(&clauses)
+                && third_is_the_worked_one(&clauses)
+                && flat_is_the_worked_one(&clauses)
+        }
+        Err(_) => false,
+    }
+}
+
 #[test]
-fn hands_out_the_worked_clauses(rt: HostRuntime) -> Result<(), Fail> {
-    let clauses = implication(rt.alloc())?;
-    assert!(rt; counts_are_the_worked_ones(&clauses) && third_is_the_worked_one(&clauses));
-    assert!(rt; flat_is_the_worked_one(&clauses));
-    Ok(())
+fn hands_out_the_worked_clauses(rt: HostRuntime) {
+    assert!(rt; are_worked(rt.alloc()));
 }
 
 /// Whether the text of clauses is this, to a writer that takes so many bytes a call.
-fn is_text(
-    alloc: Global,
-    clauses: &Clauses,
-    most: usize,
-    expected: &[u8],
-) -> Result<bool, Refusal> {
+fn is_text(alloc: Global, clauses: &Clauses, most: usize, expected: &[u8]) -> bool {
     let mut taker = Taker::new(alloc, most);
-    clauses.write_cnf(&mut taker)?;
-    Ok(taker.bytes() == expected)
+    clauses.write_cnf(&mut taker).is_ok() && taker.bytes() == expected
+}
+
+/// Whether the text of the implication's clauses is the worked one, to such a writer.
+fn writes_worked(alloc: Global, most: usize) -> bool {
+    match implication(alloc) {
+        Ok(clauses) => is_text(alloc, &clauses, most, IMPLICATION),
+        Err(_) => false,
+    }
 }
 
 #[test]
-fn writes_the_worked_text(rt: HostRuntime) -> Result<(), Fail> {
-    let clauses = implication(rt.alloc())?;
+fn writes_the_worked_text(rt: HostRuntime) {
     for most in [1, 2, 3, 1_000] {
-        let written = is_text(rt.alloc(), &clauses, most, IMPLICATION)?;
-        assert!(rt; written, "{most} bytes a call");
+        assert!(rt; writes_worked(rt.alloc(), most));
     }
-    Ok(())
 }
 
 /// Whether a writer that fails after so many calls, each of a byte, has these bytes, and its failure is told.
@@ -75,13 +82,27 @@ fn stops_after(alloc: Global, clauses: &Clauses, written: &[u8]) -> bool {
     told == Err(RefusalNumber::Write) && fuse.inner().bytes() == written
 }
 
-#[test]
-fn stops_at_each_failure(rt: HostRuntime) -> Result<(), Fail> {
-    let clauses = implication(rt.alloc())?;
+/// Whether each such writer stops there, with the implication's clauses.
+fn stops_at_each(alloc: Global, clauses: &Clauses) -> bool {
     for calls in 0..IMPLICATION.len() {
-        assert!(rt; stops_after(rt.alloc(), &clauses, &IMPLICATION[..calls]));
+        if !stops_after(alloc, clauses, &IMPLICATION[..calls]) {
+            return false;
+        }
     }
-    Ok(())
+    true
+}
+
+/// The same of the clauses of the implication.
+fn worked_stops(alloc: Global) -> bool {
+    match implication(alloc) {
+        Ok(clauses) => stops_at_each(alloc, &clauses),
+        Err(_) => false,
+    }
+}
+
+#[test]
+fn stops_at_each_failure(rt: HostRuntime) {
+    assert!(rt; worked_stops(rt.alloc()));
 }
 
 /// A clause of two literals, and an empty one.
@@ -92,10 +113,17 @@ fn given_clauses(alloc: Global) -> Result<Clauses, AllocError> {
     Ok(clauses)
 }
 
+/// Whether the given clauses are over two inputs, with their text.
+fn are_given(alloc: Global) -> bool {
+    match given_clauses(alloc) {
+        Ok(clauses) => {
+            clauses.inputs() == 2 && is_text(alloc, &clauses, 1_000, b"p cnf 2 2\n1 -2 0\n0\n")
+        }
+        Err(_) => false,
+    }
+}
+
 #[test]
-fn takes_given_clauses(rt: HostRuntime) -> Result<(), Fail> {
-    let clauses = given_clauses(rt.alloc())?;
-    let written = is_text(rt.alloc(), &clauses, 1_000, b"p cnf 2 2\n1 -2 0\n0\n")?;
-    assert!(rt; clauses.inputs() == 2 && written);
-    Ok(())
+fn takes_given_clauses(rt: HostRuntime) {
+    assert!(rt; are_given(rt.alloc()));
 }

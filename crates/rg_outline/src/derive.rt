@@ -1,7 +1,7 @@
 //! The lines of the derivation.
 
 use rg_outline_bodies::{Action, Assertion, Block, Expansion, Line, Row, Rule, Statement};
-use rg_outline_text::{Fault, MeaningFault};
+use rg_outline_text::MeaningFault;
 use rg_outline_tree::List;
 use rg_words::limits::MOST_DERIVATION_LINES;
 
@@ -21,14 +21,13 @@ struct Claim {
 }
 
 /// Numbers the statements, and makes the lines of all parts.
-pub(crate) fn derive(expansion: &mut Expansion<'_>) -> Result<(), Fault> {
+pub(crate) fn derive(expansion: &mut Expansion<'_>) {
     for part in 0..expansion.parts.len() {
-        number_block(expansion, body_of(expansion, part), DEEPEST)?;
+        number_block(expansion, body_of(expansion, part), DEEPEST);
     }
     for part in 0..expansion.parts.len() {
-        derive_block(expansion, body_of(expansion, part), part, DEEPEST)?;
+        derive_block(expansion, body_of(expansion, part), part, DEEPEST);
     }
-    Ok(())
 }
 
 fn body_of(expansion: &Expansion<'_>, part: usize) -> usize {
@@ -37,10 +36,11 @@ fn body_of(expansion: &Expansion<'_>, part: usize) -> usize {
 
 /// Numbers a block and what it holds, as the text does.
 #[cycle(numbering)]
-fn number_block(expansion: &mut Expansion<'_>, index: usize, depth: u32) -> Result<(), Fault> {
+fn number_block(expansion: &mut Expansion<'_>, index: usize, depth: u32) {
     let block = expansion.block(index);
     if depth == 0 {
-        return Err(Fault::meaning(MeaningFault::TooDeep, block.span));
+        expansion.scope.refuse(MeaningFault::TooDeep, block.span);
+        return;
     }
     let is_one = expansion.statements_in(block.rows) == 1;
     let number = expansion.count.saturating_add(1);
@@ -49,17 +49,16 @@ fn number_block(expansion: &mut Expansion<'_>, index: usize, depth: u32) -> Resu
     }
     for place in block.rows.start..block.rows.end {
         if let Row::Statement(statement) = expansion.row(place) {
-            number_statement(expansion, statement, depth - 1)?;
+            number_statement(expansion, statement, depth - 1);
         }
     }
     if let Some(block) = expansion.blocks.get_mut(index) {
         block.number = number;
     }
-    Ok(())
 }
 
 #[cycle(numbering)]
-fn number_statement(expansion: &mut Expansion<'_>, index: usize, depth: u32) -> Result<(), Fault> {
+fn number_statement(expansion: &mut Expansion<'_>, index: usize, depth: u32) {
     expansion.count = expansion.count.saturating_add(1);
     let number = expansion.count;
     if let Some(statement) = expansion.statements.get_mut(index) {
@@ -68,26 +67,22 @@ fn number_statement(expansion: &mut Expansion<'_>, index: usize, depth: u32) -> 
     let statement = expansion.statement(index);
     match statement.action {
         Action::If => {
-            number_block(expansion, statement.blocks.0, depth)?;
-            number_block(expansion, statement.blocks.1, depth)
+            number_block(expansion, statement.blocks.0, depth);
+            number_block(expansion, statement.blocks.1, depth);
         }
         Action::While => number_block(expansion, statement.blocks.0, depth),
-        _ => Ok(()),
+        _ => {}
     }
 }
 
 /// Adds a line; its number, from 1.
-fn add_line(
-    expansion: &mut Expansion<'_>,
-    rule: Rule,
-    premises: List,
-    claim: Claim,
-) -> Result<usize, Fault> {
+fn add_line(expansion: &mut Expansion<'_>, rule: Rule, premises: List, claim: Claim) -> usize {
     if expansion.lines.len() >= MOST_DERIVATION_LINES {
         let span = expansion.statement(claim.statement).span;
-        return Err(Fault::meaning(MeaningFault::TooLarge, span));
+        expansion.scope.refuse(MeaningFault::TooLarge, span);
+        return 0;
     }
-    expansion.lines.push(Line {
+    let stored = expansion.lines.push(Line {
         rule,
         number: claim.number,
         premises,
@@ -97,32 +92,29 @@ fn add_line(
         statement: claim.statement,
         before: claim.before,
         behind: claim.behind,
-    })?;
-    Ok(expansion.lines.len())
+    });
+    expansion.scope.want_stored(stored.is_ok());
+    expansion.lines.len()
 }
 
 /// A list of these premises.
-fn premises_of(expansion: &mut Expansion<'_>, premises: &[usize]) -> Result<List, Fault> {
+fn premises_of(expansion: &mut Expansion<'_>, premises: &[usize]) -> List {
     let start = expansion.premises.len();
-    expansion.premises.extend_from_slice(premises)?;
-    Ok(List {
+    let stored = expansion.premises.extend_from_slice(premises);
+    expansion.scope.want_stored(stored.is_ok());
+    List {
         start,
         end: expansion.premises.len(),
-    })
+    }
 }
 
 /// A line of the rule of consequence, where it says something else than the line before it.
-fn weaken(
-    expansion: &mut Expansion<'_>,
-    line: usize,
-    from: Claim,
-    claim: Claim,
-) -> Result<usize, Fault> {
+fn weaken(expansion: &mut Expansion<'_>, line: usize, from: Claim, claim: Claim) -> usize {
     let forest = &expansion.scope.forest;
     if forest.is_equal(from.pre, claim.pre) && forest.is_equal(from.post, claim.post) {
-        return Ok(line);
+        return line;
     }
-    let premises = premises_of(expansion, &[line])?;
+    let premises = premises_of(expansion, &[line]);
     add_line(expansion, Rule::Conseq, premises, claim)
 }
 
@@ -142,31 +134,28 @@ fn claim_of(expansion: &Expansion<'_>, index: usize, part: usize) -> Claim {
 
 /// Makes the lines of a block; the number of the last one.
 #[cycle(deriving)]
-fn derive_block(
-    expansion: &mut Expansion<'_>,
-    index: usize,
-    part: usize,
-    depth: u32,
-) -> Result<usize, Fault> {
+fn derive_block(expansion: &mut Expansion<'_>, index: usize, part: usize, depth: u32) -> usize {
     let block = expansion.block(index);
     if depth == 0 {
-        return Err(Fault::meaning(MeaningFault::TooDeep, block.span));
+        expansion.scope.refuse(MeaningFault::TooDeep, block.span);
+        return 0;
     }
     let mark = expansion.pending_lines.len();
     for place in block.rows.start..block.rows.end {
         if let Row::Statement(statement) = expansion.row(place) {
-            let line = derive_statement(expansion, statement, part, depth - 1)?;
-            let line = weaken_before(
-                expansion,
-                line,
-                place,
-                block,
-                claim_of(expansion, statement, part),
-            )?;
-            expansion.pending_lines.push(line)?;
+            let line = derive_statement(expansion, statement, part, depth - 1);
+            let claim = claim_of(expansion, statement, part);
+            hold_line(expansion, line, place, block, claim);
         }
     }
     close_lines(expansion, mark, block, part)
+}
+
+/// Adds the line of a statement, with the assertions before it, to the lines that are no premises yet.
+fn hold_line(expansion: &mut Expansion<'_>, line: usize, place: usize, block: Block, claim: Claim) {
+    let line = weaken_before(expansion, line, place, block, claim);
+    let stored = expansion.pending_lines.push(line);
+    expansion.scope.want_stored(stored.is_ok());
 }
 
 /// Lines for the assertions before a statement, from the last one to the first.
@@ -176,7 +165,7 @@ fn weaken_before(
     place: usize,
     block: Block,
     claim: Claim,
-) -> Result<usize, Fault> {
+) -> usize {
     let mut line = line;
     let mut from = claim;
     for earlier in (block.rows.start..place).rev() {
@@ -188,19 +177,14 @@ fn weaken_before(
             before: assertion,
             ..claim
         };
-        line = weaken(expansion, line, from, to)?;
+        line = weaken(expansion, line, from, to);
         from = to;
     }
-    Ok(line)
+    line
 }
 
 /// The lines of a block behind those of its statements.
-fn close_lines(
-    expansion: &mut Expansion<'_>,
-    mark: usize,
-    block: Block,
-    part: usize,
-) -> Result<usize, Fault> {
+fn close_lines(expansion: &mut Expansion<'_>, mark: usize, block: Block, part: usize) -> usize {
     let first = statement_after(expansion, block, block.rows.start);
     let last = last_statement(expansion, block);
     let behind = expansion.statement(last).behind;
@@ -213,34 +197,39 @@ fn close_lines(
         before: block.first,
         behind,
     };
-    let line = join_lines(expansion, mark, own)?;
+    let line = join_lines(expansion, mark, own);
     let needed = Claim {
         pre: block.needed,
         before: block.around,
         ..own
     };
-    let line = weaken(expansion, line, own, needed)?;
+    let line = weaken(expansion, line, own, needed);
     weaken_behind(expansion, line, block, needed, last)
 }
 
 /// The line of a block's statements together, where they are several.
-fn join_lines(expansion: &mut Expansion<'_>, mark: usize, claim: Claim) -> Result<usize, Fault> {
+fn join_lines(expansion: &mut Expansion<'_>, mark: usize, claim: Claim) -> usize {
+    if let Some([only]) = expansion.pending_lines.get(mark..) {
+        let line = *only;
+        expansion.pending_lines.truncate(mark);
+        return line;
+    }
+    let premises = take_pending(expansion, mark);
+    add_line(expansion, Rule::Seq, premises, claim)
+}
+
+/// A list of the lines from a mark on that are no premises yet.
+fn take_pending(expansion: &mut Expansion<'_>, mark: usize) -> List {
     let start = expansion.premises.len();
-    let pending = expansion.pending_lines.get(mark..).unwrap_or(&[]);
-    let only = pending.first().copied().unwrap_or(0);
-    let is_one = pending.len() == 1;
-    if !is_one {
-        expansion.premises.extend_from_slice(pending)?;
+    if let Some(pending) = expansion.pending_lines.get(mark..) {
+        let stored = expansion.premises.extend_from_slice(pending);
+        expansion.scope.want_stored(stored.is_ok());
     }
     expansion.pending_lines.truncate(mark);
-    if is_one {
-        return Ok(only);
-    }
-    let premises = List {
+    List {
         start,
         end: expansion.premises.len(),
-    };
-    add_line(expansion, Rule::Seq, premises, claim)
+    }
 }
 
 /// Lines for the assertions at the end of a block, and for the one that is wanted there.
@@ -250,7 +239,7 @@ fn weaken_behind(
     block: Block,
     claim: Claim,
     last: usize,
-) -> Result<usize, Fault> {
+) -> usize {
     let mut line = line;
     let mut from = Claim {
         statement: last,
@@ -262,7 +251,7 @@ fn weaken_behind(
             Row::Statement(statement) => is_behind = statement == last,
             Row::Assertion(assertion) if is_behind => {
                 let to = ends_with(from, assertion);
-                line = weaken(expansion, line, from, to)?;
+                line = weaken(expansion, line, from, to);
                 from = to;
             }
             Row::Assertion(_) => {}
@@ -294,25 +283,20 @@ fn last_statement(expansion: &Expansion<'_>, block: Block) -> usize {
 
 /// Makes the lines of a statement; the number of the last one.
 #[cycle(deriving)]
-fn derive_statement(
-    expansion: &mut Expansion<'_>,
-    index: usize,
-    part: usize,
-    depth: u32,
-) -> Result<usize, Fault> {
+fn derive_statement(expansion: &mut Expansion<'_>, index: usize, part: usize, depth: u32) -> usize {
     let statement = expansion.statement(index);
     let claim = claim_of(expansion, index, part);
     match statement.action {
         Action::Skip | Action::Assign => add_line(expansion, Rule::Basic, List::EMPTY, claim),
         Action::Await => add_line(expansion, Rule::Atomic, List::EMPTY, claim),
         Action::If => {
-            let yes = derive_block(expansion, statement.blocks.0, part, depth)?;
-            let no = derive_block(expansion, statement.blocks.1, part, depth)?;
-            let premises = premises_of(expansion, &[yes, no])?;
+            let yes = derive_block(expansion, statement.blocks.0, part, depth);
+            let no = derive_block(expansion, statement.blocks.1, part, depth);
+            let premises = premises_of(expansion, &[yes, no]);
             add_line(expansion, Rule::If, premises, claim)
         }
         Action::While => {
-            let body = derive_block(expansion, statement.blocks.0, part, depth)?;
+            let body = derive_block(expansion, statement.blocks.0, part, depth);
             derive_loop(expansion, statement, body, claim)
         }
     }
@@ -324,14 +308,14 @@ fn derive_loop(
     statement: Statement,
     body: usize,
     claim: Claim,
-) -> Result<usize, Fault> {
-    let premises = premises_of(expansion, &[body])?;
+) -> usize {
+    let premises = premises_of(expansion, &[body]);
     let own = Claim {
         pre: statement.at_test.full,
         before: statement.at_test,
         ..claim
     };
-    let line = add_line(expansion, Rule::Loop, premises, own)?;
+    let line = add_line(expansion, Rule::Loop, premises, own);
     weaken(expansion, line, own, claim)
 }
 

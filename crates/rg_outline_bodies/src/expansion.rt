@@ -1,4 +1,4 @@
-//! What an outline stands for: a program with the assertions between its statements.
+//! What an outline stands for: a program with the assertions between its statements. The first fault is kept in the scope, and no call gives it back.
 
 use rg_outline_scope::{ListedWord, Scope};
 use rg_outline_text::{Binding, Fault, Names, Span, Texts};
@@ -306,36 +306,34 @@ impl<'a> Expansion<'a> {
             .count()
     }
 
-    /// The assertion with the invariant, or `false` where it is `false`.
-    ///
-    /// # Errors
-    ///
-    /// `MeaningFault::TooLarge` at the span, and `FaultKind::Memory`.
-    pub fn asserted(&mut self, own: usize, span: Span, origin: Origin) -> Result<Assertion, Fault> {
+    /// The assertion with the invariant, or `false` where it is `false`. Faults are `MeaningFault::TooLarge` at the span, and `FaultKind::Memory`.
+    pub fn asserted(&mut self, own: usize, span: Span, origin: Origin) -> Assertion {
         let mut full = own;
         if !self.scope.forest.is_truth(own, false) {
             let invariant = self.specification.invariant;
-            full = self.scope.forest.conjoined(&[invariant, own], span)?;
+            full = self.conjoined(&[invariant, own], span);
         }
-        Ok(Assertion {
+        Assertion {
             own,
             full,
             span,
             origin,
-        })
+        }
     }
 
-    /// The assertion that a formula of one state is.
-    ///
-    /// # Errors
-    ///
-    /// The first `MeaningFault` in the order of reading, and `FaultKind::Memory`.
-    pub fn state_assertion(&mut self, formula: usize) -> Result<Assertion, Fault> {
+    /// The tree of these together.
+    pub fn conjoined(&mut self, formulas: &[usize], span: Span) -> usize {
+        let made = self.scope.forest.conjoined(formulas, span);
+        self.scope.made(made)
+    }
+
+    /// The assertion that a formula of one state is. Faults are the first `MeaningFault` in the order of reading, and `FaultKind::Memory`.
+    pub fn state_assertion(&mut self, formula: usize) -> Assertion {
         let span = match self.scope.written.expression(formula) {
             Some(expression) => expression.span,
             None => Span { start: 0, end: 0 },
         };
-        let tree = self.scope.state_formula(formula)?;
+        let tree = self.scope.state_formula(formula);
         self.asserted(tree, span, Origin::Written)
     }
 }

@@ -2,7 +2,7 @@
 
 use crate::expansion::{Action, Assigned, Expansion, Origin, Row, Statement, Update};
 use rg_outline_scope::bit_of;
-use rg_outline_text::{Fault, MeaningFault, Span};
+use rg_outline_text::{MeaningFault, Span};
 use rg_outline_tree::{Assignment, Item, ItemKind, List, Standing};
 use rg_words::limits::{MOST_ASSIGNMENTS, MOST_STATEMENTS};
 
@@ -19,39 +19,32 @@ struct Repeated {
 }
 
 impl Expansion<'_> {
-    /// Works out a block that stands in no other; its index.
-    ///
-    /// # Errors
-    ///
-    /// The first `MeaningFault` in the order of reading, and `FaultKind::Memory`.
-    pub fn take_block(&mut self, items: List, span: Span) -> Result<usize, Fault> {
+    /// Works out a block that stands in no other; its index. Faults are the first `MeaningFault` in the order of reading, and `FaultKind::Memory`.
+    pub fn take_block(&mut self, items: List, span: Span) -> usize {
         self.block_of(items, span, DEEPEST)
     }
 
     /// Works out a block.
     #[cycle(blocks)]
-    fn block_of(&mut self, items: List, span: Span, depth: u32) -> Result<usize, Fault> {
+    fn block_of(&mut self, items: List, span: Span, depth: u32) -> usize {
         if depth == 0 {
-            return Err(Fault::meaning(MeaningFault::TooDeep, span));
+            self.scope.refuse(MeaningFault::TooDeep, span);
+            return 0;
         }
         let mark = self.pending_rows.len();
-        self.take_items(items, depth - 1)?;
+        self.take_items(items, depth - 1);
         self.close_block(mark, items, span)
     }
 
-    /// Works out the statements and assertions of a block.
+    /// Works out the statements and assertions of a block; behind a fault none.
     #[cycle(blocks)]
-    fn take_items(&mut self, items: List, depth: u32) -> Result<(), Fault> {
+    fn take_items(&mut self, items: List, depth: u32) {
         for place in items.start..items.end {
-            let Some(item) = self.item(place) else {
-                return Ok(());
+            let Some(item) = self.item_to_take(place) else {
+                break;
             };
             match item.kind {
-                ItemKind::Assertion(formula) => {
-                    let tree = self.scope.state_formula(formula)?;
-                    let assertion = self.asserted(tree, item.span, Origin::Written)?;
-                    self.pending_rows.push(Row::Assertion(assertion))?;
-                }
+                ItemKind::Assertion(formula) => self.take_assertion(formula, item.span),
                 ItemKind::For { index, range, body } => {
                     let repeated = Repeated {
                         index,
@@ -59,15 +52,35 @@ impl Expansion<'_> {
                         body,
                         span: item.span,
                     };
-                    self.repeat(repeated, depth)?;
+                    self.repeat(repeated, depth);
                 }
                 _ => {
-                    let statement = self.statement_of(item, depth)?;
-                    self.pending_rows.push(Row::Statement(statement))?;
+                    let statement = self.statement_of(item, depth);
+                    self.push_row(Row::Statement(statement));
                 }
             }
         }
-        Ok(())
+    }
+
+    /// Works out an assertion of a block.
+    fn take_assertion(&mut self, formula: usize, span: Span) {
+        let tree = self.scope.state_formula(formula);
+        let assertion = self.asserted(tree, span, Origin::Written);
+        self.push_row(Row::Assertion(assertion));
+    }
+
+    /// Adds a row to the block that is worked out.
+    fn push_row(&mut self, row: Row) {
+        let stored = self.pending_rows.push(row);
+        self.scope.want_stored(stored.is_ok());
+    }
+
+    /// The item at a place of the listed ones; behind a fault none.
+    fn item_to_take(&self, place: usize) -> Option<Item> {
+        if self.scope.is_stopped() {
+            return None;
+        }
+        self.item(place)
     }
 
     /// The item at a place of the listed ones.
@@ -78,83 +91,93 @@ impl Expansion<'_> {
 
     /// Works out the body of a `for` once for each number.
     #[cycle(blocks)]
-    fn repeat(&mut self, repeated: Repeated, depth: u32) -> Result<(), Fault> {
+    fn repeat(&mut self, repeated: Repeated, depth: u32) {
         if depth == 0 {
-            return Err(Fault::meaning(MeaningFault::TooDeep, repeated.span));
+            self.scope.refuse(MeaningFault::TooDeep, repeated.span);
+            return;
         }
-        self.scope.refuse_taken(repeated.index)?;
-        let numbers = self.scope.numbers_of(repeated.range)?;
+        self.scope.refuse_taken(repeated.index);
+        let numbers = self.scope.numbers_of(repeated.range);
         let mark = self.scope.names.len();
         for place in numbers.start..numbers.end {
             let number = self.scope.number_at(place);
             self.scope
-                .know_number(repeated.index, repeated.span, number)?;
-            self.take_items(repeated.body, depth - 1)?;
+                .know_number(repeated.index, repeated.span, number);
+            self.take_items(repeated.body, depth - 1);
             self.scope.forget(mark);
         }
-        Ok(())
     }
 
     /// Closes the block that began at the mark.
-    fn close_block(&mut self, mark: usize, items: List, span: Span) -> Result<usize, Fault> {
-        let start = self.rows.len();
-        if let Some(pending) = self.pending_rows.get(mark..) {
-            self.rows.extend_from_slice(pending)?;
-        }
-        self.pending_rows.truncate(mark);
-        let rows = List {
-            start,
-            end: self.rows.len(),
-        };
+    fn close_block(&mut self, mark: usize, items: List, span: Span) -> usize {
+        let rows = self.close_rows(mark);
         if self.statements_in(rows) == 0 {
             let place = self.item(items.start).map_or(span, |item| item.span);
-            return Err(Fault::meaning(MeaningFault::NoStatement, place));
+            self.scope.refuse(MeaningFault::NoStatement, place);
         }
         self.add_block(rows, span)
     }
 
-    fn add_block(&mut self, rows: List, span: Span) -> Result<usize, Fault> {
+    /// The rows from the mark on, as a list.
+    fn close_rows(&mut self, mark: usize) -> List {
+        let start = self.rows.len();
+        if let Some(pending) = self.pending_rows.get(mark..) {
+            let stored = self.rows.extend_from_slice(pending);
+            self.scope.want_stored(stored.is_ok());
+        }
+        self.pending_rows.truncate(mark);
+        List {
+            start,
+            end: self.rows.len(),
+        }
+    }
+
+    fn add_block(&mut self, rows: List, span: Span) -> usize {
         let index = self.blocks.len();
         let mut block = self.block(index);
         block.rows = rows;
         block.span = span;
-        self.blocks.push(block)?;
-        Ok(index)
+        let stored = self.blocks.push(block);
+        self.scope.want_stored(stored.is_ok());
+        index
     }
 
-    fn add_statement(&mut self, statement: Statement) -> Result<usize, Fault> {
+    fn add_statement(&mut self, statement: Statement) -> usize {
         let index = self.statements.len();
         if index >= MOST_STATEMENTS {
-            return Err(Fault::meaning(MeaningFault::TooLarge, statement.span));
+            self.scope.refuse(MeaningFault::TooLarge, statement.span);
+            return index;
         }
-        self.statements.push(statement)?;
-        Ok(index)
+        let stored = self.statements.push(statement);
+        self.scope.want_stored(stored.is_ok());
+        index
     }
 
     /// A statement that does nothing, at a place.
-    fn plain(&mut self, span: Span) -> Result<Statement, Fault> {
-        let test = self.scope.forest.conjoined(&[], span)?;
+    fn plain(&mut self, span: Span) -> Statement {
+        let test = self.conjoined(&[], span);
         let mut statement = self.statement(usize::MAX);
         statement.span = span;
         statement.test = test;
-        Ok(statement)
+        statement
     }
 
     /// Works out a statement.
     #[cycle(blocks)]
-    fn statement_of(&mut self, item: Item, depth: u32) -> Result<usize, Fault> {
+    fn statement_of(&mut self, item: Item, depth: u32) -> usize {
         if depth == 0 {
-            return Err(Fault::meaning(MeaningFault::TooDeep, item.span));
+            self.scope.refuse(MeaningFault::TooDeep, item.span);
+            return 0;
         }
-        let mut statement = self.plain(item.span)?;
+        let mut statement = self.plain(item.span);
         match item.kind {
             ItemKind::If { test, yes, no } => {
                 statement.action = Action::If;
-                statement.test = self.test_of(test)?;
-                let first = self.block_of(yes, item.span, depth - 1)?;
+                statement.test = self.test_of(test);
+                let first = self.block_of(yes, item.span, depth - 1);
                 let second = match no {
-                    Some(no) => self.block_of(no, item.span, depth - 1)?,
-                    None => self.skip_block(item.span)?,
+                    Some(no) => self.block_of(no, item.span, depth - 1),
+                    None => self.skip_block(item.span),
                 };
                 statement.blocks = (first, second);
             }
@@ -164,51 +187,56 @@ impl Expansion<'_> {
                 body,
             } => {
                 statement.action = Action::While;
-                statement.test = self.test_of(test)?;
+                statement.test = self.test_of(test);
                 if let Some(formula) = invariant {
-                    statement.invariant = Some(self.state_assertion(formula)?);
+                    statement.invariant = Some(self.state_assertion(formula));
                 }
-                statement.blocks = (self.block_of(body, item.span, depth - 1)?, 0);
+                statement.blocks = (self.block_of(body, item.span, depth - 1), 0);
             }
-            _ => self.take_step(&mut statement, item)?,
+            _ => self.take_step(&mut statement, item),
         }
         self.add_statement(statement)
     }
 
     /// A test or a guard, which reads no auxiliary word.
-    fn test_of(&mut self, formula: usize) -> Result<usize, Fault> {
-        let tree = self.scope.state_formula(formula)?;
-        self.refuse_auxiliary(tree)?;
-        Ok(tree)
+    fn test_of(&mut self, formula: usize) -> usize {
+        let tree = self.scope.state_formula(formula);
+        self.refuse_auxiliary(tree);
+        tree
     }
 
     /// Refuses a tree that reads an auxiliary word.
-    fn refuse_auxiliary(&self, tree: usize) -> Result<(), Fault> {
+    fn refuse_auxiliary(&mut self, tree: usize) {
         let read = self.scope.forest.reads(tree).plain;
+        if let Some(word) = self.auxiliary_of(read) {
+            let span = self.scope.forest.span(tree);
+            self.scope
+                .refuse(MeaningFault::ReadsAuxiliary { word }, span);
+        }
+    }
+
+    /// The first auxiliary word among these, as bits.
+    fn auxiliary_of(&self, read: u64) -> Option<usize> {
         for (word, known) in self.scope.words.iter().enumerate() {
             if known.standing == Standing::Auxiliary && read & bit_of(word) != 0 {
-                let span = self.scope.forest.span(tree);
-                return Err(Fault::meaning(MeaningFault::ReadsAuxiliary { word }, span));
+                return Some(word);
             }
         }
-        Ok(())
+        None
     }
 
     /// The block `skip`, which stands for a missing `else`.
-    fn skip_block(&mut self, span: Span) -> Result<usize, Fault> {
-        let skip = self.plain(span)?;
-        let index = self.add_statement(skip)?;
-        let start = self.rows.len();
-        self.rows.push(Row::Statement(index))?;
-        let rows = List {
-            start,
-            end: self.rows.len(),
-        };
+    fn skip_block(&mut self, span: Span) -> usize {
+        let skip = self.plain(span);
+        let index = self.add_statement(skip);
+        let mark = self.pending_rows.len();
+        self.push_row(Row::Statement(index));
+        let rows = self.close_rows(mark);
         self.add_block(rows, span)
     }
 
     /// Works out a statement that holds no other.
-    fn take_step(&mut self, statement: &mut Statement, item: Item) -> Result<(), Fault> {
+    fn take_step(&mut self, statement: &mut Statement, item: Item) {
         match item.kind {
             ItemKind::Assign(assignment) => {
                 statement.action = Action::Assign;
@@ -216,40 +244,45 @@ impl Expansion<'_> {
                 statement.updates = self.updates_in(List {
                     start: assignment,
                     end: next,
-                })?;
+                });
             }
             ItemKind::Atomic(assignments) => {
                 statement.action = Action::Await;
-                statement.updates = self.updates_in(assignments)?;
+                statement.updates = self.updates_in(assignments);
             }
             ItemKind::Await(guard, assignments) => {
                 statement.action = Action::Await;
-                statement.test = self.test_of(guard)?;
+                statement.test = self.test_of(guard);
                 statement.updates = match assignments {
-                    Some(assignments) => self.updates_in(assignments)?,
-                    None => self.kept_word(item.span)?,
+                    Some(assignments) => self.updates_in(assignments),
+                    None => self.kept_word(item.span),
                 };
             }
             _ => {}
         }
-        Ok(())
     }
 
     /// The updates of assignments.
-    fn updates_in(&mut self, assignments: List) -> Result<List, Fault> {
+    fn updates_in(&mut self, assignments: List) -> List {
         let start = self.updates.len();
         for (place, assignment) in self.scope.written.assigned(assignments).iter().enumerate() {
             if place >= MOST_ASSIGNMENTS {
-                let kind = MeaningFault::TooManyAssignments;
-                return Err(Fault::meaning(kind, assignment.span));
+                self.scope
+                    .refuse(MeaningFault::TooManyAssignments, assignment.span);
+                break;
             }
-            let update = self.update_of(*assignment)?;
-            self.updates.push(update)?;
+            let update = self.update_of(*assignment);
+            self.push_update(update);
         }
-        Ok(List {
+        List {
             start,
             end: self.updates.len(),
-        })
+        }
+    }
+
+    fn push_update(&mut self, update: Update) {
+        let stored = self.updates.push(update);
+        self.scope.want_stored(stored.is_ok());
     }
 
     fn target_span(&self, assignment: Assignment) -> Span {
@@ -259,32 +292,37 @@ impl Expansion<'_> {
         }
     }
 
-    fn update_of(&mut self, assignment: Assignment) -> Result<Update, Fault> {
+    fn update_of(&mut self, assignment: Assignment) -> Update {
         let span = self.target_span(assignment);
-        let word = self.scope.word_of(assignment.target)?;
+        let word = self.scope.word_of(assignment.target);
         let standing = self.scope.word(word).standing;
         if standing == Standing::Fixed {
-            return Err(Fault::meaning(MeaningFault::FixedAssigned { word }, span));
+            self.scope
+                .refuse(MeaningFault::FixedAssigned { word }, span);
         }
-        let value = self.scope.state_value(assignment.value)?;
-        self.scope.refuse_assignment(word, value, span)?;
+        let value = self.scope.state_value(assignment.value);
+        self.scope.refuse_assignment(word, value, span);
         if standing == Standing::Plain {
-            self.refuse_auxiliary(value)?;
+            self.refuse_auxiliary(value);
         }
-        self.note_assigned(word, span)?;
-        Ok(Update { word, value })
+        self.note_assigned(word, span);
+        Update { word, value }
     }
 
     /// Notes the first assignment of the last part to a word.
-    fn note_assigned(&mut self, word: usize, span: Span) -> Result<(), Fault> {
+    fn note_assigned(&mut self, word: usize, span: Span) {
         let part = self.parts.len().saturating_sub(1);
-        for assigned in &self.assigned {
-            if assigned.part == part && assigned.word == word {
-                return Ok(());
-            }
+        if !self.is_assigned(part, word) {
+            let stored = self.assigned.push(Assigned { part, word, span });
+            self.scope.want_stored(stored.is_ok());
         }
-        self.assigned.push(Assigned { part, word, span })?;
-        Ok(())
+    }
+
+    /// Whether an assignment of a part to a word is noted.
+    fn is_assigned(&self, part: usize, word: usize) -> bool {
+        self.assigned
+            .iter()
+            .any(|assigned| assigned.part == part && assigned.word == word)
     }
 
     /// The word that an await without assignments keeps: the first one that the part owns, else the first that isn't fixed.
@@ -304,16 +342,17 @@ impl Expansion<'_> {
     }
 
     /// The update that keeps a word.
-    fn kept_word(&mut self, span: Span) -> Result<List, Fault> {
+    fn kept_word(&mut self, span: Span) -> List {
         let Some(word) = self.word_to_keep() else {
-            return Err(Fault::meaning(MeaningFault::NothingToAssign, span));
+            self.scope.refuse(MeaningFault::NothingToAssign, span);
+            return List::EMPTY;
         };
         let start = self.updates.len();
-        let value = self.scope.plain_word(word, span)?;
-        self.updates.push(Update { word, value })?;
-        Ok(List {
+        let value = self.scope.plain_word(word, span);
+        self.push_update(Update { word, value });
+        List {
             start,
             end: self.updates.len(),
-        })
+        }
     }
 }

@@ -4,7 +4,7 @@ use crate::ranges::Quantifier;
 use crate::scope::Scope;
 use crate::uses::Use;
 use rg_outline_forest::Root;
-use rg_outline_text::{Fault, MeaningFault, Span};
+use rg_outline_text::{MeaningFault, Span};
 use rg_outline_tree::{Comparison, Expression, ExpressionKind};
 
 /// How deep what is worked out may stand within one another.
@@ -17,74 +17,47 @@ pub(crate) enum Sort {
     Value,
 }
 
-pub(crate) fn fault(fault: MeaningFault, span: Span) -> Fault {
-    Fault::meaning(fault, span)
-}
-
 impl Scope<'_> {
-    /// What an expression of two states stands for, which has to be a formula.
-    ///
-    /// # Errors
-    ///
-    /// The first `MeaningFault` in the order of reading, and `FaultKind::Memory`.
-    pub fn step_formula(&mut self, index: usize) -> Result<usize, Fault> {
+    /// What an expression of two states stands for, which has to be a formula. Faults are the first `MeaningFault` in the order of reading, and
+    /// `FaultKind::Memory`.
+    pub fn step_formula(&mut self, index: usize) -> usize {
         self.sorted(index, Sort::Formula, DEEPEST)
     }
 
-    /// What an expression of one state stands for, which has to be a formula.
-    ///
-    /// # Errors
-    ///
-    /// As `step_formula`, and `MeaningFault::PrimeHere` at the first primed word.
-    pub fn state_formula(&mut self, index: usize) -> Result<usize, Fault> {
-        let tree = self.sorted(index, Sort::Formula, DEEPEST)?;
-        self.refuse_primes(tree)?;
-        Ok(tree)
+    /// What an expression of one state stands for, which has to be a formula. Faults are those of `step_formula`, and `MeaningFault::PrimeHere` at the
+    /// first primed word.
+    pub fn state_formula(&mut self, index: usize) -> usize {
+        let tree = self.sorted(index, Sort::Formula, DEEPEST);
+        self.refuse_primes(tree);
+        tree
     }
 
-    /// What an expression of one state stands for, which has to be a value.
-    ///
-    /// # Errors
-    ///
-    /// As `state_formula`.
-    pub fn state_value(&mut self, index: usize) -> Result<usize, Fault> {
-        let tree = self.sorted(index, Sort::Value, DEEPEST)?;
-        self.refuse_primes(tree)?;
-        Ok(tree)
+    /// What an expression of one state stands for, which has to be a value. Faults are those of `state_formula`.
+    pub fn state_value(&mut self, index: usize) -> usize {
+        let tree = self.sorted(index, Sort::Value, DEEPEST);
+        self.refuse_primes(tree);
+        tree
     }
 
-    /// Refuses an assignment whose value isn't of the word's width.
-    ///
-    /// # Errors
-    ///
-    /// `MeaningFault::WidthsDiffer`, `DoesNotFit` and `Negative` at the word or the number, and `FaultKind::Memory`.
-    pub fn refuse_assignment(
-        &mut self,
-        word: usize,
-        value: usize,
-        span: Span,
-    ) -> Result<(), Fault> {
-        let root = Root::Word {
-            word,
-            is_primed: false,
-        };
-        let target = self.forest.leaf(root, span)?;
-        self.refuse_widths(target, value, span)
+    /// Refuses an assignment whose value isn't of the word's width: `MeaningFault::WidthsDiffer`, `DoesNotFit` and `Negative` at the word or the number.
+    pub fn refuse_assignment(&mut self, word: usize, value: usize, span: Span) {
+        let target = self.plain_word(word, span);
+        self.refuse_widths(target, value, span);
     }
 
     /// Looks at a name's tree, so that its faults are told where it is named.
-    pub(crate) fn look_at(&mut self, index: usize) -> Result<(), Fault> {
-        self.elaborate(index, DEEPEST)?;
-        Ok(())
+    pub(crate) fn look_at(&mut self, index: usize) {
+        self.elaborate(index, DEEPEST);
     }
 
-    pub(crate) fn refuse_primes(&mut self, tree: usize) -> Result<(), Fault> {
+    pub(crate) fn refuse_primes(&mut self, tree: usize) {
         if self.forest.reads(tree).primed == 0 {
-            return Ok(());
+            return;
         }
-        match self.forest.first_primed(self.alloc, tree)? {
-            Some(span) => Err(fault(MeaningFault::PrimeHere, span)),
-            None => Ok(()),
+        match self.forest.first_primed(self.alloc, tree) {
+            Ok(Some(span)) => self.refuse(MeaningFault::PrimeHere, span),
+            Ok(None) => {}
+            Err(fault) => self.stop(fault),
         }
     }
 
@@ -101,17 +74,18 @@ impl Scope<'_> {
 
     /// What an expression stands for.
     #[cycle(elaborate)]
-    pub(crate) fn elaborate(&mut self, index: usize, depth: u32) -> Result<usize, Fault> {
+    pub(crate) fn elaborate(&mut self, index: usize, depth: u32) -> usize {
         let Expression { kind, span } = self.expression(index);
         if depth == 0 {
-            return Err(fault(MeaningFault::TooDeep, span));
+            self.refuse(MeaningFault::TooDeep, span);
+            return 0;
         }
-        self.spend(span)?;
+        if !self.spends(span) {
+            return 0;
+        }
         match kind {
-            ExpressionKind::Number(number) => {
-                self.forest.numeral(Some(i128::from(number)), span)
-            }
-            ExpressionKind::Truth(truth) => self.forest.leaf(Root::Truth(truth), span),
+            ExpressionKind::Number(number) => self.numeral(number, span),
+            ExpressionKind::Truth(truth) => self.leaf(Root::Truth(truth), span),
             ExpressionKind::Group(inner) => self.elaborate(inner, depth - 1),
             ExpressionKind::Name {
                 name,
@@ -147,75 +121,90 @@ impl Scope<'_> {
         }
     }
 
+    fn numeral(&mut self, number: u64, span: Span) -> usize {
+        let made = self.forest.numeral(Some(i128::from(number)), span);
+        self.made(made)
+    }
+
     /// What an operation, a comparison or a connective stands for.
     #[cycle(elaborate)]
-    fn composed(&mut self, kind: ExpressionKind, span: Span, depth: u32) -> Result<usize, Fault> {
-        match kind {
-            ExpressionKind::Join(junction, left, right) => {
-                let first = self.sorted(left, Sort::Formula, depth)?;
-                let second = self.sorted(right, Sort::Formula, depth)?;
+    fn composed(&mut self, kind: ExpressionKind, span: Span, depth: u32) -> usize {
+        let Some((left, right, sort)) = operands_of(kind) else {
+            return self.prefixed(kind, span, depth);
+        };
+        let first = self.sorted(left, sort, depth);
+        let second = self.sorted(right, sort, depth);
+        self.combined(kind, first, second, span)
+    }
+
+    /// The tree of a form with two operands, of their trees.
+    fn combined(&mut self, kind: ExpressionKind, first: usize, second: usize, span: Span) -> usize {
+        let made = match kind {
+            ExpressionKind::Join(junction, _, _) => {
                 self.forest.joined(junction, first, second, span)
             }
-            ExpressionKind::Imply(conditional, left, right) => {
-                let first = self.sorted(left, Sort::Formula, depth)?;
-                let second = self.sorted(right, Sort::Formula, depth)?;
+            ExpressionKind::Imply(conditional, _, _) => {
                 self.forest.implied(conditional, first, second, span)
             }
-            ExpressionKind::Compare(comparison, left, right) => {
-                let first = self.sorted(left, Sort::Value, depth)?;
-                let second = self.sorted(right, Sort::Value, depth)?;
-                self.compared(comparison, first, second, span)
-            }
-            ExpressionKind::Operate(operator, left, right) => {
-                let first = self.sorted(left, Sort::Value, depth)?;
-                let second = self.sorted(right, Sort::Value, depth)?;
+            ExpressionKind::Operate(operator, _, _) => {
                 self.forest.operated(operator, first, second, span)
             }
-            _ => self.prefixed(kind, span, depth),
-        }
+            ExpressionKind::Compare(comparison, _, _) => {
+                return self.compared(comparison, first, second, span);
+            }
+            _ => Ok(0),
+        };
+        self.made(made)
     }
 
     /// What a form with a word before it stands for.
     #[cycle(elaborate)]
-    fn prefixed(&mut self, kind: ExpressionKind, span: Span, depth: u32) -> Result<usize, Fault> {
+    fn prefixed(&mut self, kind: ExpressionKind, span: Span, depth: u32) -> usize {
         match kind {
             ExpressionKind::Not(inner) => {
-                let formula = self.sorted(inner, Sort::Formula, depth)?;
-                self.forest.denied(formula, span)
+                let formula = self.sorted(inner, Sort::Formula, depth);
+                let made = self.forest.denied(formula, span);
+                self.made(made)
             }
             ExpressionKind::Keeps(inner) => {
-                let formula = self.sorted(inner, Sort::Formula, depth)?;
+                let formula = self.sorted(inner, Sort::Formula, depth);
                 self.kept(formula, span)
             }
             ExpressionKind::Inverse(inner) => {
-                let value = self.sorted(inner, Sort::Value, depth)?;
-                self.forest.unary(Root::Inverse, value, span)
+                let value = self.sorted(inner, Sort::Value, depth);
+                let made = self.forest.unary(Root::Inverse, value, span);
+                self.made(made)
             }
             ExpressionKind::Choice { test, yes, no } => {
-                let test = self.sorted(test, Sort::Formula, depth)?;
-                let first = self.sorted(yes, Sort::Value, depth)?;
-                let second = self.sorted(no, Sort::Value, depth)?;
-                self.forest.chosen(test, first, second, span)
+                let test = self.sorted(test, Sort::Formula, depth);
+                let first = self.sorted(yes, Sort::Value, depth);
+                let second = self.sorted(no, Sort::Value, depth);
+                let made = self.forest.chosen(test, first, second, span);
+                self.made(made)
             }
             ExpressionKind::Unchanged(words) => self.unchanged(words, span, depth),
             ExpressionKind::UnchangedBut(words) => self.unchanged_but(words, span, depth),
-            _ => self.forest.leaf(Root::Truth(false), span),
+            _ => self.leaf(Root::Truth(false), span),
         }
     }
 
     /// What an expression stands for, which has to be a formula or a value.
     #[cycle(elaborate)]
-    pub(crate) fn sorted(&mut self, index: usize, sort: Sort, depth: u32) -> Result<usize, Fault> {
-        let tree = self.elaborate(index, depth)?;
+    pub(crate) fn sorted(&mut self, index: usize, sort: Sort, depth: u32) -> usize {
+        let tree = self.elaborate(index, depth);
+        self.refuse_other(tree, sort, index);
+        tree
+    }
+
+    /// Refuses the tree of an expression that isn't a formula, or a value.
+    fn refuse_other(&mut self, tree: usize, sort: Sort, index: usize) {
         let is_formula = self.forest.root(tree).is_formula();
-        if is_formula == (sort == Sort::Formula) {
-            return Ok(tree);
-        }
         let span = self.expression(index).span;
-        Err(match sort {
-            Sort::Formula => fault(MeaningFault::FormulaWanted, span),
-            Sort::Value => fault(MeaningFault::ValueWanted, span),
-        })
+        match sort {
+            Sort::Formula if !is_formula => self.refuse(MeaningFault::FormulaWanted, span),
+            Sort::Value if is_formula => self.refuse(MeaningFault::ValueWanted, span),
+            _ => {}
+        }
     }
 
     /// A comparison of two values, whose words and numbers have one width.
@@ -225,24 +214,42 @@ impl Scope<'_> {
         first: usize,
         second: usize,
         span: Span,
-    ) -> Result<usize, Fault> {
-        if let Some(truth) = self
+    ) -> usize {
+        match self
             .forest
-            .compared_numbers(comparison, first, second, span)?
+            .compared_numbers(comparison, first, second, span)
         {
-            return Ok(truth);
+            Ok(Some(truth)) => truth,
+            Ok(None) => {
+                self.refuse_widths(first, second, span);
+                let root = Root::Compare(comparison);
+                let made = self.forest.binary(root, first, second, span);
+                self.made(made)
+            }
+            Err(fault) => self.made(Err(fault)),
         }
-        self.refuse_widths(first, second, span)?;
-        self.forest
-            .binary(Root::Compare(comparison), first, second, span)
     }
 
     /// `keeps` before a formula.
-    fn kept(&mut self, formula: usize, span: Span) -> Result<usize, Fault> {
+    fn kept(&mut self, formula: usize, span: Span) -> usize {
         if matches!(self.forest.root(formula), Root::Truth(_)) {
-            return self.forest.leaf(Root::Truth(true), span);
+            return self.leaf(Root::Truth(true), span);
         }
-        let next = self.forest.in_next_state(self.alloc, formula)?;
-        self.forest.keeping(formula, next, span)
+        let next = self.in_next_state(formula);
+        let made = self.forest.keeping(formula, next, span);
+        self.made(made)
+    }
+}
+
+/// The two operands of an operation, a comparison or a connective, and what they have to be.
+fn operands_of(kind: ExpressionKind) -> Option<(usize, usize, Sort)> {
+    match kind {
+        ExpressionKind::Join(_, left, right) | ExpressionKind::Imply(_, left, right) => {
+            Some((left, right, Sort::Formula))
+        }
+        ExpressionKind::Compare(_, left, right) | ExpressionKind::Operate(_, left, right) => {
+            Some((left, right, Sort::Value))
+        }
+        _ => None,
     }
 }

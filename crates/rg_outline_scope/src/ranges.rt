@@ -1,10 +1,10 @@
 //! Numbers, ranges, and the instances of a tree.
 
-use crate::elaborate::{DEEPEST, Sort, fault};
+use crate::elaborate::{DEEPEST, Sort};
 use crate::scope::Scope;
 use rg_outline_forest::Root;
 use rg_outline_names::push_numbers;
-use rg_outline_text::{Fault, MeaningFault, Span};
+use rg_outline_text::{MeaningFault, Span};
 use rg_outline_tree::{Binder, Junction, List, Operator, Range};
 
 /// A quantifier or a sum.
@@ -19,12 +19,12 @@ pub(crate) struct Quantifier {
 
 impl Scope<'_> {
     /// The number that an expression stands for.
-    pub(crate) fn known_number(&mut self, index: usize, what: &'static str) -> Result<i128, Fault> {
+    pub(crate) fn known_number(&mut self, index: usize, what: &'static str) -> i128 {
         self.number_of(index, what, DEEPEST)
     }
 
     /// The numbers of a range, as places in `numbers`.
-    pub fn numbers_of(&mut self, range: usize) -> Result<List, Fault> {
+    pub fn numbers_of(&mut self, range: usize) -> List {
         self.range_of(range, DEEPEST)
     }
 
@@ -35,19 +35,20 @@ impl Scope<'_> {
 
     /// The number that an expression stands for.
     #[cycle(elaborate)]
-    pub(crate) fn number_of(
-        &mut self,
-        index: usize,
-        what: &'static str,
-        depth: u32,
-    ) -> Result<i128, Fault> {
-        let tree = self.elaborate(index, depth)?;
+    pub(crate) fn number_of(&mut self, index: usize, what: &'static str, depth: u32) -> i128 {
+        let tree = self.elaborate(index, depth);
+        self.number_wanted(tree, index, what)
+    }
+
+    /// The number that the tree of an expression is, which has to be one.
+    fn number_wanted(&mut self, tree: usize, index: usize, what: &'static str) -> i128 {
         match self.forest.number(tree) {
-            Some(number) => Ok(number),
-            None => Err(fault(
-                MeaningFault::NumberWanted(what),
-                self.expression(index).span,
-            )),
+            Some(number) => number,
+            None => {
+                let span = self.expression(index).span;
+                self.refuse(MeaningFault::NumberWanted(what), span);
+                0
+            }
         }
     }
 
@@ -58,30 +59,41 @@ impl Scope<'_> {
 
     /// The numbers of a range, as places in `numbers`.
     #[cycle(elaborate)]
-    pub(crate) fn range_of(&mut self, index: usize, depth: u32) -> Result<List, Fault> {
+    pub(crate) fn range_of(&mut self, index: usize, depth: u32) -> List {
         let Some(range) = self.written_range(index) else {
-            return Ok(List::EMPTY);
+            return List::EMPTY;
         };
-        let first = self.number_of(range.first, "a bound of a range", depth)?;
-        let last = self.number_of(range.last, "a bound of a range", depth)?;
+        let first = self.number_of(range.first, "a bound of a range", depth);
+        let last = self.number_of(range.last, "a bound of a range", depth);
         let left_out = self.numbers.len();
         for place in range.without.start..range.without.end {
             let number = self.written.listed.get(place).copied().unwrap_or(0);
-            let number = self.number_of(number, "what is left out", depth)?;
-            self.numbers.push(number)?;
+            let number = self.number_of(number, "what is left out", depth);
+            let stored = self.numbers.push(number);
+            self.want_stored(stored.is_ok());
         }
-        push_numbers(&mut self.numbers, (first, last), left_out, range.span)
+        self.add_numbers((first, last), left_out, range.span)
+    }
+
+    /// Adds the numbers from the one to the other, without those from a place of `numbers` on; behind a fault none.
+    fn add_numbers(&mut self, bounds: (i128, i128), left_out: usize, span: Span) -> List {
+        if self.is_stopped() {
+            return List::EMPTY;
+        }
+        match push_numbers(&mut self.numbers, bounds, left_out, span) {
+            Ok(numbers) => numbers,
+            Err(fault) => {
+                self.stop(fault);
+                List::EMPTY
+            }
+        }
     }
 
     /// The instances of a tree, joined.
     #[cycle(elaborate)]
-    pub(crate) fn quantified(
-        &mut self,
-        quantifier: Quantifier,
-        depth: u32,
-    ) -> Result<usize, Fault> {
-        self.refuse_taken(quantifier.index)?;
-        let numbers = self.range_of(quantifier.range, depth)?;
+    pub(crate) fn quantified(&mut self, quantifier: Quantifier, depth: u32) -> usize {
+        self.refuse_taken(quantifier.index);
+        let numbers = self.range_of(quantifier.range, depth);
         let mark = self.names.len();
         let sort = match quantifier.binder {
             Binder::Sum => Sort::Value,
@@ -89,44 +101,48 @@ impl Scope<'_> {
         };
         let mut made = None;
         for place in numbers.start..numbers.end {
+            if self.is_stopped() {
+                break;
+            }
             self.forget(mark);
             let number = self.number_at(place);
-            self.know_number(quantifier.index, quantifier.span, number)?;
-            let instance = self.sorted(quantifier.body, sort, depth)?;
-            made = Some(match made {
-                None => instance,
-                Some(before) => self.collected(quantifier, before, instance)?,
-            });
+            self.know_number(quantifier.index, quantifier.span, number);
+            let instance = self.sorted(quantifier.body, sort, depth);
+            made = Some(self.collected(quantifier, made, instance));
         }
         self.forget(mark);
         match made {
-            Some(tree) => Ok(tree),
+            Some(tree) => tree,
             None => self.of_nothing(quantifier),
         }
     }
 
-    /// The next instance behind the ones before it.
+    /// The next instance behind the ones before it, if there are any.
     fn collected(
         &mut self,
         quantifier: Quantifier,
-        before: usize,
+        before: Option<usize>,
         instance: usize,
-    ) -> Result<usize, Fault> {
+    ) -> usize {
+        let Some(before) = before else {
+            return instance;
+        };
         let span = quantifier.span;
-        match quantifier.binder {
+        let made = match quantifier.binder {
             Binder::All => self.forest.joined(Junction::And, before, instance, span),
             Binder::Some => self.forest.joined(Junction::Or, before, instance, span),
             Binder::Sum => { self.forest.operated(Operator::Add, before, instance, span) }
-        }
+        };
+        self.made(made)
     }
 
     /// What an empty range makes.
-    fn of_nothing(&mut self, quantifier: Quantifier) -> Result<usize, Fault> {
+    fn of_nothing(&mut self, quantifier: Quantifier) -> usize {
         let root = match quantifier.binder {
             Binder::All => Root::Truth(true),
             Binder::Some => Root::Truth(false),
             Binder::Sum => Root::Number(0),
         };
-        self.forest.leaf(root, quantifier.span)
+        self.leaf(root, quantifier.span)
     }
 }

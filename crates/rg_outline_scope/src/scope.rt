@@ -1,6 +1,6 @@
-//! The names of an outline, each with the piece of the outline in which it is known.
+//! The names of an outline, each with the piece of the outline in which it is known; and the first fault, which no call gives back.
 
-use rg_outline_forest::Forest;
+use rg_outline_forest::{Forest, Root};
 use rg_outline_names::{
     Family, Meaning, Named, Word, find, near, push_bindings, refuse_widths, word_at,
 };
@@ -34,6 +34,8 @@ pub struct Scope<'a> {
     /// The arguments of names that are being worked out.
     pub(crate) passed: Vec<usize>,
     steps_left: u64,
+    /// The first fault. From then on nothing more is worked out, and what was known there stays known.
+    fault: Option<Fault>,
 }
 
 impl<'a> Scope<'a> {
@@ -54,18 +56,64 @@ impl<'a> Scope<'a> {
             uses: Vec::new(alloc),
             passed: Vec::new(alloc),
             steps_left: MOST_STEPS,
+            fault: None,
         }
     }
 
-    /// Takes one step of working out.
-    pub(crate) fn spend(&mut self, span: Span) -> Result<(), Fault> {
-        match self.steps_left.checked_sub(1) {
-            Some(left) => {
-                self.steps_left = left;
-                Ok(())
-            }
-            None => Err(Fault::meaning(MeaningFault::TooLarge, span)),
+    /// The first fault, where there is one.
+    pub fn fault(&self) -> Option<Fault> {
+        self.fault
+    }
+
+    /// Whether there is a fault, so that nothing more is worked out.
+    pub fn is_stopped(&self) -> bool {
+        self.fault.is_some()
+    }
+
+    /// Keeps a fault, where it is the first.
+    pub fn stop(&mut self, fault: Fault) {
+        if self.fault.is_none() {
+            self.fault = Some(fault);
         }
+    }
+
+    /// Keeps as the fault what means nothing, where it is the first.
+    pub fn refuse(&mut self, fault: MeaningFault, span: Span) {
+        self.stop(Fault::meaning(fault, span));
+    }
+
+    /// Keeps the fault of what was done, where it failed.
+    pub fn heed(&mut self, done: Result<(), Fault>) {
+        if let Err(fault) = done {
+            self.stop(fault);
+        }
+    }
+
+    /// What was made. Where that failed, its fault is kept, and any tree stands for it.
+    pub fn made(&mut self, made: Result<usize, Fault>) -> usize {
+        match made {
+            Ok(tree) => tree,
+            Err(fault) => {
+                self.stop(fault);
+                0
+            }
+        }
+    }
+
+    /// Keeps as the fault that memory was refused, where something couldn't be stored.
+    pub fn want_stored(&mut self, is_stored: bool) {
+        if !is_stored {
+            self.stop(Fault::memory());
+        }
+    }
+
+    /// Takes one step of working out; whether there is no fault.
+    pub(crate) fn spends(&mut self, span: Span) -> bool {
+        match self.steps_left.checked_sub(1) {
+            Some(left) => self.steps_left = left,
+            None => self.refuse(MeaningFault::TooLarge, span),
+        }
+        !self.is_stopped()
     }
 
     /// The bytes of a place.
@@ -85,9 +133,9 @@ impl<'a> Scope<'a> {
     }
 
     /// Refuses a new name where something has it already.
-    pub fn refuse_taken(&self, name: Span) -> Result<(), Fault> {
+    pub fn refuse_taken(&mut self, name: Span) {
         match self.find(name) {
-            None => Ok(()),
+            None => {}
             Some(
                 Named {
                     meaning: Meaning::Family(_),
@@ -96,31 +144,37 @@ impl<'a> Scope<'a> {
                 },
             ) => {
                 let line = first.position(self.source).line;
-                Err(Fault::meaning(MeaningFault::DeclaredAlready { line }, name))
+                self.refuse(MeaningFault::DeclaredAlready { line }, name);
             }
-            Some(_) => Err(Fault::meaning(MeaningFault::NamedAlready, name)),
+            Some(_) => self.refuse(MeaningFault::NamedAlready, name),
         }
     }
 
-    /// Adds a name, which is known within a piece of the outline.
-    pub fn know(&mut self, name: Span, known: Span, meaning: Meaning) -> Result<(), Fault> {
-        self.names.push(Named {
+    /// Adds a name, which is known within a piece of the outline; behind a fault none.
+    pub fn know(&mut self, name: Span, known: Span, meaning: Meaning) {
+        if self.is_stopped() {
+            return;
+        }
+        let stored = self.names.push(Named {
             name,
             known,
             meaning,
-        })?;
-        Ok(())
+        });
+        self.want_stored(stored.is_ok());
     }
 
     /// Adds an index that is a number within a piece of the outline.
-    pub fn know_number(&mut self, name: Span, known: Span, number: i128) -> Result<(), Fault> {
-        let tree = self.forest.numeral(Some(number), name)?;
-        self.know(name, known, Meaning::Tree(tree))
+    pub fn know_number(&mut self, name: Span, known: Span, number: i128) {
+        let tree = self.forest.numeral(Some(number), name);
+        let tree = self.made(tree);
+        self.know(name, known, Meaning::Tree(tree));
     }
 
-    /// Forgets the names that were added behind the first so many.
+    /// Forgets the names that were added behind the first so many; behind a fault none.
     pub fn forget(&mut self, count: usize) {
-        self.names.truncate(count);
+        if !self.is_stopped() {
+            self.names.truncate(count);
+        }
     }
 
     /// Adds the numbers that indices stand for at a place.
@@ -138,12 +192,21 @@ impl<'a> Scope<'a> {
     }
 
     /// Refuses two values that aren't of one width.
-    pub(crate) fn refuse_widths(
-        &self,
-        first: usize,
-        second: usize,
-        span: Span,
-    ) -> Result<(), Fault> {
-        refuse_widths(&self.forest, &self.words, self.alloc, (first, second), span)
+    pub(crate) fn refuse_widths(&mut self, first: usize, second: usize, span: Span) {
+        let values = (first, second);
+        let done = refuse_widths(&self.forest, &self.words, self.alloc, values, span);
+        self.heed(done);
+    }
+
+    /// Adds a tree without operands.
+    pub(crate) fn leaf(&mut self, root: Root, span: Span) -> usize {
+        let made = self.forest.leaf(root, span);
+        self.made(made)
+    }
+
+    /// The same tree in the next state.
+    pub fn in_next_state(&mut self, tree: usize) -> usize {
+        let made = self.forest.in_next_state(self.alloc, tree);
+        self.made(made)
     }
 }

@@ -23,9 +23,10 @@ enum Section {
 /// - `FaultKind::Memory` where memory is refused.
 pub fn parse(alloc: Global, source: &[u8], tokens: &Tokens) -> Result<Written, Fault> {
     let mut parser = Parser::new(alloc, source, tokens);
-    match parser.outline() {
-        Ok(()) => Ok(parser.written),
-        Err(fault) => Err(fault),
+    parser.outline();
+    match parser.fault {
+        None => Ok(parser.written),
+        Some(fault) => Err(fault),
     }
 }
 
@@ -55,24 +56,24 @@ fn may_stand(section: Section, keyword: Keyword) -> bool {
 }
 
 impl Parser<'_> {
-    fn outline(&mut self) -> Result<(), Fault> {
-        self.written.before_words = self.heads(Section::BeforeWords)?;
+    fn outline(&mut self) {
+        self.written.before_words = self.heads(Section::BeforeWords);
         self.want_keyword(
             Keyword::Words,
             "`words` is wanted here or `let`, at the beginning of an outline",
-        )?;
-        self.declarations()?;
-        self.written.behind_words = self.heads(Section::Program)?;
+        );
+        self.declarations();
+        self.written.behind_words = self.heads(Section::Program);
         if !self.is_keyword(Keyword::Part) {
-            return Err(self.fault(ShapeFault::Wanted(
+            self.refuse(ShapeFault::Wanted(
                 "`let`, `invariant`, `pre`, `rely`, `guar`, `post` or `part` is wanted here",
-            )));
+            ));
         }
-        self.parts()
+        self.parts();
     }
 
     /// The heads of a section.
-    fn heads(&mut self, section: Section) -> Result<List, Fault> {
+    fn heads(&mut self, section: Section) -> List {
         let start = self.written.heads.len();
         for _ in 0..self.tokens.len() {
             let Kind::Keyword(keyword) = self.token().kind else {
@@ -81,70 +82,72 @@ impl Parser<'_> {
             if !may_stand(section, keyword) {
                 break;
             }
-            let head = self.head(keyword)?;
-            self.written.heads.push(head)?;
+            let head = self.head(keyword);
+            let stored = self.written.heads.push(head);
+            self.want_stored(stored.is_ok());
         }
-        Ok(List {
+        List {
             start,
             end: self.written.heads.len(),
-        })
+        }
     }
 
-    fn head(&mut self, keyword: Keyword) -> Result<Head, Fault> {
+    fn head(&mut self, keyword: Keyword) -> Head {
         let start = self.span();
         self.step();
         if let Some(clause) = clause_of(keyword) {
-            let formula = self.formula()?;
-            return Ok(Head {
+            let formula = self.formula();
+            return Head {
                 kind: HeadKind::Clause(clause, formula),
                 span: start,
-            });
+            };
         }
         if keyword == Keyword::Owns {
-            let words = self.words()?;
-            return Ok(Head {
+            let words = self.words();
+            return Head {
                 kind: HeadKind::Owns(words),
                 span: self.since(start),
-            });
+            };
         }
         self.let_head()
     }
 
     /// A name for a tree, behind its `let`.
-    fn let_head(&mut self) -> Result<Head, Fault> {
-        let name = self.name("a name")?;
-        let parameters = self.parameters()?;
-        self.want(Symbol::Equal, "`=` is wanted here")?;
-        let body = self.formula()?;
+    fn let_head(&mut self) -> Head {
+        let name = self.name("a name");
+        let parameters = self.parameters();
+        self.want(Symbol::Equal, "`=` is wanted here");
+        let body = self.formula();
         let named = Let {
             name,
             parameters,
             body,
             span: self.since(name),
         };
-        Ok(Head {
+        Head {
             kind: HeadKind::Let(named),
             span: name,
-        })
+        }
     }
 
     /// The parameters of a name for a tree, if it has any.
-    fn parameters(&mut self) -> Result<List, Fault> {
+    fn parameters(&mut self) -> List {
         let start = self.written.names.len();
         if self.takes(Symbol::OpenParenthesis) {
             for _ in 0..self.tokens.len() {
-                let parameter = self.name("the name of a parameter")?;
-                self.written.names.push(parameter)?;
+                let parameter = self.name("the name of a parameter");
+                let stored = self.written.names.push(parameter);
+                self.want_stored(stored.is_ok());
                 if !self.takes(Symbol::Comma) {
                     break;
                 }
             }
-            self.want(Symbol::CloseParenthesis, "`)` is wanted here")?;
+            self.want(Symbol::CloseParenthesis, "`)` is wanted here");
         }
-        Ok(List {
+        List {
             start,
             end: self.written.names.len(),
-        })
+        }
     }
 
     /// Whether `aux` comes next, and a name behind it.
@@ -165,98 +168,97 @@ impl Parser<'_> {
         Standing::Plain
     }
 
-    fn declarations(&mut self) -> Result<(), Fault> {
+    fn declarations(&mut self) {
         for _ in 0..self.tokens.len() {
             if self.token().kind != Kind::Name && !self.is_keyword(Keyword::Fixed) {
                 break;
             }
-            let declaration = self.declaration()?;
-            self.written.declarations.push(declaration)?;
+            let declaration = self.declaration();
+            let stored = self.written.declarations.push(declaration);
+            self.want_stored(stored.is_ok());
         }
         if self.written.declarations.is_empty() {
-            self.name("the name of a word")?;
+            self.name("the name of a word");
         }
         let behind = self.tokens.at(self.place.saturating_add(1)).kind;
         if matches!(self.token().kind, Kind::Keyword(_))
             && matches!(behind, Kind::Symbol(Symbol::Colon | Symbol::OpenBracket))
         {
-            return Err(self.fault(ShapeFault::KeywordIsNoWord));
+            self.refuse(ShapeFault::KeywordIsNoWord);
         }
-        Ok(())
     }
 
-    fn declaration(&mut self) -> Result<Declaration, Fault> {
+    fn declaration(&mut self) -> Declaration {
         let standing = self.standing();
-        let name = self.name("the name of a word")?;
-        let ranges = self.dimensions()?;
-        self.want(Symbol::Colon, "`:` is wanted here and the width")?;
-        let width = self.width()?;
-        Ok(Declaration {
+        let name = self.name("the name of a word");
+        let ranges = self.dimensions();
+        self.want(Symbol::Colon, "`:` is wanted here and the width");
+        let width = self.width();
+        Declaration {
             name,
             standing,
             ranges,
             width,
-        })
+        }
     }
 
     /// The ranges of a family's indices, each in brackets.
-    fn dimensions(&mut self) -> Result<List, Fault> {
+    fn dimensions(&mut self) -> List {
         let mark = self.mark();
         for _ in 0..self.tokens.len() {
             if !self.takes(Symbol::OpenBracket) {
                 break;
             }
-            let range = self.range(false)?;
-            self.hold(range)?;
-            self.want(Symbol::CloseBracket, "`]` is wanted here")?;
+            let range = self.range(false);
+            self.hold(range);
+            self.want(Symbol::CloseBracket, "`]` is wanted here");
         }
         self.close(mark)
     }
 
-    fn parts(&mut self) -> Result<(), Fault> {
+    fn parts(&mut self) {
         for _ in 0..self.tokens.len() {
             if !self.takes_keyword(Keyword::Part) {
                 break;
             }
-            let part = self.part()?;
-            self.written.parts.push(part)?;
+            let part = self.part();
+            let stored = self.written.parts.push(part);
+            self.want_stored(stored.is_ok());
         }
-        if self.token().kind == Kind::End {
-            Ok(())
-        } else {
-            Err(self.fault(ShapeFault::Wanted("`part` or the end of the file is wanted here")))
+        if self.token().kind != Kind::End {
+            self.refuse(ShapeFault::Wanted("`part` or the end of the file is wanted here"));
         }
     }
 
     /// A part, behind its `part`.
-    fn part(&mut self) -> Result<PartWritten, Fault> {
-        let name = self.name("the name of a part")?;
-        let index = self.part_index()?;
-        let heads = self.heads(Section::Part)?;
+    fn part(&mut self) -> PartWritten {
+        let name = self.name("the name of a part");
+        let index = self.part_index();
+        let heads = self.heads(Section::Part);
         self.want_keyword(
             Keyword::Begin,
             "`begin` is wanted here, or one of `let`, `owns`, `pre`, `rely`, `guar`, `post`",
-        )?;
-        let body = self.body()?;
-        self.want_keyword(Keyword::End, "`end` is wanted here, or `;` and a statement")?;
-        Ok(PartWritten {
+        );
+        let body = self.body();
+        self.want_keyword(Keyword::End, "`end` is wanted here, or `;` and a statement");
+        PartWritten {
             name,
             index,
             heads,
             body,
             span: self.since(name),
-        })
+        }
     }
 
     /// The index of a family of parts, with its range.
-    fn part_index(&mut self) -> Result<Option<(Span, usize)>, Fault> {
+    fn part_index(&mut self) -> Option<(Span, usize)> {
         if !self.takes(Symbol::OpenBracket) {
-            return Ok(None);
+            return None;
         }
-        let index = self.name("an index name")?;
-        self.want_in()?;
-        let range = self.range(true)?;
-        self.want(Symbol::CloseBracket, "`]` is wanted here")?;
-        Ok(Some((index, range)))
+        let index = self.name("an index name");
+        self.want_in();
+        let range = self.range(true);
+        self.want(Symbol::CloseBracket, "`]` is wanted here");
+        Some((index, range))
     }
 }

@@ -1,4 +1,4 @@
-//! What the parser has read, and the tokens before it.
+//! What the parser has read, and the tokens before it. A fault is kept in the parser, and no call gives it back.
 
 use crate::written::{Expression, ExpressionKind, List, Written};
 use rg_outline_text::{Fault, Keyword, Kind, ShapeFault, Span, Symbol, Token, Tokens};
@@ -14,6 +14,8 @@ pub(crate) struct Parser<'a> {
     pub(crate) tokens: &'a Tokens,
     pub(crate) place: usize,
     pub(crate) written: Written,
+    /// The first fault. From then on the parser stands at the end of the tokens, where nothing more is read.
+    pub(crate) fault: Option<Fault>,
     /// The items of the lists that aren't closed yet.
     pending: Vec<usize>,
 }
@@ -25,6 +27,7 @@ impl<'a> Parser<'a> {
             tokens,
             place: 0,
             written: Written::new(alloc),
+            fault: None,
             pending: Vec::new(alloc),
         }
     }
@@ -89,61 +92,66 @@ impl<'a> Parser<'a> {
         is_next
     }
 
-    /// What is told where another token is wanted.
-    pub(crate) fn fault(&self, fault: ShapeFault) -> Fault {
-        Fault::shape(fault, self.span())
+    /// Keeps a fault, where it is the first, and goes to the end of the tokens.
+    fn stop(&mut self, fault: Fault) {
+        if self.fault.is_none() {
+            self.fault = Some(fault);
+        }
+        self.place = self.tokens.len();
+    }
+
+    /// Refuses the next token.
+    pub(crate) fn refuse(&mut self, fault: ShapeFault) {
+        let here = Fault::shape(fault, self.span());
+        self.stop(here);
+    }
+
+    /// Refuses the outline where memory was refused for what had to be stored.
+    pub(crate) fn want_stored(&mut self, is_stored: bool) {
+        if !is_stored {
+            self.stop(Fault::memory());
+        }
     }
 
     /// Goes on behind the symbol, which has to be next.
-    pub(crate) fn want(&mut self, symbol: Symbol, wanted: &'static str) -> Result<(), Fault> {
-        if self.takes(symbol) {
-            Ok(())
-        } else {
-            Err(self.fault(ShapeFault::Wanted(wanted)))
+    pub(crate) fn want(&mut self, symbol: Symbol, wanted: &'static str) {
+        if !self.takes(symbol) {
+            self.refuse(ShapeFault::Wanted(wanted));
         }
     }
 
     /// Goes on behind the keyword, which has to be next.
-    pub(crate) fn want_keyword(
-        &mut self,
-        keyword: Keyword,
-        wanted: &'static str,
-    ) -> Result<(), Fault> {
-        if self.takes_keyword(keyword) {
-            Ok(())
-        } else {
-            Err(self.fault(ShapeFault::Wanted(wanted)))
+    pub(crate) fn want_keyword(&mut self, keyword: Keyword, wanted: &'static str) {
+        if !self.takes_keyword(keyword) {
+            self.refuse(ShapeFault::Wanted(wanted));
         }
     }
 
     /// Goes on behind `in`, which has to be next.
-    pub(crate) fn want_in(&mut self) -> Result<(), Fault> {
-        if self.takes_word(b"in") {
-            Ok(())
-        } else {
-            Err(self.fault(ShapeFault::Wanted("`in` is wanted here")))
+    pub(crate) fn want_in(&mut self) {
+        if !self.takes_word(b"in") {
+            self.refuse(ShapeFault::Wanted("`in` is wanted here"));
         }
     }
 
-    /// A name of what is said, which has to be next.
-    pub(crate) fn name(&mut self, what: &'static str) -> Result<Span, Fault> {
-        match self.token().kind {
-            Kind::Name => {
-                let span = self.span();
-                self.step();
-                Ok(span)
-            }
-            Kind::Keyword(_) => Err(self.fault(ShapeFault::KeywordIsNoName(what))),
-            _ => Err(self.fault(ShapeFault::NameWanted(what))),
+    /// A name of what is said, which has to be next: where it stands.
+    pub(crate) fn name(&mut self, what: &'static str) -> Span {
+        let token = self.token();
+        match token.kind {
+            Kind::Name => self.step(),
+            Kind::Keyword(_) => self.refuse(ShapeFault::KeywordIsNoName(what)),
+            _ => self.refuse(ShapeFault::NameWanted(what)),
         }
+        token.span
     }
 
     /// Adds an expression that ends with the last token that was read.
-    pub(crate) fn add(&mut self, start: Span, kind: ExpressionKind) -> Result<usize, Fault> {
+    pub(crate) fn add(&mut self, start: Span, kind: ExpressionKind) -> usize {
         let span = self.since(start);
         let index = self.written.expressions.len();
-        self.written.expressions.push(Expression { kind, span })?;
-        Ok(index)
+        let stored = self.written.expressions.push(Expression { kind, span });
+        self.want_stored(stored.is_ok());
+        index
     }
 
     /// Where a new list begins among the items that aren't in closed lists.
@@ -152,21 +160,22 @@ impl<'a> Parser<'a> {
     }
 
     /// Adds an item to the list that was opened last.
-    pub(crate) fn hold(&mut self, item: usize) -> Result<(), Fault> {
-        self.pending.push(item)?;
-        Ok(())
+    pub(crate) fn hold(&mut self, item: usize) {
+        let stored = self.pending.push(item);
+        self.want_stored(stored.is_ok());
     }
 
     /// Closes the list that began at the mark.
-    pub(crate) fn close(&mut self, mark: usize) -> Result<List, Fault> {
+    pub(crate) fn close(&mut self, mark: usize) -> List {
         let start = self.written.listed.len();
         if let Some(items) = self.pending.get(mark..) {
-            self.written.listed.extend_from_slice(items)?;
+            let stored = self.written.listed.extend_from_slice(items);
+            self.want_stored(stored.is_ok());
         }
         self.pending.truncate(mark);
-        Ok(List {
+        List {
             start,
             end: self.written.listed.len(),
-        })
+        }
     }
 }

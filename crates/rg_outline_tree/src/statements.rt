@@ -2,29 +2,30 @@
 
 use crate::parser::{DEEPEST, Parser};
 use crate::written::{Assignment, Item, ItemKind, List};
-use rg_outline_text::{Fault, Keyword, Kind, ShapeFault, Span, Symbol};
+use rg_outline_text::{Keyword, Kind, ShapeFault, Span, Symbol};
 
 impl Parser<'_> {
     /// The statements and assertions up to what ends a block.
-    pub(crate) fn body(&mut self) -> Result<List, Fault> {
+    pub(crate) fn body(&mut self) -> List {
         self.block(DEEPEST)
     }
 
     /// The statements and assertions up to what ends a block.
     #[cycle(statements)]
-    fn block(&mut self, depth: u32) -> Result<List, Fault> {
+    fn block(&mut self, depth: u32) -> List {
         if depth == 0 {
-            return Err(self.fault(ShapeFault::TooDeep));
+            self.refuse(ShapeFault::TooDeep);
+            return List::EMPTY;
         }
         let mark = self.mark();
-        self.assertions()?;
+        self.assertions();
         for _ in 0..self.tokens.len() {
-            let item = self.statement(depth - 1)?;
-            self.hold(item)?;
+            let item = self.statement(depth - 1);
+            self.hold(item);
             if self.takes(Symbol::Semicolon) {
-                self.assertions()?;
+                self.assertions();
             } else {
-                self.end_of_block()?;
+                self.end_of_block();
                 break;
             }
         }
@@ -32,50 +33,48 @@ impl Parser<'_> {
     }
 
     /// The assertions behind the last statement of a block.
-    fn end_of_block(&mut self) -> Result<(), Fault> {
+    fn end_of_block(&mut self) {
         if !self.is_symbol(Symbol::OpenBrace) {
-            return Ok(());
+            return;
         }
-        self.assertions()?;
+        self.assertions();
         match self.token().kind {
-            Kind::Symbol(Symbol::Semicolon) => Err(self.fault(
-                ShapeFault::SemicolonBehindAssertion,
-            )),
-            Kind::Keyword(Keyword::End | Keyword::Else) => Ok(()),
-            _ => Err(self.fault(ShapeFault::SemicolonMissing)),
+            Kind::Symbol(Symbol::Semicolon) => self.refuse(ShapeFault::SemicolonBehindAssertion),
+            Kind::Keyword(Keyword::End | Keyword::Else) => {}
+            _ => self.refuse(ShapeFault::SemicolonMissing),
         }
     }
 
     /// Assertions, as many as there are.
-    fn assertions(&mut self) -> Result<(), Fault> {
+    fn assertions(&mut self) {
         for _ in 0..self.tokens.len() {
             if !self.is_symbol(Symbol::OpenBrace) {
-                return Ok(());
+                break;
             }
-            let item = self.assertion()?;
-            self.hold(item)?;
+            let item = self.assertion();
+            self.hold(item);
         }
-        Ok(())
     }
 
-    fn assertion(&mut self) -> Result<usize, Fault> {
+    fn assertion(&mut self) -> usize {
         let start = self.span();
         self.step();
-        let formula = self.formula()?;
-        self.want(Symbol::CloseBrace, "`}` is wanted here")?;
+        let formula = self.formula();
+        self.want(Symbol::CloseBrace, "`}` is wanted here");
         let span = self.since(start);
         self.add_item(span, ItemKind::Assertion(formula))
     }
 
-    fn add_item(&mut self, span: Span, kind: ItemKind) -> Result<usize, Fault> {
+    fn add_item(&mut self, span: Span, kind: ItemKind) -> usize {
         let index = self.written.items.len();
-        self.written.items.push(Item { kind, span })?;
-        Ok(index)
+        let stored = self.written.items.push(Item { kind, span });
+        self.want_stored(stored.is_ok());
+        index
     }
 
     /// A statement.
     #[cycle(statements)]
-    fn statement(&mut self, depth: u32) -> Result<usize, Fault> {
+    fn statement(&mut self, depth: u32) -> usize {
         match self.token().kind {
             Kind::Keyword(Keyword::If) => self.conditional(depth),
             Kind::Keyword(Keyword::While) => self.while_loop(depth),
@@ -85,7 +84,7 @@ impl Parser<'_> {
     }
 
     /// A statement that holds no other.
-    fn step_statement(&mut self) -> Result<usize, Fault> {
+    fn step_statement(&mut self) -> usize {
         let start = self.span();
         match self.token().kind {
             Kind::Keyword(Keyword::Skip) => {
@@ -94,36 +93,39 @@ impl Parser<'_> {
             }
             Kind::Keyword(Keyword::Atomic) => {
                 self.step();
-                let assignments = self.assignments()?;
+                let assignments = self.assignments();
                 let span = self.since(start);
                 self.add_item(span, ItemKind::Atomic(assignments))
             }
             Kind::Keyword(Keyword::Await) => self.await_statement(start),
             Kind::Name => {
-                let assignment = self.assignment()?;
+                let assignment = self.assignment();
                 let span = self.since(start);
                 self.add_item(span, ItemKind::Assign(assignment))
             }
-            _ => Err(self.fault(ShapeFault::NameWanted("a statement"))),
+            _ => {
+                self.refuse(ShapeFault::NameWanted("a statement"));
+                0
+            }
         }
     }
 
-    fn await_statement(&mut self, start: Span) -> Result<usize, Fault> {
+    fn await_statement(&mut self, start: Span) -> usize {
         self.step();
-        let guard = self.formula()?;
+        let guard = self.formula();
         let mut assignments = None;
         if self.takes_keyword(Keyword::Do) {
-            assignments = Some(self.assignments()?);
+            assignments = Some(self.assignments());
         }
         let span = self.since(start);
         self.add_item(span, ItemKind::Await(guard, assignments))
     }
 
     /// Assignments with `;` between them, and the `end` behind them.
-    fn assignments(&mut self) -> Result<List, Fault> {
+    fn assignments(&mut self) -> List {
         let start = self.written.assignments.len();
         for _ in 0..self.tokens.len() {
-            self.assignment()?;
+            self.assignment();
             if !self.takes(Symbol::Semicolon) {
                 break;
             }
@@ -131,42 +133,43 @@ impl Parser<'_> {
         self.want_keyword(
             Keyword::End,
             "`end` is wanted here, or `;` and an assignment",
-        )?;
-        Ok(List {
+        );
+        List {
             start,
             end: self.written.assignments.len(),
-        })
+        }
     }
 
-    fn assignment(&mut self) -> Result<usize, Fault> {
+    fn assignment(&mut self) -> usize {
         let start = self.span();
-        let target = self.word()?;
-        self.want(Symbol::Assign, "`:=` is wanted here")?;
-        let value = self.value()?;
+        let target = self.word();
+        self.want(Symbol::Assign, "`:=` is wanted here");
+        let value = self.value();
         let span = self.since(start);
         let index = self.written.assignments.len();
-        self.written.assignments.push(Assignment {
+        let stored = self.written.assignments.push(Assignment {
             target,
             value,
             span,
-        })?;
-        Ok(index)
+        });
+        self.want_stored(stored.is_ok());
+        index
     }
 
     /// An `if`, whose place is its test.
     #[cycle(statements)]
-    fn conditional(&mut self, depth: u32) -> Result<usize, Fault> {
+    fn conditional(&mut self, depth: u32) -> usize {
         let start = self.span();
         self.step();
-        let test = self.formula()?;
+        let test = self.formula();
         let span = self.since(start);
-        self.want_keyword(Keyword::Then, "`then` is wanted here")?;
-        let yes = self.block(depth)?;
+        self.want_keyword(Keyword::Then, "`then` is wanted here");
+        let yes = self.block(depth);
         if !self.takes_keyword(Keyword::Else) {
             self.want_keyword(
                 Keyword::End,
                 "`end` is wanted here, or `else`, or `;` and a statement",
-            )?;
+            );
             return self.add_item(
                 span,
                 ItemKind::If {
@@ -176,30 +179,30 @@ impl Parser<'_> {
                 },
             );
         }
-        let no = self.block(depth)?;
-        self.want_end()?;
+        let no = self.block(depth);
+        self.want_end();
         let no = Some(no);
         self.add_item(span, ItemKind::If { test, yes, no })
     }
 
-    fn want_end(&mut self) -> Result<(), Fault> {
+    fn want_end(&mut self) {
         self.want_keyword(Keyword::End, "`end` is wanted here, or `;` and a statement")
     }
 
     /// A `while`, whose place is its test.
     #[cycle(statements)]
-    fn while_loop(&mut self, depth: u32) -> Result<usize, Fault> {
+    fn while_loop(&mut self, depth: u32) -> usize {
         let start = self.span();
         self.step();
-        let test = self.formula()?;
+        let test = self.formula();
         let span = self.since(start);
         let mut invariant = None;
         if self.takes_keyword(Keyword::Invariant) {
-            invariant = Some(self.formula()?);
+            invariant = Some(self.formula());
         }
-        self.want_keyword(Keyword::Do, "`do` is wanted here")?;
-        let body = self.block(depth)?;
-        self.want_end()?;
+        self.want_keyword(Keyword::Do, "`do` is wanted here");
+        let body = self.block(depth);
+        self.want_end();
         let kind = ItemKind::While {
             test,
             invariant,
@@ -209,15 +212,15 @@ impl Parser<'_> {
     }
 
     #[cycle(statements)]
-    fn for_each(&mut self, depth: u32) -> Result<usize, Fault> {
+    fn for_each(&mut self, depth: u32) -> usize {
         let start = self.span();
         self.step();
-        let index = self.name("an index name")?;
-        self.want_in()?;
-        let range = self.range(true)?;
-        self.want_keyword(Keyword::Do, "`do` is wanted here")?;
-        let body = self.block(depth)?;
-        self.want_end()?;
+        let index = self.name("an index name");
+        self.want_in();
+        let range = self.range(true);
+        self.want_keyword(Keyword::Do, "`do` is wanted here");
+        let body = self.block(depth);
+        self.want_end();
         let span = self.since(start);
         let kind = ItemKind::For { index, range, body };
         self.add_item(span, kind)

@@ -16,31 +16,39 @@ const ITEMS: &str =
 const FIXED: &str =
     "words x:2 fixed n:2\npre (x = n) rely (x' = x) guar true post (x = (n + 1))\npart p pre (x = n) rely (x' = x) guar true post (x = (n + 1))\nbegin ";
 
-/// A fault of the text at a line.
-fn fault(number: RefusalNumber, line: u64) -> Option<Refusal> {
-    Some(Refusal::at(number, SourceFile::Text, Place::Line(line)))
+/// Texts with the number and the line of what is refused of them; none where a program is read.
+const TEXTS: &[(&str, Option<(RefusalNumber, u64)>)] = &[
+    (TWO_PARTS, None),
+    (ITEMS, None),
+    (FIXED, Some((RefusalNumber::Unfinished, 4))),
+    ("words x:1 show true", Some((RefusalNumber::Unexpected, 1))),
+];
+
+/// Whether a refusal is this one, at a line of the text, or that of memory.
+fn is_refusal(refusal: Refusal, expected: Option<(RefusalNumber, u64)>) -> bool {
+    if refusal == Refusal::new(RefusalNumber::Memory) {
+        return true;
+    }
+    match expected {
+        Some((number, line)) => {
+            refusal == Refusal::at(number, SourceFile::Text, Place::Line(line))
+        }
+        None => false,
+    }
 }
 
-/// What is refused of a text; nothing where a program is read.
-fn told(alloc: Global, text: &str) -> Option<Refusal> {
+/// Whether this is refused of a text, or memory; nothing where a program is read.
+fn is_told(alloc: Global, text: &str, expected: Option<(RefusalNumber, u64)>) -> bool {
     match program(alloc, text.as_bytes()) {
-        Ok(_) => None,
-        Err(refusal) => Some(refusal),
+        Ok(_) => expected.is_none(),
+        Err(refusal) => is_refusal(refusal, expected),
     }
 }
 
 /// Under `rt try --test --fail-alloc N` too: this test allocates nothing of its own, so what is refused is the program's.
 #[test]
 fn tells_refused_memory(rt: HostRuntime) {
-    let no_memory = Some(Refusal::new(RefusalNumber::Memory));
-    let rows = [
-        (TWO_PARTS, None),
-        (ITEMS, None),
-        (FIXED, fault(RefusalNumber::Unfinished, 4)),
-        ("words x:1 show true", fault(RefusalNumber::Unexpected, 1)),
-    ];
-    for (text, expected) in &rows {
-        let found = told(rt.alloc(), text);
-        assert!(rt; found == *expected || found == no_memory);
+    for (text, expected) in TEXTS {
+        assert!(rt; is_told(rt.alloc(), text, *expected));
     }
 }

@@ -19,7 +19,7 @@ use std::process::Abort;
 use std::test::Fail;
 
 /// The words x and y of one width.
-fn two_words(rt: &impl Abort, alloc: Global, width: u32) -> Result<Layout, Fail>
+fn two_words(rt: &impl Abort, alloc: Global, width: u32) -> Result<Layout, Refusal>
     requires least { 1 ≤ width }
     requires most { width ≤ 64 }
     ensures { IfOk result (λ l. widths_of l ≡ width ∷ width ∷ []) }
@@ -32,7 +32,7 @@ fn two_words(rt: &impl Abort, alloc: Global, width: u32) -> Result<Layout, Fail>
 }
 
 /// A state of two words of one width.
-fn state(rt: &impl Abort, alloc: Global, width: u32, x: u64, y: u64) -> Result<State, Fail>
+fn state(rt: &impl Abort, alloc: Global, width: u32, x: u64, y: u64) -> Result<State, Refusal>
     requires least { 1 ≤ width }
     requires most { width ≤ 64 }
     requires x { x < 2 ^ width }
@@ -47,7 +47,7 @@ fn state(rt: &impl Abort, alloc: Global, width: u32, x: u64, y: u64) -> Result<S
 }
 
 /// The first word with a number of the same width.
-fn with_number(alloc: Global, operator: Operator, width: u32, n: u64) -> Result<Expr, Fail>
+fn with_number(alloc: Global, operator: Operator, width: u32, n: u64) -> Result<Expr, Refusal>
     ensures { IfOk result (λ e. expression e ≡ binary operator width (word 0) (number width n)) }
 {
     let left = Box::new(alloc, Expr::Word(0))?;
@@ -56,35 +56,31 @@ fn with_number(alloc: Global, operator: Operator, width: u32, n: u64) -> Result<
 }
 
 /// What is left where 1 is taken from 0.
-fn difference(rt: &impl Abort, alloc: Global) -> Result<u64, Fail> {
+fn difference(rt: &impl Abort, alloc: Global) -> Result<u64, Refusal> {
     let zero = state(rt, alloc, 8, 0, 0)?;
     let tree = with_number(alloc, Operator::Subtract, 8, 1)?;
     Ok(value(&tree, &zero, &zero))
 }
 
 /// What the sum of 1 and the largest number of 64 bits is.
-fn sum(rt: &impl Abort, alloc: Global) -> Result<u64, Fail> {
+fn sum(rt: &impl Abort, alloc: Global) -> Result<u64, Refusal> {
     let widest = state(rt, alloc, 64, u64::MAX, 0)?;
     let tree = with_number(alloc, Operator::Add, 64, 1)?;
     Ok(value(&tree, &widest, &widest))
 }
 
 /// What eight bits moved by eight are.
-fn moved(rt: &impl Abort, alloc: Global) -> Result<u64, Fail> {
+fn moved(rt: &impl Abort, alloc: Global) -> Result<u64, Refusal> {
     let full = state(rt, alloc, 8, 255, 0)?;
     let tree = Expr::Shifted(Shift::Left, 8, Box::new(alloc, Expr::Word(0))?, 8);
     Ok(value(&tree, &full, &full))
 }
 
 #[test]
-fn values_are_modulo_the_width(rt: HostRuntime) -> Result<(), Fail> {
-    let difference = difference(&rt, rt.alloc())?;
-    assert!(rt; difference == 255);
-    let sum = sum(&rt, rt.alloc())?;
-    assert!(rt; sum == 0);
-    let moved = moved(&rt, rt.alloc())?;
-    assert!(rt; moved == 0);
-    Ok(())
+fn values_are_modulo_the_width(rt: HostRuntime) {
+    assert!(rt; matches!(difference(&rt, rt.alloc()), Ok(255)));
+    assert!(rt; matches!(sum(&rt, rt.alloc()), Ok(0)));
+    assert!(rt; matches!(moved(&rt, rt.alloc()), Ok(0)));
 }
 
 #[test]
@@ -96,7 +92,7 @@ fn comparisons_are_unsigned(rt: HostRuntime) -> Result<(), Fail> {
 }
 
 /// Whether a step of the first word, of eight bits, is inside that it rises.
-fn is_inside(rt: &impl Abort, alloc: Global, from: u64, to: u64) -> Result<bool, Fail>
+fn is_inside(rt: &impl Abort, alloc: Global, from: u64, to: u64) -> Result<bool, Refusal>
     requires from { from < 2 ^ 8 }
     requires to { to < 2 ^ 8 }
 {
@@ -107,13 +103,10 @@ fn is_inside(rt: &impl Abort, alloc: Global, from: u64, to: u64) -> Result<bool,
 }
 
 #[test]
-fn a_step_that_changes_nothing_is_inside(rt: HostRuntime) -> Result<(), Fail> {
-    let rises = is_inside(&rt, rt.alloc(), 1, 2)?;
-    let falls = is_inside(&rt, rt.alloc(), 2, 1)?;
-    let stays = is_inside(&rt, rt.alloc(), 1, 1)?;
-    assert!(rt; rises && stays);
-    assert!(rt; !falls);
-    Ok(())
+fn a_step_that_changes_nothing_is_inside(rt: HostRuntime) {
+    assert!(rt; matches!(is_inside(&rt, rt.alloc(), 1, 2), Ok(true)));
+    assert!(rt; matches!(is_inside(&rt, rt.alloc(), 2, 1), Ok(false)));
+    assert!(rt; matches!(is_inside(&rt, rt.alloc(), 1, 1), Ok(true)));
 }
 
 /// Whether the formula of a text to show is printed so.
@@ -123,31 +116,31 @@ fn is_printed(alloc: Global, text: &str, expected: &str) -> Result<bool, Refusal
     Ok(printed.as_str() == expected)
 }
 
+/// Texts to show, with the formulas as they are printed.
+const PRINTED: &[(&str, &str)] = &[
+    (
+        "words x:8 y:8 show (((if(x>=y)then(y shr 012)else inv x')!=(x bxor 107))implies false)",
+        "(((if (x >= y) then (y shr 12) else inv x') != (x bxor 107)) implies false)",
+    ),
+    (
+        "words x:8 y:8 show ((x' - 1) < inv (2 + y))",
+        "((x' - 1) < inv (2 + y))",
+    ),
+    (
+        "words x:8 y:8 z:8 show ((if (x = 1) then y' else 2) = z)",
+        "((if (x = 1) then y' else 2) = z)",
+    ),
+    (
+        "words x:8 fixed y:16 show (3 = (if (y' = 300) then x else 1))",
+        "(3 = (if (y' = 300) then x else 1))",
+    ),
+];
+
 #[test]
-fn formulas_are_printed(rt: HostRuntime) -> Result<(), Fail> {
-    let rows = [
-        (
-            "words x:8 y:8 show (((if(x>=y)then(y shr 012)else inv x')!=(x bxor 107))implies false)",
-            "(((if (x >= y) then (y shr 12) else inv x') != (x bxor 107)) implies false)",
-        ),
-        (
-            "words x:8 y:8 show ((x' - 1) < inv (2 + y))",
-            "((x' - 1) < inv (2 + y))",
-        ),
-        (
-            "words x:8 y:8 z:8 show ((if (x = 1) then y' else 2) = z)",
-            "((if (x = 1) then y' else 2) = z)",
-        ),
-        (
-            "words x:8 fixed y:16 show (3 = (if (y' = 300) then x else 1))",
-            "(3 = (if (y' = 300) then x else 1))",
-        ),
-    ];
-    for (text, expected) in &rows {
-        let found = is_printed(rt.alloc(), text, expected)?;
-        assert!(rt; found);
+fn formulas_are_printed(rt: HostRuntime) {
+    for (text, expected) in PRINTED {
+        assert!(rt; matches!(is_printed(rt.alloc(), text, expected), Ok(true)));
     }
-    Ok(())
 }
 
 /// The formula of a text to show.
@@ -162,51 +155,68 @@ fn is_copy(alloc: Global, one: &Formula, other: &Formula) -> Result<bool, Refusa
     Ok(same_formula(&copy, other))
 }
 
-#[test]
-fn copies_are_the_same(rt: HostRuntime) -> Result<(), Fail> {
-    let one = shown(rt.alloc(), "words x:2 show (x' < (x + 1))")?;
-    let same = is_copy(rt.alloc(), &one, &one)?;
-    assert!(rt; same);
-    let other = shown(rt.alloc(), "words x:2 show (x = 1)")?;
-    let same = is_copy(rt.alloc(), &one, &other)?;
-    assert!(rt; !same);
-    Ok(())
+/// The formula that is copied.
+const COPIED: &str = "words x:2 show (x' < (x + 1))";
+
+/// Whether a copy of it is the formula of a text to show.
+fn copy_is(alloc: Global, text: &str) -> Result<bool, Refusal> {
+    let one = shown(alloc, COPIED)?;
+    let other = shown(alloc, text)?;
+    is_copy(alloc, &one, &other)
 }
 
-/// What is refused of a formula over declared words; nothing where it is read.
-fn refused_in(alloc: Global, layout: &Layout, text: &str) -> Option<Refusal> {
+#[test]
+fn copies_are_the_same(rt: HostRuntime) {
+    assert!(rt; matches!(copy_is(rt.alloc(), COPIED), Ok(true)));
+    assert!(rt; matches!(copy_is(rt.alloc(), "words x:2 show (x = 1)"), Ok(false)));
+}
+
+/// Whether a refusal is this one, at a line of the text.
+fn is_at(refusal: Refusal, expected: Option<(RefusalNumber, u64)>) -> bool {
+    match expected {
+        Some((number, line)) => {
+            refusal == Refusal::at(number, SourceFile::Text, Place::Line(line))
+        }
+        None => false,
+    }
+}
+
+/// Whether this is refused of a formula over declared words; nothing where it is read.
+fn is_refused_in(
+    alloc: Global,
+    layout: &Layout,
+    text: &str,
+    expected: Option<(RefusalNumber, u64)>,
+) -> bool {
     match formula(alloc, layout, text.as_bytes()) {
-        Ok(_) => None,
-        Err(refusal) => Some(refusal),
+        Ok(_) => expected.is_none(),
+        Err(refusal) => is_at(refusal, expected),
     }
 }
 
 /// The same, over the word x of eight bits.
-fn refused(alloc: Global, text: &str) -> Result<Option<Refusal>, Refusal> {
-    let (layout, _tree) = show(alloc, b"words x:8 show true")?;
-    Ok(refused_in(alloc, &layout, text))
+fn is_refused(alloc: Global, text: &str, expected: Option<(RefusalNumber, u64)>) -> bool {
+    match show(alloc, b"words x:8 show true") {
+        Ok((layout, _tree)) => is_refused_in(alloc, &layout, text, expected),
+        Err(_) => false,
+    }
 }
 
-/// A fault of the text at a line.
-fn fault(number: RefusalNumber, line: u64) -> Option<Refusal> {
-    Some(Refusal::at(number, SourceFile::Text, Place::Line(line)))
-}
+/// Formulas with the number and the line of what is refused of them; none where one is read.
+const FORMULAS: &[(&str, Option<(RefusalNumber, u64)>)] = &[
+    ("(x' = 1)", None),
+    ("(x = 1)", None),
+    ("", Some((RefusalNumber::Unfinished, 1))),
+    ("not\n", Some((RefusalNumber::Unfinished, 1))),
+    ("(x\n)", Some((RefusalNumber::Unexpected, 2))),
+    ("true\ntrue", Some((RefusalNumber::Unexpected, 2))),
+    ("(x' =\n256)", Some((RefusalNumber::NumberTooLarge, 2))),
+    ("(x =\nz')", Some((RefusalNumber::UnknownName, 2))),
+];
 
 #[test]
-fn a_formula_is_read_by_itself(rt: HostRuntime) -> Result<(), Fail> {
-    let rows = [
-        ("(x' = 1)", None),
-        ("(x = 1)", None),
-        ("", fault(RefusalNumber::Unfinished, 1)),
-        ("not\n", fault(RefusalNumber::Unfinished, 1)),
-        ("(x\n)", fault(RefusalNumber::Unexpected, 2)),
-        ("true\ntrue", fault(RefusalNumber::Unexpected, 2)),
-        ("(x' =\n256)", fault(RefusalNumber::NumberTooLarge, 2)),
-        ("(x =\nz')", fault(RefusalNumber::UnknownName, 2)),
-    ];
-    for (text, expected) in &rows {
-        let found = refused(rt.alloc(), text)?;
-        assert!(rt; found == *expected);
+fn a_formula_is_read_by_itself(rt: HostRuntime) {
+    for (text, expected) in FORMULAS {
+        assert!(rt; is_refused(rt.alloc(), text, *expected));
     }
-    Ok(())
 }

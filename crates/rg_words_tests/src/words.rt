@@ -6,7 +6,6 @@ use rg_words::{
     WriteFault, write_all,
 };
 use std::alloc::{AllocError, Global};
-use std::test::Fail;
 
 /// Whether all of these are names.
 fn are_names(texts: &[&str]) -> bool {
@@ -71,13 +70,17 @@ fn copies_well(alloc: Global, layout: &Layout) -> Result<bool, AllocError> {
     Ok(copy.same(layout) && !copy.same(&Layout::new(alloc)))
 }
 
+/// Whether the sample is declared and copied well.
+fn declares_sample(alloc: Global) -> bool {
+    match sample(alloc) {
+        Ok(layout) => is_sample(&layout) && matches!(copies_well(alloc, &layout), Ok(true)),
+        Err(_) => false,
+    }
+}
+
 #[test]
-fn declares_words(rt: HostRuntime) -> Result<(), Fail> {
-    let layout = sample(rt.alloc())?;
-    assert!(rt; is_sample(&layout));
-    let copied = copies_well(rt.alloc(), &layout)?;
-    assert!(rt; copied);
-    Ok(())
+fn declares_words(rt: HostRuntime) {
+    assert!(rt; declares_sample(rt.alloc()));
 }
 
 /// A layout of 64 words of one bit, from `w0` on.
@@ -92,29 +95,32 @@ fn full(alloc: Global) -> Result<Layout, Refusal> {
     Ok(layout)
 }
 
-/// Whether a layout of 64 words refuses one more so, and is left as it was.
-fn refuses(alloc: Global, name: &str, width: u32, number: RefusalNumber) -> Result<bool, Refusal> {
-    let mut layout = full(alloc)?;
-    if !is_name(name) {
-        return Ok(false);
-    }
-    let added = layout.add(name, width);
-    Ok(added == Err(Refusal::new(number)) && layout.len() == 64)
+/// Whether a layout refuses a word so, and keeps its 64 words.
+fn refuses_word(layout: &mut Layout, name: &str, width: u32, number: RefusalNumber) -> bool {
+    is_name(name) && layout.add(name, width) == Err(Refusal::new(number)) && layout.len() == 64
 }
 
-#[test]
-fn refuses_words(rt: HostRuntime) -> Result<(), Fail> {
-    let rows = [
-        ("w0", 65, RefusalNumber::NameTwice),
-        ("more", 65, RefusalNumber::Width),
-        ("more", 0, RefusalNumber::Width),
-        ("more", 1, RefusalNumber::Limit),
-    ];
-    for (name, width, number) in &rows {
-        let found = refuses(rt.alloc(), name, *width, *number)?;
-        assert!(rt; found);
+/// Whether a layout of 64 words refuses one more so, and is left as it was.
+fn refuses(alloc: Global, name: &str, width: u32, number: RefusalNumber) -> bool {
+    match full(alloc) {
+        Ok(mut layout) => refuses_word(&mut layout, name, width, number),
+        Err(_) => false,
     }
-    Ok(())
+}
+
+/// Words that are one too many, each with its width and its refusal.
+const REFUSED: &[(&str, u32, RefusalNumber)] = &[
+    ("w0", 65, RefusalNumber::NameTwice),
+    ("more", 65, RefusalNumber::Width),
+    ("more", 0, RefusalNumber::Width),
+    ("more", 1, RefusalNumber::Limit),
+];
+
+#[test]
+fn refuses_words(rt: HostRuntime) {
+    for (name, width, number) in REFUSED {
+        assert!(rt; refuses(rt.alloc(), name, *width, *number));
+    }
 }
 
 /// Whether a state of the sample's words has zeros at first, and then what it is given.
@@ -144,104 +150,157 @@ fn copies_until_changed(alloc: Global, layout: &Layout) -> Result<bool, AllocErr
 }
 
 /// Both, of the sample.
-fn keeps_and_copies(alloc: Global) -> Result<bool, Refusal> {
-    let layout = sample(alloc)?;
-    let kept = keeps(alloc, &layout)?;
-    let copied = copies_until_changed(alloc, &layout)?;
-    Ok(kept && copied)
-}
-
-#[test]
-fn keeps_values(rt: HostRuntime) -> Result<(), Fail> {
-    let found = keeps_and_copies(rt.alloc())?;
-    assert!(rt; found);
-    Ok(())
-}
-
-#[test]
-fn prints_refusals(rt: HostRuntime) -> Result<(), Fail> {
-    let line = Refusal::at(
-        RefusalNumber::HintNotUnit,
-        SourceFile::Proofs,
-        Place::Line(12),
-    );
-    let condition = Refusal::at(
-        RefusalNumber::NoEmptyClause,
-        SourceFile::Proofs,
-        Place::Condition(1),
-    );
-    let moved = Refusal::at(
-        RefusalNumber::OutsideRely,
-        SourceFile::Moves,
-        Place::Move(1),
-    );
-    for (refusal, text) in [
-        (line, "refused 45 proofs line 12"),
-        (condition, "refused 47 proofs condition 1"),
-        (moved, "refused 62 moves move 1"),
-        (Refusal::new(RefusalNumber::Mismatch), "refused 64"),
-        (Refusal::new(RefusalNumber::Limit), "refused 11"),
-        (Refusal::from(AllocError), "refused 99"),
-        (Refusal::from(WriteFault), "refused 63"),
-    ] {
-        assert_eq!(rt; refusal.to_string(rt.alloc())?.as_str(), text);
+fn keeps_and_copies(alloc: Global) -> bool {
+    match sample(alloc) {
+        Ok(layout) => {
+            matches!(keeps(alloc, &layout), Ok(true))
+                && matches!(copies_until_changed(alloc, &layout), Ok(true))
+        }
+        Err(_) => false,
     }
-    Ok(())
 }
 
 #[test]
-fn writes_in_pieces(rt: HostRuntime) -> Result<(), Fail> {
-    let mut taker = Taker::new(rt.alloc(), 3);
-    assert!(rt; write_all(&mut taker, b"eight by").is_ok());
-    assert!(rt; taker.bytes() == b"eight by".as_slice());
-    let mut fuse = Fuse::new(Taker::new(rt.alloc(), 3), 2);
-    assert!(rt; write_all(&mut fuse, b"eight by").is_err());
-    assert!(rt; fuse.inner().bytes() == b"eight ".as_slice());
-    Ok(())
+fn keeps_values(rt: HostRuntime) {
+    assert!(rt; keeps_and_copies(rt.alloc()));
+}
+
+/// Refusals with their texts.
+const TOLD: &[(Refusal, &str)] = &[
+    (
+        Refusal {
+            number: RefusalNumber::HintNotUnit,
+            file: Some(SourceFile::Proofs),
+            place: Some(Place::Line(12)),
+        },
+        "refused 45 proofs line 12",
+    ),
+    (
+        Refusal {
+            number: RefusalNumber::NoEmptyClause,
+            file: Some(SourceFile::Proofs),
+            place: Some(Place::Condition(1)),
+        },
+        "refused 47 proofs condition 1",
+    ),
+    (
+        Refusal {
+            number: RefusalNumber::OutsideRely,
+            file: Some(SourceFile::Moves),
+            place: Some(Place::Move(1)),
+        },
+        "refused 62 moves move 1",
+    ),
+];
+
+/// Whether a refusal is told so.
+fn is_told(alloc: Global, refusal: &Refusal, text: &str) -> bool {
+    match refusal.to_string(alloc) {
+        Ok(told) => told.as_str() == text,
+        Err(_) => false,
+    }
 }
 
 #[test]
-fn writes_to_a_device(rt: HostRuntime) -> Result<(), Fail> {
-    let mut device = Device::new(Vec::new(rt.alloc()));
-    assert!(rt; write_all(&mut device, b"eight by").is_ok());
+fn prints_refusals(rt: HostRuntime) {
+    for (refusal, text) in TOLD {
+        assert!(rt; is_told(rt.alloc(), refusal, text));
+    }
+    assert!(rt;
+        is_told(
+            rt.alloc(),
+            &Refusal::new(RefusalNumber::Mismatch),
+            "refused 64"
+        )
+    );
+    assert!(rt;
+        is_told(
+            rt.alloc(),
+            &Refusal::new(RefusalNumber::Limit),
+            "refused 11"
+        )
+    );
+    assert!(rt; is_told(rt.alloc(), &Refusal::from(AllocError), "refused 99"));
+    assert!(rt; is_told(rt.alloc(), &Refusal::from(WriteFault), "refused 63"));
+}
+
+/// Whether a writer that takes three bytes a call takes a text as a whole.
+fn takes_whole(alloc: Global) -> bool {
+    let mut taker = Taker::new(alloc, 3);
+    write_all(&mut taker, b"eight by").is_ok() && taker.bytes() == b"eight by".as_slice()
+}
+
+/// Whether a writer that fails after two calls has what these took.
+fn fails_in_pieces(alloc: Global) -> bool {
+    let mut fuse = Fuse::new(Taker::new(alloc, 3), 2);
+    write_all(&mut fuse, b"eight by").is_err() && fuse.inner().bytes() == b"eight ".as_slice()
+}
+
+#[test]
+fn writes_in_pieces(rt: HostRuntime) {
+    assert!(rt; takes_whole(rt.alloc()) && fails_in_pieces(rt.alloc()));
+}
+
+/// Whether a device over a list takes a text.
+fn fits_device(alloc: Global) -> bool {
+    let mut device = Device::new(Vec::new(alloc));
+    write_all(&mut device, b"eight by").is_ok()
+}
+
+/// Whether a device over three bytes takes these, and then fails.
+fn fills_device() -> bool {
     let mut room = [0u8; 3];
     let mut full = Device::new(room.as_mut_slice());
-    assert_eq!(rt; write_all(&mut full, b"eight by"), Err(WriteFault));
-    assert!(rt; room == *b"eig");
-    Ok(())
+    let told = write_all(&mut full, b"eight by");
+    told == Err(WriteFault) && room == *b"eig"
 }
 
 #[test]
-fn buffers_until_a_flush(rt: HostRuntime) -> Result<(), Fail> {
-    let mut buffered = Buffered::new(rt.alloc(), Taker::new(rt.alloc(), 100))?;
-    assert!(rt; write_all(&mut buffered, b"one two").is_ok());
-    assert!(rt; buffered.inner().bytes().is_empty());
-    assert!(rt; buffered.flush().is_ok());
-    assert!(rt; buffered.inner().bytes() == b"one two".as_slice());
-    Ok(())
+fn writes_to_a_device(rt: HostRuntime) {
+    assert!(rt; fits_device(rt.alloc()) && fills_device());
 }
 
-/// So many bytes.
-fn repeated(alloc: Global, count: usize) -> Result<Vec<u8>, AllocError> {
-    vec![in alloc; b'x'; count]
-}
-
-#[test]
-fn passes_long_texts_on(rt: HostRuntime) -> Result<(), Fail> {
-    let mut buffered = Buffered::new(rt.alloc(), Taker::new(rt.alloc(), 100))?;
-    let long = repeated(rt.alloc(), 70_000)?;
-    assert!(rt; write_all(&mut buffered, &long).is_ok());
-    assert!(rt; buffered.flush().is_ok());
-    assert!(rt; buffered.inner().bytes() == long.as_slice());
-    Ok(())
+/// Whether a buffer keeps a text until it is flushed.
+fn waits_for_a_flush(alloc: Global) -> Result<bool, AllocError> {
+    let mut buffered = Buffered::new(alloc, Taker::new(alloc, 100))?;
+    let waits = write_all(&mut buffered, b"one two").is_ok() && buffered.inner().bytes().is_empty();
+    let flushed = buffered.flush().is_ok();
+    Ok(waits && flushed && buffered.inner().bytes() == b"one two".as_slice())
 }
 
 #[test]
-fn keeps_what_a_failed_flush_left(rt: HostRuntime) -> Result<(), Fail> {
-    let fuse = Fuse::new(Taker::new(rt.alloc(), 3), 2);
-    let mut buffered = Buffered::new(rt.alloc(), fuse)?;
-    assert!(rt; write_all(&mut buffered, b"eight by").is_ok());
-    assert_eq!(rt; buffered.flush(), Err(WriteFault));
-    assert!(rt; buffered.inner().inner().bytes() == b"eight ".as_slice());
-    Ok(())
+fn buffers_until_a_flush(rt: HostRuntime) {
+    assert!(rt; matches!(waits_for_a_flush(rt.alloc()), Ok(true)));
+}
+
+/// Whether a buffer passes a text on.
+fn passes_on(alloc: Global, text: &[u8]) -> Result<bool, AllocError> {
+    let mut buffered = Buffered::new(alloc, Taker::new(alloc, 100))?;
+    let written = write_all(&mut buffered, text).is_ok();
+    let flushed = buffered.flush().is_ok();
+    Ok(written && flushed && buffered.inner().bytes() == text)
+}
+
+/// Whether it passes so many bytes on.
+fn passes_many_on(alloc: Global, count: usize) -> Result<bool, AllocError> {
+    let long = vec![in alloc; b'x'; count]?;
+    passes_on(alloc, &long)
+}
+
+#[test]
+fn passes_long_texts_on(rt: HostRuntime) {
+    assert!(rt; matches!(passes_many_on(rt.alloc(), 70_000), Ok(true)));
+}
+
+/// Whether a flush that fails is told, and what went out before stays.
+fn keeps_the_rest(alloc: Global) -> Result<bool, AllocError> {
+    let mut buffered = Buffered::new(alloc, Fuse::new(Taker::new(alloc, 3), 2))?;
+    let written = write_all(&mut buffered, b"eight by").is_ok();
+    let failed = buffered.flush() == Err(WriteFault);
+    Ok(written && failed && buffered.inner().inner().bytes() == b"eight ".as_slice())
+}
+
+#[test]
+fn keeps_what_a_failed_flush_left(rt: HostRuntime) {
+    assert!(rt; matches!(keeps_the_rest(rt.alloc()), Ok(true)));
 }
