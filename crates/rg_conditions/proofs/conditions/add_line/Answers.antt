@@ -1,8 +1,8 @@
 use Rattle.std.proofs.Common.{map, rules}
 use Rattle.rg_tree.specs.ProgramView.{specification}
 use Rattle.rg_tree.specs.Lines.{line_tree}
-use Rattle.rg_rules.proofs.Typed.{first_typed}
-use Rattle.rg_rules.proofs.conditions.add_line.Goals as goal
+use Rattle.rg_conditions.proofs.Typed.{first_typed}
+use Rattle.rg_conditions.proofs.conditions.add_line.Goals as goal
 
 pub add_conseq-requires-clause-from : goal.add_conseq-requires-clause-from
 add_conseq-requires-clause-from c =

@@ -1,7 +1,7 @@
 use Rattle.std.proofs.Common.{Some, sym, ap, ◌∙◌, arith}
 use Rattle.rg_tree.specs.Lines.{line_tree}
-use Rattle.rg_rules.proofs.Find.{nth-map}
-use Rattle.rg_rules.proofs.conditions.line_of_number.Goals as goal
+use Rattle.rg_conditions.proofs.Found.{nth-map}
+use Rattle.rg_conditions.proofs.premise.line_of_number.Goals as goal
 
 pub returns-else-number-lines : goal.returns-else-number-lines
 returns-else-number-lines c =
