@@ -1,7 +1,7 @@
 use Rattle.std.proofs.Common.{◌≡◌, ◌<◌, ◌^◌, drop}
 use Rattle.std.specs.Str.Parse.{digits_value_after}
-use Rattle.rg_resolve.specs.Faults.{number_of}
-use Rattle.rg_resolve.proofs.resolve.leaf.number.Given as goal
+use Rattle.rg_leaves.specs.Leaves.{number_of}
+use Rattle.rg_leaves.proofs.leaf.number.Given as goal
 
 abbrev pub invariant-loop-digit : goal.invariant-loop-digit
 invariant-loop-digit l = record {

@@ -9,9 +9,9 @@ use Rattle.rg_words.specs.declared.refusal.RefusalNumber.{RefusalNumber}
 use Rattle.rg_words.specs.declared.refusal.RefusalNumber.TheVariants.{UnknownName, NumberTooLarge, WidthsDiffer, WidthUnknown, Prime}
 use Rattle.rg_words.specs.Refusals.{no_memory, refused_at}
 use Rattle.rg_words.specs.Layout.{Word}
-use Rattle.rg_resolve.specs.Faults.{Fault, width_at, unless, is_other, word_faults, number_faults, IsFirst, IsRefusal}
-use Rattle.rg_resolve.specs.declared.resolve.group.Group.{Group}
-use Rattle.rg_resolve.specs.declared.resolve.group.Group.TheVariants.{Width, Wordless}
+use Rattle.rg_leaves.specs.Leaves.{Fault, width_at, unless, is_other, word_faults, number_faults, IsFirst, IsRefusal}
+use Rattle.rg_leaves.specs.declared.group.Group.{Group}
+use Rattle.rg_leaves.specs.declared.group.Group.TheVariants.{Width, Wordless}
 
 -- want of memory is a refusal of every text
 pub of_memory : (file : SourceFile) (faults : List Fault) (refusal : Refusal) → refusal ≡ no_memory → IsRefusal file faults refusal

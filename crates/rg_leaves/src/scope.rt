@@ -1,20 +1,16 @@
 //! The leaves of a formula, each against the declared words and the group in which it stands.
 
-ghost use Rattle.std.specs.Prelude.{false, ◌≡◌, ◌≤◌, ◌<◌, ◌^◌, [], SomeIff, IfOk, IfErr, nat_le};
+ghost use Rattle.std.specs.Prelude.{false, ◌≡◌, [], IfOk, IfErr, nat_le};
 ghost use Rattle.rg_words.specs.Layout.{index_of};
 ghost use Rattle.rg_words.specs.declared.refusal.RefusalNumber.TheVariants.{NumberTooLarge};
 ghost use Rattle.rg_words.specs.Refusals.{refused_at};
 ghost use Rattle.rg_text.specs.Text.{text_of, leaf_of};
-ghost use Rattle.rg_tree.specs.View.{expression};
-ghost use Rattle.rg_syntax.specs.Written.{number as number_leaf};
-ghost use Rattle.rg_resolve.specs.Faults.{number_of, unless, word_faults, number_faults, plain_faults, IsRefusal};
-ghost use Rattle.rg_resolve.specs.Inner.FormulaTrees.{place_of, width_of, IsTermTree};
+ghost use Rattle.rg_leaves.specs.Leaves.{number_of, unless, word_faults, plain_faults, place_of, IsRefusal};
 
-use super::group::Group;
-use super::leaf::{find, number, number_below, text};
+use crate::group::Group;
+use crate::leaf::{find, number, text};
 use rg_text::token::Token;
-use rg_tree::tree::Expr;
-use rg_words::limits::{MOST_PLAIN_NUMBER, MOST_SHIFT, MOST_WIDTH};
+use rg_words::limits::{MOST_PLAIN_NUMBER, MOST_SHIFT};
 use rg_words::{Layout, Place, Refusal, RefusalNumber, SourceFile};
 use std::alloc::Global;
 
@@ -72,23 +68,6 @@ impl Scope<'_> {
             return Err(self.fault(RefusalNumber::Prime, token));
         }
         Ok(word)
-    }
-
-    /// A number of this group.
-    #[tactic(auto, using(crate::proofs::Refusals::refusals, crate::proofs::Parts::parts))]
-    pub fn number(&self, group: Group, token: &Token) -> Result<Expr, Refusal>
-        requires { width_of group ≤ MOST_WIDTH }
-        ensures tree { IfOk result (λ e. IsTermTree self.now.layout.now self.now.one_state group (number_leaf (leaf_of self.now.source.now token.now)) (expression e)) }
-        ensures fault { IfErr result (λ e. IsRefusal self.now.file (number_faults group token.now.line (number_of (text_of self.now.source.now token.now))) e) }
-    {
-        match group {
-            Group::Width(width) => match number_below(text(self.source, token), width) {
-                Some(value) => Ok(Expr::Number(width, value)),
-                None => Err(self.fault(RefusalNumber::NumberTooLarge, token)),
-            },
-            Group::Unasked => Ok(Expr::Number(0, 0)),
-            Group::Wordless => Err(self.fault(RefusalNumber::WidthUnknown, token)),
-        }
     }
 
     /// The count of a shift, which is of no group.

@@ -3,10 +3,9 @@
 ghost use Rattle.std.specs.Prelude.{◌≡◌, ◌≤◌};
 ghost use Rattle.std.specs.Option.{option_map};
 ghost use Rattle.rg_syntax.specs.Written.{term};
-ghost use Rattle.rg_resolve.specs.Faults.{first_name, group_of, after_first, is_other};
-ghost use Rattle.rg_resolve.specs.Inner.FormulaTrees.{width_of};
+ghost use Rattle.rg_leaves.specs.Leaves.{first_name, group_of, after_first, is_other, width_of};
 
-use super::leaf::{find, text, unprimed};
+use crate::leaf::{find, text, unprimed};
 use rg_syntax::written::ExpressionText;
 use rg_words::Layout;
 use rg_words::limits::MOST_WIDTH;
@@ -74,7 +73,7 @@ fn first_name<'a>(source: &'a [u8], e: &ExpressionText) -> Option<&'a [u8]>
 }
 
 /// The group of a comparison of these two.
-#[tactic(auto, unfolding(crate::specs::Faults::group_of))]
+#[tactic(auto, unfolding(crate::specs::Leaves::group_of))]
 pub fn group_of(layout: &Layout, source: &[u8], a: &ExpressionText, b: &ExpressionText) -> Group
     ensures exact { result ≡ group_of layout.now (term source.now a.now) (term source.now b.now) }
     ensures range { width_of result ≤ MOST_WIDTH }

@@ -4,7 +4,7 @@ ghost use Rattle.std.specs.Prelude.{◌≡◌, ◌<◌, ◌≤◌, ◌^◌, Some
 ghost use Rattle.std.specs.Char.{digit_value};
 ghost use Rattle.rg_words.specs.Layout.{index_of};
 ghost use Rattle.rg_text.specs.Text.{text_of, unprimed};
-ghost use Rattle.rg_resolve.specs.Faults.{number_of};
+ghost use Rattle.rg_leaves.specs.Leaves.{number_of};
 
 use rg_text::token::Token;
 use rg_words::Layout;

@@ -1,6 +1,6 @@
 use Rattle.std.proofs.Common.{arith}
-use Rattle.rg_resolve.proofs.Names.{no_less, no_more_digits}
-use Rattle.rg_resolve.proofs.resolve.leaf.number.Goals as goal
+use Rattle.rg_leaves.proofs.Names.{no_less, no_more_digits}
+use Rattle.rg_leaves.proofs.leaf.number.Goals as goal
 
 pub returns-in_err-checked_mul : goal.returns-in_err-checked_mul
 returns-in_err-checked_mul c = rw c.from_residual.ensures (λ small.
