@@ -1,6 +1,6 @@
 use Rattle.std.proofs.Common.{◌≡◌, ◌++◌, drop}
-use Rattle.rg_floor.specs.Changes.{changed}
-use Rattle.rg_floor.proofs.change.differences.Given as goal
+use Rattle.rg_stepping.specs.Changes.{changed}
+use Rattle.rg_stepping.proofs.change.differences.Given as goal
 
 -- what was found, and what the rest will add, is the whole
 abbrev pub invariant-loop-word : goal.invariant-loop-word

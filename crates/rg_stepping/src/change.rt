@@ -1,7 +1,7 @@
 //! Changes of words.
 
 ghost use Rattle.std.specs.Prelude.{◌≡◌, ◌++◌, ◌+◌, ◌<◌, ◌^◌, IfOk, length};
-ghost use Rattle.rg_floor.specs.Changes.{changed, change_of};
+ghost use Rattle.rg_stepping.specs.Changes.{changed, change_of};
 
 use rg_tree::moves::WordValue;
 use rg_words::State;
@@ -17,7 +17,7 @@ pub struct Change {
 }
 
 impl Model for Change {
-    ghost use Rattle.rg_floor.specs.Changes.{Changing};
+    ghost use Rattle.rg_stepping.specs.Changes.{Changing};
 
     ghost Value = { Changing };
 

@@ -1,7 +1,7 @@
 use Rattle.std.proofs.Common.{List, subst}
 use Rattle.rg_words.specs.States.{AreValues}
-use Rattle.rg_floor.proofs.Readiness.{fixed_agree, by_both}
-use Rattle.rg_floor.proofs.stepping.keeps_fixed.Goals as goal
+use Rattle.rg_stepping.proofs.Readiness.{fixed_agree, by_both}
+use Rattle.rg_stepping.proofs.stepping.keeps_fixed.Goals as goal
 
 pub returns-clause-test : goal.returns-clause-test
 returns-clause-test c =

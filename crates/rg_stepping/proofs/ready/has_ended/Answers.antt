@@ -1,5 +1,5 @@
-use Rattle.rg_floor.proofs.Readiness.{not_all}
-use Rattle.rg_floor.proofs.ready.has_ended.Goals as goal
+use Rattle.rg_stepping.proofs.Readiness.{not_all}
+use Rattle.rg_stepping.proofs.ready.has_ended.Goals as goal
 
 pub returns-else-stands_at_end : goal.returns-else-stands_at_end
 returns-else-stands_at_end c =

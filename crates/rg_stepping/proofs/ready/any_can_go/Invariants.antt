@@ -1,6 +1,6 @@
 use Rattle.std.proofs.Common.{◌≡◌, drop}
-use Rattle.rg_floor.specs.Ready.{any_can_go}
-use Rattle.rg_floor.proofs.ready.any_can_go.Given as goal
+use Rattle.rg_stepping.specs.Ready.{any_can_go}
+use Rattle.rg_stepping.proofs.ready.any_can_go.Given as goal
 
 -- some can step where one of the rest can
 abbrev pub invariant-loop-i : goal.invariant-loop-i

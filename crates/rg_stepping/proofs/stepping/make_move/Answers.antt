@@ -1,7 +1,7 @@
 use Rattle.std.proofs.Common.{List, subst, sym}
 use Rattle.rg_words.specs.States.{IsPair}
-use Rattle.rg_floor.proofs.OneMore.{move_made}
-use Rattle.rg_floor.proofs.stepping.make_move.Goals as goal
+use Rattle.rg_stepping.proofs.Made.{move_made}
+use Rattle.rg_stepping.proofs.stepping.make_move.Goals as goal
 
 pub returns-clause-config : goal.returns-clause-config
 returns-clause-config c =

@@ -2,10 +2,10 @@ use Rattle.std.proofs.Common.{◌≡◌, ◌==◌, ◌+◌, ◌∷◌, [], ◌++
 use Rattle.rg_tree.specs.ProgramTrees.{program}
 use Rattle.rg_machine.specs.Machine.{Configuration, IsStepOf, StepFits, block_of, line_of}
 use Rattle.rg_monitor.specs.Entry.{entry_of}
-use Rattle.rg_floor.specs.Changes.{change_of}
-use Rattle.rg_floor.specs.Ready.{line_at}
-use Rattle.rg_floor.proofs.OneMore.{step_did}
-use Rattle.rg_floor.proofs.stepping.make_step.Goals as goal
+use Rattle.rg_stepping.specs.Changes.{change_of}
+use Rattle.rg_stepping.specs.Ready.{line_at}
+use Rattle.rg_stepping.proofs.Made.{step_did}
+use Rattle.rg_stepping.proofs.stepping.make_step.Goals as goal
 
 pub returns-in-Ok : goal.returns-in-Ok
 returns-in-Ok c =

@@ -1,6 +1,6 @@
 use Rattle.rg_machine.specs.Machine.{block_of}
-use Rattle.rg_floor.proofs.Readiness.{ready_means_steps, by_both}
-use Rattle.rg_floor.proofs.ready.can_go.Goals as goal
+use Rattle.rg_stepping.proofs.Readiness.{ready_means_steps, by_both}
+use Rattle.rg_stepping.proofs.ready.can_go.Goals as goal
 
 pub returns-clause-can : goal.returns-clause-can
 returns-clause-can c =

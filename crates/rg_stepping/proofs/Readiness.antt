@@ -8,10 +8,8 @@ use Rattle.rg_words.specs.States.{AgreeOnFixed, SameIf}
 use Rattle.rg_tree.specs.Traces.{State}
 use Rattle.rg_code.specs.Operations.{told_by}
 use Rattle.rg_code.specs.Code.{BlockTree, do_block, await_block, test_block, end_block, stored, is_end, all_at_end}
-use Rattle.rg_floor.specs.Ready.{block_at, can_go, any_can_go, is_told, ReadyMeansSteps}
-use Rattle.rg_floor.specs.Turns.{keeps_fixed}
-use Rattle.rg_floor.specs.declared.turn.Case.TheVariants.{IsOver, AtEnd, Waits, Steps}
-use Rattle.rg_floor.specs.declared.turn.Why.TheVariants.{Ended as all_ended, Limit, Stuck, Stopped}
+use Rattle.rg_stepping.specs.Ready.{block_at, can_go, any_can_go, is_told, ReadyMeansSteps}
+use Rattle.rg_stepping.specs.Steps.{keeps_fixed}
 
 pub and_true : (a b : Bool) → (a && b) ≡ true → (a ≡ true) × (b ≡ true)
 and_true true b e = (refl, e)
@@ -116,18 +114,6 @@ fixed_agree (w ∷ ws) (x ∷ xs) (y ∷ ys) =
 fixed_agree [] xs ys = ((λ e. refl), (λ e. tt))
 fixed_agree (w ∷ ws) [] ys = ((λ e. refl), (λ e. tt))
 fixed_agree (w ∷ ws) (x ∷ xs) [] = ((λ e. refl), (λ e. tt))
-
--- the case of a step alone says this much
-pub pick_steps : (a b c d e f : Bool)
-    → (if a then IsOver Stopped else if b then IsOver all_ended else if c then IsOver Limit else if d then AtEnd else if e then (if f then Steps else Waits) else IsOver Stuck) ≡ Steps
-    → (c ≡ false) × (f ≡ true)
-pick_steps true b c d e f h = cc
-pick_steps false true c d e f h = cc
-pick_steps false false true d e f h = cc
-pick_steps false false false true e f h = cc
-pick_steps false false false false false f h = cc
-pick_steps false false false false true true h = (refl, refl)
-pick_steps false false false false true false h = cc
 
 -- equal states, by their test
 pub same_by_test : (s t : State) → bytes_eq s t ≡ true → s ≡ t
