@@ -9,15 +9,16 @@ use Rattle.rg_gates.specs.Circuit.{Circuit, variable_count}
 use Rattle.rg_tree.specs.Trees.{Proposition, Assignment}
 use Rattle.rg_tree.specs.Fits.{FormulaFits, ExpressionFits}
 use Rattle.rg_tree.specs.ConditionTrees.{ConditionTree, SecondState, AllFit, AssignmentsFit}
-use Rattle.rg_bits.specs.Build.{◌>>=◌, fold_of}
-use Rattle.rg_bits.specs.Inner.Within.{AreRowsIn, rows_of, IsRowIn}
+use Rattle.rg_rows.specs.Build.{◌>>=◌, fold_of}
+use Rattle.rg_rows.specs.Within.{AreRowsIn, rows_of, IsRowIn}
 use Rattle.rg_bits.specs.Conditions.{hypothesis_of, assign_of, same_word_of, goal_of, conclusion_of, reached_rows}
-use Rattle.rg_bits.proofs.Means.{grows-means}
-use Rattle.rg_bits.proofs.LiteralsMean.{and-grows, or-grows, implies-grows}
-use Rattle.rg_bits.specs.Literals.{implies_of}
+use Rattle.rg_rows.proofs.Means.{grows-means}
+use Rattle.rg_rows.proofs.LiteralsMean.{and-grows, or-grows, implies-grows}
+use Rattle.rg_rows.specs.Literals.{implies_of}
 use Rattle.rg_bits.specs.Formulas.{literal_of}
 use Rattle.rg_bits.proofs.FormulaSteps.{literal-grows}
-use Rattle.rg_bits.proofs.TreeSteps.{tree_steps, row_at}
+use Rattle.rg_bits.proofs.TreeSteps.{tree_steps}
+use Rattle.rg_rows.proofs.RowsOf.{row_at, length-rows_of}
 use Rattle.rg_bits.proofs.ConditionsMean.{hypothesis-means, assign-means, same_word-means, hypotheses-means, reached-means, goal-means}
 
 pub hypothesis-grows : (s t : List (List Lit)) (f : Proposition) (h : Lit) (c : Circuit) → variable_count c ≤ variable_count (hypothesis_of s t f h c).1
@@ -36,11 +37,6 @@ formula_fits [] n (suc i) f rest h e = (cc)
 formula_fits (g ∷ fs) n zero f rest h e = let same : g ≡ f = (cc) in let P : Proposition → Type 0 = λ x. FormulaFits x n in subst P same h.0
 formula_fits (g ∷ fs) n (suc i) f rest h e = formula_fits fs n i f rest h.1 e
 
-pub drop_row : (rows : List (List Lit)) (i : ℕ) (row : List Lit) → i < length rows → get_or rows i [] ≡ row → drop i rows ≡ row ∷ drop (i + 1) rows
-drop_row [] i row less at = absurd (omega arith)
-drop_row (r ∷ rows) zero row less at = ap (λ x. x ∷ rows) at
-drop_row (r ∷ rows) (suc i) row less at = drop_row rows i row (omega arith) at ∙ ap (λ j. row ∷ drop j rows) (add-one i) ∙ ap (λ j. row ∷ drop j (r ∷ rows)) (sym (add-one (suc i)))
-
 drop_zipped : (as_ bs : List (List Lit)) (i : ℕ) (a b : List Lit) → i < length as_ → i < length bs → get_or as_ i [] ≡ a → get_or bs i [] ≡ b → drop i (zip as_ bs) ≡ (a, b) ∷ drop (i + 1) (zip as_ bs)
 drop_zipped [] bs i a b less more at be = absurd (omega arith)
 drop_zipped (x ∷ as_) [] i a b less more at be = absurd (omega arith)
@@ -54,10 +50,6 @@ drop_zip-end (x ∷ as_) [] zero h = refl
 drop_zip-end (x ∷ as_) [] (suc i) h = refl
 drop_zip-end (x ∷ as_) (y ∷ bs) zero h = absurd (omega arith)
 drop_zip-end (x ∷ as_) (y ∷ bs) (suc i) h = drop_zip-end as_ bs i (omega arith)
-
-pub length-rows_of : (xs : List (Vec Lit Global)) → length (rows_of xs) ≡ length xs
-unfolding rows_of
-length-rows_of xs = length-map xs (λ (r : Vec Lit Global). r.items)
 
 -- two words' rows as they are read
 pub zipped_at : (xs ys : List (Vec Lit Global)) (i : ℕ) (x y : Vec Lit Global) (a b : List Lit) → i < min (length xs) (length ys) → x ≡ get_or xs i x → y ≡ get_or ys i y → a ≡ x.items → b ≡ y.items → drop i (zip (rows_of xs) (rows_of ys)) ≡ (a, b) ∷ drop (i + 1) (zip (rows_of xs) (rows_of ys))

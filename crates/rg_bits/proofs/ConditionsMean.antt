@@ -14,14 +14,14 @@ use Rattle.rg_tree.specs.Trees.{Proposition, Assignment}
 use Rattle.rg_tree.specs.Meaning.{value_of, holds}
 use Rattle.rg_tree.specs.ConditionTrees.{ConditionTree, SecondState, same, free, after, assigned, before, reached, all_hold, are_same, condition_holds, AllTyped, AssignmentsTyped, SecondTyped, ConditionTyped}
 use Rattle.rg_words.specs.Layout.{widths_of}
-use Rattle.rg_bits.specs.Build.{fold_of}
-use Rattle.rg_bits.specs.Rows.{row_value}
-use Rattle.rg_bits.specs.Literals.{or_of, implies_of}
+use Rattle.rg_rows.specs.Build.{fold_of}
+use Rattle.rg_rows.specs.Rows.{row_value}
+use Rattle.rg_rows.specs.Literals.{or_of, implies_of}
 use Rattle.rg_bits.specs.Formulas.{row_of, literal_of, compared_of}
 use Rattle.rg_bits.proofs.StandFor.{StandFor}
 use Rattle.rg_bits.specs.Conditions.{hypothesis_of, assign_of, reached_rows, same_word_of, goal_of, conclusion_of, implication_of}
-use Rattle.rg_bits.proofs.Means.{Means, give-means, then-means, weaker-means}
-use Rattle.rg_bits.proofs.LiteralsMean.{negation_value, and-means, or-means}
+use Rattle.rg_rows.proofs.Means.{Means, give-means, then-means, weaker-means}
+use Rattle.rg_rows.proofs.LiteralsMean.{negation_value, and-means, or-means}
 use Rattle.rg_bits.proofs.FormulasMean.{row-means, literal-means, compared-means}
 
 pub hypothesis-means : (s t : List (List Lit)) (f : Proposition) (h : Lit) → Means (hypothesis_of s t f h) (λ v l. (widths first second : List ℕ) → StandFor v widths s first → StandFor v widths t second → IsTyped widths f → lit_value v l ≡ (lit_value v h && holds f first second))

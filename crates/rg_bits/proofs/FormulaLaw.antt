@@ -8,15 +8,15 @@ use Rattle.rg_gates.specs.Circuit.{Circuit, variable_count, lit_value}
 use Rattle.rg_gates.specs.Extends.{GatesHold}
 use Rattle.rg_words.specs.Layout.{Word, widths_of}
 use Rattle.rg_tree.specs.ConditionTrees.{ConditionTree, SecondState, same, free, after, before, ConditionTyped, condition_holds}
-use Rattle.rg_bits.specs.Rows.{row_value}
-use Rattle.rg_bits.specs.Inner.Within.{AreRowsIn, rows_of}
+use Rattle.rg_rows.specs.Rows.{row_value}
+use Rattle.rg_rows.specs.Within.{AreRowsIn, rows_of}
 use Rattle.rg_bits.proofs.StandFor.{StandFor}
-use Rattle.rg_bits.specs.Inputs.{first_rows, total_width, free_width, before_rows, first_of, second_of}
+use Rattle.rg_rows.specs.Inputs.{first_rows, total_width, free_width, before_rows, first_of, second_of}
 use Rattle.rg_bits.specs.Conditions.{condition_of}
 use Rattle.rg_bits.proofs.ConditionsMean.{implication-means}
-use Rattle.rg_bits.proofs.ConditionSteps.{length-rows_of}
+use Rattle.rg_rows.proofs.RowsOf.{length-rows_of}
 use Rattle.rg_bits.proofs.Widths.{first_lengths, before_lengths, row_width}
-use Rattle.rg_bits.proofs.InputRows.{first_in, free_in, length-first_rows, length-free_rows}
+use Rattle.rg_rows.proofs.InputRows.{first_in, free_in, length-first_rows, length-free_rows}
 
 pub row_counts : (first : List (Vec Lit Global)) (words : List Word) → rows_of first ≡ first_rows 0 words → length first ≡ length words
 row_counts first words e = sym (length-rows_of first) ∙ ap length e ∙ length-first_rows 0 words

@@ -8,9 +8,10 @@ use Rattle.rg_words.specs.declared.operators.Comparison.{Comparison}
 use Rattle.rg_words.specs.declared.operators.Connective.{Connective}
 use Rattle.rg_tree.specs.Trees.{Expression, Proposition}
 use Rattle.rg_bits.specs.Formulas.{operated_of, less_of, compared_of, connected_of, row_of, literal_of}
-use Rattle.rg_bits.proofs.Means.{grows-means}
-use Rattle.rg_bits.proofs.RowsMean.{test-grows, bits-grows, sum-grows}
-use Rattle.rg_bits.proofs.RowsIn.{IsRowIn-inverted, IsRowIn-number, IsRowIn-moved, IsIn-constant, IsRowIn-extends}
+use Rattle.rg_rows.proofs.Means.{grows-means}
+use Rattle.rg_rows.proofs.RowsMean.{test-grows, bits-grows, sum-grows}
+use Rattle.rg_rows.proofs.RowsIn.{IsRowIn-inverted, IsRowIn-number, IsIn-constant, IsRowIn-extends}
+use Rattle.rg_bits.proofs.Moved.{IsRowIn-moved}
 use Rattle.rg_bits.proofs.FormulasMean.{operated-means, less-means, compared-means, connected-means, row-means, literal-means}
 
 pub operated-grows : (o : Operator) (p q : List Lit) (c : Circuit) → variable_count c ≤ variable_count (operated_of o p q c).1

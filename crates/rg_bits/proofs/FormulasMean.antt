@@ -16,14 +16,14 @@ use Rattle.rg_words.specs.declared.operators.Connective.TheVariants.{And, Or, Im
 use Rattle.rg_tree.specs.Trees.{Expression, Proposition, number, word, next_word, inverse, binary, shifted, choice, truth, negation, connected, compared}
 use Rattle.rg_tree.specs.Meaning.{operated, moved, is_so, joined, value_of, holds}
 use Rattle.rg_tree.specs.Typing.{HasWidth, IsTyped}
-use Rattle.rg_bits.specs.declared.rows.BitOperation.TheVariants as bit
-use Rattle.rg_bits.specs.declared.rows.Test.TheVariants as test
-use Rattle.rg_bits.specs.Rows.{row_value, sum_of, bits_of, test_of, inverted, number_row}
+use Rattle.rg_rows.specs.declared.rows.BitOperation.TheVariants as bit
+use Rattle.rg_rows.specs.declared.rows.Test.TheVariants as test
+use Rattle.rg_rows.specs.Rows.{row_value, sum_of, bits_of, test_of, inverted, number_row}
 use Rattle.rg_bits.specs.Formulas.{operated_of, moved_row, less_of, compared_of, connected_of, row_of, literal_of}
 use Rattle.rg_bits.proofs.StandFor.{StandFor}
-use Rattle.rg_bits.proofs.Means.{Means, give-means, then-means, weaker-means}
-use Rattle.rg_bits.proofs.LiteralsMean.{negation_value, IsValue, and-means, or-means, implies-means, iff-means}
-use Rattle.rg_bits.proofs.RowsMean.{sum-means, bits-means, test-means}
+use Rattle.rg_rows.proofs.Means.{Means, give-means, then-means, weaker-means}
+use Rattle.rg_rows.proofs.LiteralsMean.{negation_value, IsValue, and-means, or-means, implies-means, iff-means}
+use Rattle.rg_rows.proofs.RowsMean.{sum-means, bits-means, test-means}
 use Rattle.rg_bits.proofs.Numbers.{sum_value, difference_value, and_number, or_number, xor_number, pick_number, inverted_value, length-inverted, number_row_value, length-number_row, shifted_left_value, length-shifted_left, shifted_right_value, length-shifted_right}
 
 -- a row of this width that stands for this number

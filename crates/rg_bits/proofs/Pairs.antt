@@ -6,13 +6,13 @@ use Rattle.rg_gates.specs.Circuit.{Circuit, lit_value}
 use Rattle.rg_gates.specs.Extends.{GatesHold}
 use Rattle.rg_words.specs.Layout.{Word}
 use Rattle.rg_tree.specs.ConditionTrees.{ConditionTree, SecondState, same, free, after, before, reached, all_hold, goal_holds, condition_holds, ConditionTyped}
-use Rattle.rg_bits.specs.Rows.{row_value}
-use Rattle.rg_bits.specs.Inputs.{variables, first_rows, free_rows, total_width, before_rows, second_of, number_bits, state_bits, free_bits, second_bits, input_bits}
+use Rattle.rg_rows.specs.Rows.{row_value}
+use Rattle.rg_rows.specs.Inputs.{variables, first_rows, free_rows, total_width, before_rows, second_of, number_bits, state_bits, free_bits, second_bits, input_bits}
 use Rattle.rg_bits.specs.Conditions.{condition_of}
 use Rattle.rg_words.specs.States.{IsState, AgreeOnFixed, SameIf}
-use Rattle.rg_bits.proofs.RowsMean.{number_of}
+use Rattle.rg_rows.proofs.RowsMean.{number_of}
 use Rattle.rg_bits.proofs.Numbers.{low_bit}
-use Rattle.rg_bits.proofs.InputRows.{total_cons}
+use Rattle.rg_rows.proofs.InputRows.{total_cons}
 use Rattle.rg_bits.proofs.FormulaLaw.{condition_law}
 
 -- the value at n, and those after it

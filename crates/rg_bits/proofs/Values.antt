@@ -14,14 +14,13 @@ use Rattle.rg_gates.specs.Circuit.{lit_value}
 use Rattle.rg_words.specs.Layout.{Word, widths_of, IsWidth, IsLayout}
 use Rattle.rg_words.specs.States.{AreValues, IsState, SameIf, AgreeOnFixed, IsPair}
 use Rattle.rg_tree.specs.ConditionTrees.{ConditionTree, SecondState, same, free, after}
-use Rattle.rg_bits.specs.Rows.{row_value}
-use Rattle.rg_bits.specs.Inner.Within.{rows_of}
-use Rattle.rg_bits.specs.Inputs.{variables, first_rows, free_rows, total_width, free_width, before_rows, second_width, inputs_of, first_of, second_of, number_bits, state_bits, free_bits, second_bits, input_bits}
-use Rattle.rg_bits.proofs.RowsMean.{number_of}
+use Rattle.rg_rows.specs.Rows.{row_value}
+use Rattle.rg_rows.specs.Within.{rows_of}
+use Rattle.rg_rows.specs.Inputs.{variables, first_rows, free_rows, total_width, free_width, before_rows, second_width, inputs_of, first_of, second_of, number_bits, state_bits, free_bits, second_bits, input_bits}
+use Rattle.rg_rows.proofs.RowsMean.{number_of}
 use Rattle.rg_bits.proofs.Numbers.{row_value-lt}
-use Rattle.rg_bits.proofs.InputRows.{total_cons, free_cons, length-first_rows}
-use Rattle.rg_bits.proofs.ConditionSteps.{length-rows_of}
-use Rattle.rg_bits.proofs.TreeSteps.{row_at}
+use Rattle.rg_rows.proofs.InputRows.{total_cons, free_cons, length-first_rows}
+use Rattle.rg_rows.proofs.RowsOf.{row_at, length-rows_of}
 use Rattle.rg_bits.proofs.Widths.{first_lengths, before_lengths, row_width}
 
 -- a row of at most 64 literals stands for a number of 64 bits

@@ -4,7 +4,7 @@ use Rattle.std.proofs.lemmas.List.{length-map, get_or-map}
 use Rattle.rg_gates.specs.declared.Lit.{Lit}
 use Rattle.rg_words.specs.Layout.{Word, widths_of}
 use Rattle.rg_tree.specs.ConditionTrees.{SecondState, same, free, after}
-use Rattle.rg_bits.specs.Inputs.{variables, first_rows, free_rows, total_width, before_rows}
+use Rattle.rg_rows.specs.Inputs.{variables, first_rows, free_rows, total_width, before_rows}
 
 pub length-variables : (n w : ℕ) → length (variables n w) ≡ w
 length-variables n zero = refl

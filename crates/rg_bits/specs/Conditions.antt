@@ -7,10 +7,10 @@ use Rattle.rg_gates.specs.And.{and_of}
 use Rattle.rg_words.specs.declared.operators.Comparison.TheVariants.{Equal}
 use Rattle.rg_tree.specs.Trees.{Proposition, Assignment}
 use Rattle.rg_tree.specs.ConditionTrees.{ConditionTree, SecondState, same, free, after}
-use Rattle.rg_bits.specs.Build.{Build, ◌>>=◌, give, fold_of}
-use Rattle.rg_bits.specs.Literals.{or_of, implies_of}
+use Rattle.rg_rows.specs.Build.{Build, ◌>>=◌, give, fold_of}
+use Rattle.rg_rows.specs.Literals.{or_of, implies_of}
 use Rattle.rg_bits.specs.Formulas.{row_of, literal_of, compared_of}
-use Rattle.rg_bits.specs.Inputs.{first_rows, before_rows}
+use Rattle.rg_rows.specs.Inputs.{first_rows, before_rows}
 
 -- one hypothesis more
 unfoldable pub hypothesis_of : List (List Lit) → List (List Lit) → Proposition → Lit → Build Lit

@@ -13,11 +13,11 @@ use Rattle.rg_words.specs.declared.operators.Comparison.TheVariants.{Equal, NotE
 use Rattle.rg_words.specs.declared.operators.Connective.{Connective}
 use Rattle.rg_words.specs.declared.operators.Connective.TheVariants.{And, Or, Implies, Iff}
 use Rattle.rg_tree.specs.Trees.{Expression, Proposition, number, word, next_word, inverse, binary, shifted, choice, truth, negation, connected, compared}
-use Rattle.rg_bits.specs.declared.rows.BitOperation.TheVariants as bit
-use Rattle.rg_bits.specs.declared.rows.Test.TheVariants as test
-use Rattle.rg_bits.specs.Build.{Build, ◌>>=◌, give}
-use Rattle.rg_bits.specs.Literals.{or_of, implies_of, iff_of}
-use Rattle.rg_bits.specs.Rows.{sum_of, bits_of, test_of, inverted, number_row, shifted_left, shifted_right}
+use Rattle.rg_rows.specs.declared.rows.BitOperation.TheVariants as bit
+use Rattle.rg_rows.specs.declared.rows.Test.TheVariants as test
+use Rattle.rg_rows.specs.Build.{Build, ◌>>=◌, give}
+use Rattle.rg_rows.specs.Literals.{or_of, implies_of, iff_of}
+use Rattle.rg_rows.specs.Rows.{sum_of, bits_of, test_of, inverted, number_row, shifted_left, shifted_right}
 
 -- the row of an operation on two rows
 unfoldable pub operated_of : Operator → List Lit → List Lit → Build (List Lit)

@@ -6,12 +6,12 @@ ghost use Rattle.rg_gates.specs.Circuit.{lit_value};
 ghost use Rattle.rg_words.specs.Layout.{widths_of};
 ghost use Rattle.rg_words.specs.States.{IsPair};
 ghost use Rattle.rg_tree.specs.Conditions.{condition_tree, second_state};
-ghost use Rattle.rg_bits.specs.Rows.{row_value};
-ghost use Rattle.rg_bits.specs.Inner.Within.{rows_of};
-ghost use Rattle.rg_bits.specs.Inputs.{inputs_of, first_rows, first_of, second_of, input_bits, state_of, own_second};
+ghost use Rattle.rg_rows.specs.Rows.{row_value};
+ghost use Rattle.rg_rows.specs.Within.{rows_of};
+ghost use Rattle.rg_rows.specs.Inputs.{inputs_of, first_rows, first_of, second_of, input_bits, state_of, own_second};
 
-use crate::input_rows::{first_state, free_state};
 use rg_gates::Lit;
+use rg_rows::input_rows::{first_state, free_state};
 use rg_tree::condition::{Condition, Second};
 use rg_words::{Layout, State};
 use std::alloc::{AllocError, Global};

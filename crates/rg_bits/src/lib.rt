@@ -4,11 +4,8 @@
 mod condition;
 mod decode;
 mod expression;
-mod input_rows;
-mod literals;
 mod operations;
-mod rows;
 
 pub use condition::formula;
 pub use decode::states;
-pub use input_rows::inputs;
+pub use rg_rows::input_rows::inputs;

@@ -1,17 +1,17 @@
 //! The operations, comparisons and connectives of formulas.
 
 ghost use Rattle.std.specs.Prelude.{◌≡◌, IfOk, if◌then◌else◌};
-ghost use Rattle.rg_bits.specs.Inner.Within.{IsRowIn};
+ghost use Rattle.rg_rows.specs.Within.{IsRowIn};
 ghost use Rattle.rg_gates.specs.declared.Lit.TheVariants.{True, False};
 ghost use Rattle.rg_words.specs.declared.operators.Comparison.TheVariants.{NotEqual, GreaterOrEqual};
 ghost use Rattle.rg_gates.specs.Extends.{IsIn};
-ghost use Rattle.rg_bits.specs.Build.{Builds};
-ghost use Rattle.rg_bits.specs.Rows.{inverted, number_row, sum_of};
+ghost use Rattle.rg_rows.specs.Build.{Builds};
+ghost use Rattle.rg_rows.specs.Rows.{inverted, number_row, sum_of};
 ghost use Rattle.rg_bits.specs.Formulas.{operated_of, moved_row, less_of, compared_of, connected_of};
 
-use crate::literals::{and, iff, implies, or};
-use crate::rows::{BitOperation, Test, bits, sum, test_rows};
 use rg_gates::{GateError, Gates, Lit, Table};
+use rg_rows::literals::{and, iff, implies, or};
+use rg_rows::rows::{BitOperation, Test, bits, sum, test_rows};
 use rg_words::operators::{Comparison, Connective, Operator, Shift};
 use std::alloc::{AllocError, Global};
 
@@ -23,7 +23,7 @@ pub fn invert(alloc: Global, row: &[Lit]) -> Result<Vec<Lit>, AllocError>
 }
 
 /// A row of constants.
-#[tactic(auto, using(crate::proofs::RowsIn::number_row_next))]
+#[tactic(auto, using(rg_rows::proofs::RowsIn::number_row_next))]
 pub fn number(alloc: Global, width: u32, value: u64) -> Result<Vec<Lit>, AllocError>
     ensures items { IfOk result (λ r. r.items ≡ number_row width value) }
 {

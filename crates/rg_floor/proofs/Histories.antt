@@ -13,7 +13,7 @@ use Rattle.rg_tree.specs.Programs.{OthersInside, nth}
 use Rattle.rg_tree.specs.Moves.{given, IsValueOf}
 use Rattle.rg_code.specs.Code.{BlockTree, PlacesGo, zeros}
 use Rattle.rg_monitor.specs.Entry.{Entry, entry_of}
-use Rattle.rg_floor.specs.Changes.{Changing, changed, rebuilt, state_after}
+use Rattle.rg_stepping.specs.Changes.{Changing, changed, rebuilt, state_after}
 use Rattle.rg_floor.specs.History.{step_of, steps_of, own_steps, steps_by, IsRecordAt, RecordsLead}
 use Rattle.rg_floor.specs.Inner.Counts.{made_by}
 

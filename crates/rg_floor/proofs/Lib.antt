@@ -1,5 +1,5 @@
 pub mod Histories
 pub mod Meant
-pub mod Readiness
 pub mod OneMore
 pub mod Together
+pub mod EachMove

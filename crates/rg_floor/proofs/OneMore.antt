@@ -24,17 +24,18 @@ use Rattle.rg_machine.specs.Replay.{IsMoveTo}
 use Rattle.rg_machine.specs.declared.config.Stepped.{Stepped}
 use Rattle.rg_machine.specs.declared.config.Stepped.TheVariants.{Did as did, Blocked as blocked, Ended as ended}
 use Rattle.rg_monitor.specs.Entry.{Entry, entry_of}
-use Rattle.rg_floor.specs.Changes.{Changing, changed, rebuilt, state_after, change_of}
+use Rattle.rg_stepping.specs.Changes.{Changing, changed, rebuilt, state_after, change_of}
 use Rattle.rg_floor.specs.History.{FloorView, step_of, steps_of, own_steps, IsRecordAt, RecordsLead, IsLegal, GoTogether}
-use Rattle.rg_floor.specs.Ready.{block_at, line_at, can_go, any_can_go}
+use Rattle.rg_stepping.specs.Ready.{block_at, line_at, can_go, any_can_go}
 use Rattle.rg_floor.specs.Turns.{case_of, Goes, MoveGives}
-use Rattle.rg_floor.specs.Inner.Kept.{IsKept, view_of, StepMakes, MoveMakes}
+use Rattle.rg_floor.specs.Inner.Kept.{IsKept, view_of}
+use Rattle.rg_stepping.specs.Steps.{StepMakes, MoveMakes}
 use Rattle.rg_floor.specs.declared.turn.Case.{Case}
 use Rattle.rg_floor.specs.declared.turn.Case.TheVariants.{IsOver, AtEnd, Waits, Steps}
 use Rattle.rg_floor.specs.declared.turn.Why.TheVariants.{Ended as all_ended, Limit, Stuck, Stopped}
 use Rattle.rg_floor.specs.declared.turn.Turn.TheVariants.{Did}
 use Rattle.rg_floor.proofs.Histories.{length-rebuilt, rebuilt-push, state_after-push, last_of-rebuilt, given-changed, changed-fits, steps_of-push, IsTraceOf-push, OthersInside-push, own_steps-push, RecordsLead-push, goes_sized, stays, length-zeros}
-use Rattle.rg_floor.proofs.Readiness.{same_by_test, pick_steps, ready_means_steps, not_both}
+use Rattle.rg_stepping.proofs.Readiness.{same_by_test}
 
 -- the records after one more change
 pub history-push : (p : ProgramTree) (start s t : State) (changes : List Changing) (who line : ℕ) → s ≡ state_after start changes → length s ≡ length t
@@ -138,18 +139,17 @@ inside_by_test : (f : Proposition) (s t : State) → is_inside f s t ≡ true �
 inside_by_test f s t e =
     elim (holds f s t) as (λ b. holds f s t ≡ b → (b || bytes_eq s t) ≡ true → Inside (holds f) s t) [ true ↦ λ h g. inl h | false ↦ λ h g. inr (sym (same_by_test s t g)) ] refl e
 
--- a part that can step makes its step
-pub step_did : (c : Configuration) (who : ℕ) (r : Stepped) (d : Configuration) → StepFits c who r d → can_go (block_of c who) c.state ≡ true → IsStepOf c who d
-step_did c who did d h can = h
-step_did c who blocked d h can = absurd (h.0 ((ready_means_steps (block_of c who) c.state).0 can))
-step_did c who ended d h can = absurd (not_both (block_of c who) c.state can h.0)
-
--- a move that keeps the fixed words is made
-pub move_made : (c : Configuration) (t : State) (r : Bool) (d : Configuration) → (r ≡ true → IsMoveTo c t d) → (r ≡ false → IsPair c.words c.state t → ⊥) → IsPair c.words c.state t → d ≡ record c { state = t }
-move_made c t true d f g pair =
-    let m = f refl in
-    (λ i. record { words = m.words i; codes = m.codes i; state = m.state i; places = m.places i })
-move_made c t false d f g pair = absurd (g refl pair)
+-- the case of a step alone says this much
+pub pick_steps : (a b c d e f : Bool)
+    → (if a then IsOver Stopped else if b then IsOver all_ended else if c then IsOver Limit else if d then AtEnd else if e then (if f then Steps else Waits) else IsOver Stuck) ≡ Steps
+    → (c ≡ false) × (f ≡ true)
+pick_steps true b c d e f h = cc
+pick_steps false true c d e f h = cc
+pick_steps false false true d e f h = cc
+pick_steps false false false true e f h = cc
+pick_steps false false false false false f h = cc
+pick_steps false false false false true true h = (refl, refl)
+pick_steps false false false false true false h = cc
 
 module _ (p : ProgramTree) (codes : List (List BlockTree)) (start : State) (limit : ℕ) (code : List (List BlockTree)) (c ahead : Configuration) (first scratch : Valuation) (changes : List Changing) (most own total : ℕ) (k : IsKept p codes start limit code c ahead first scratch changes most own total) where
   -- the count of records is that of changes

@@ -1,5 +1,5 @@
-pub mod Changes
-pub mod Ready
+pub use Rattle.rg_stepping.specs.Changes
+pub use Rattle.rg_stepping.specs.Ready
 pub mod History
 pub mod Seats
 pub mod Turns

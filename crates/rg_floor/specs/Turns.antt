@@ -1,14 +1,12 @@
 -- What the calls of a floor answer and leave.
-use Rattle.std.specs.Prelude.{◌≡◌, ◌≢◌, ◌⊎◌, ℕ, suc, ◌+◌, ◌==◌, zero, Bool, true, false, ◌&&◌, ◌||◌, not, nat_le, List, [], ◌∷◌, ◌++◌, length, if◌then◌else◌, Option, Some, None, Result, Ok, Err}
+use Rattle.std.specs.Prelude.{◌≡◌, ◌≢◌, ◌⊎◌, ℕ, suc, ◌+◌, ◌==◌, zero, Bool, true, false, ◌||◌, not, nat_le, List, [], ◌∷◌, ◌++◌, length, if◌then◌else◌, Option, Some, None, Result, Ok, Err}
 use Rattle.std.specs.declared.alloc.AllocError.{AllocError}
-use Rattle.rg_words.specs.Layout.{Word}
 use Rattle.rg_words.specs.Refusals.{refused, no_memory}
 use Rattle.rg_words.specs.declared.limits.TheConstants.{MOST_RUN_STEPS}
 use Rattle.rg_words.specs.declared.refusal.Refusal.{Refusal}
 use Rattle.rg_words.specs.declared.refusal.RefusalNumber.{RefusalNumber}
-use Rattle.rg_words.specs.declared.refusal.RefusalNumber.TheVariants.{StartOutsidePre, OutsideRely, MovesEnded, FixedMoved, Mismatch}
+use Rattle.rg_words.specs.declared.refusal.RefusalNumber.TheVariants.{StartOutsidePre, Mismatch}
 use Rattle.rg_words.specs.declared.refusal.RefusalNumber.TheVariants as numbers
-use Rattle.rg_tree.specs.Inside.{is_inside}
 use Rattle.rg_tree.specs.Statements.{ProgramTree}
 use Rattle.rg_tree.specs.Traces.{State, holds_at}
 use Rattle.rg_code.specs.Code.{BlockTree, is_end, all_at_end, zeros}
@@ -21,9 +19,10 @@ use Rattle.rg_floor.specs.declared.turn.Why.{Why}
 use Rattle.rg_floor.specs.declared.turn.Why.TheVariants.{Ended as all_ended, Limit, Stuck, Stopped}
 use Rattle.rg_floor.specs.declared.turn.Turn.{Turn}
 use Rattle.rg_floor.specs.declared.turn.Turn.TheVariants.{Did, Blocked, Ended, Over}
-use Rattle.rg_floor.specs.Changes.{Changing, change_of}
+use Rattle.rg_stepping.specs.Changes.{Changing, change_of}
 use Rattle.rg_floor.specs.History.{FloorView, own_steps}
-use Rattle.rg_floor.specs.Ready.{block_at, line_at, can_go, any_can_go}
+use Rattle.rg_stepping.specs.Ready.{block_at, line_at, can_go, any_can_go}
+pub use Rattle.rg_stepping.specs.Steps.{keeps_fixed, move_fault, IsErrorOf}
 
 -- which case a turn of this part is: the first that fits
 abbrev pub case_of : List (List BlockTree) → ℕ → FloorView → ℕ → Case
@@ -71,24 +70,6 @@ TurnFits p codes f who Steps t g had has = Goes p codes f who t g had has
 abbrev pub TurnGives : ProgramTree → List (List BlockTree) → ℕ → FloorView → ℕ → Result Turn AllocError → FloorView → ℕ → ℕ → Type 0
 TurnGives p codes limit f who (Ok t) g had has = TurnFits p codes f who (case_of codes limit f who) t g had has
 TurnGives p codes limit f who (Err e) g had has = (case_of codes limit f who ≡ Steps) × (g ≡ f) × (has ≡ had)
-
--- whether the fixed words have the same values in both states
-abbrev pub keeps_fixed : List Word → State → State → Bool
-keeps_fixed (w ∷ ws) (x ∷ xs) (y ∷ ys) = (not w.fixed || (x == y)) && keeps_fixed ws xs ys
-keeps_fixed _ _ _ = true
-
--- why a move from a state to another is refused, if it is: the first of these three that holds; the flag says whether moves may still come
-abbrev pub move_fault : ProgramTree → Bool → State → State → Option RefusalNumber
-move_fault p m s t =
-    if not m then Some MovesEnded
-    else if not (keeps_fixed p.words s t) then Some FixedMoved
-    else if not (is_inside p.spec.rely s t) then Some OutsideRely
-    else None
-
--- with this fault the error is its refusal; with none it is want of memory
-abbrev pub IsErrorOf : Option RefusalNumber → Refusal → Type 0
-IsErrorOf (Some number) e = e ≡ refused number
-IsErrorOf None e = e ≡ no_memory
 
 -- what a move answers and leaves: without a fault the history gains its record at its end, and the words are the ones given; with
 -- one, and where memory was refused, nothing changes

@@ -5,14 +5,14 @@ ghost use Rattle.rg_words.specs.Layout.{widths_of};
 ghost use Rattle.rg_tree.specs.Moves.{given, IsValueOf};
 ghost use Rattle.rg_tree.specs.Programs.{nth};
 ghost use Rattle.rg_tree.specs.ProgramTrees.{program as program_tree};
-ghost use Rattle.rg_floor.specs.Changes.{rebuilt, state_after, AreChangesOf};
+ghost use Rattle.rg_stepping.specs.Changes.{rebuilt, state_after, AreChangesOf};
 ghost use Rattle.rg_floor.specs.History.{steps_by};
 ghost use Rattle.rg_floor.specs.Turns.{CloseGives};
 ghost use Rattle.rg_floor.specs.Inner.Counts.{made_by};
 
-use crate::change::Change;
 use crate::turn::Why;
 use rg_monitor::record::Record;
+use rg_stepping::change::Change;
 use rg_tree::moves::give;
 use rg_tree::program::Program;
 use rg_words::{Refusal, RefusalNumber, State};
@@ -44,7 +44,7 @@ impl<'e> Model for Closed<'e> {
     ghost use Rattle.std.specs.Prelude.{◌≡◌};
     ghost use Rattle.rg_words.specs.Layout.{widths_of};
     ghost use Rattle.rg_tree.specs.ProgramTrees.{program as program_tree};
-    ghost use Rattle.rg_floor.specs.Changes.{rebuilt, AreChangesOf};
+    ghost use Rattle.rg_stepping.specs.Changes.{rebuilt, AreChangesOf};
     ghost use Rattle.rg_floor.specs.Turns.{ClosedView};
 
     ghost Value = { ClosedView };

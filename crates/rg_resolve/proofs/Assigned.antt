@@ -11,9 +11,9 @@ use Rattle.rg_syntax.specs.Written.{AssignedTree}
 use Rattle.rg_resolve.specs.Faults.{width_at, group_at, term_faults, IsRefusal}
 use Rattle.rg_resolve.specs.Inner.FormulaTrees.{place_of, IsTermTree}
 use Rattle.rg_resolve.specs.Programs.{is_fixed, target_faults, assigned_faults}
-use Rattle.rg_resolve.specs.declared.resolve.group.Group.{Group}
-use Rattle.rg_resolve.specs.declared.resolve.group.Group.TheVariants.{Width}
-use Rattle.rg_resolve.proofs.Refusals.{of_first, of_rest, no_faults}
+use Rattle.rg_leaves.specs.declared.group.Group.{Group}
+use Rattle.rg_leaves.specs.declared.group.Group.TheVariants.{Width}
+use Rattle.rg_leaves.proofs.Refusals.{of_first, of_rest, no_faults}
 use Rattle.rg_resolve.proofs.Typed.{none_left, none_right, unless-none}
 
 module _ (words : List Word) (a : AssignedTree) where

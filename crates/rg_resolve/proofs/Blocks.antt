@@ -20,7 +20,7 @@ use Rattle.rg_resolve.specs.Faults.{claim_faults, IsRefusal}
 use Rattle.rg_resolve.specs.Inner.FormulaTrees.{IsClaimTree}
 use Rattle.rg_syntax.proofs.Rows.{statement-If, statement-While}
 use Rattle.rg_syntax.proofs.Sizes.{statement_size, block_size, size_within}
-use Rattle.rg_resolve.proofs.Refusals.{of_first, of_rest, no_faults}
+use Rattle.rg_leaves.proofs.Refusals.{of_first, of_rest, no_faults}
 use Rattle.rg_syntax.specs.Written.{claim, StatementTree, skip, assign, await, branch, loop, StatementTrees, no_more, also, listed}
 use Rattle.rg_resolve.specs.Programs.{statement_faults, block_faults}
 use Rattle.rg_resolve.specs.Inner.ProgramTrees.{items_of, block_of, statement_tree, statement_trees}

@@ -11,7 +11,7 @@ use Rattle.rg_syntax.specs.Written.{Term, Claim, claim, number, word, next_word,
 use Rattle.rg_resolve.specs.Faults.{claim_faults, IsRefusal}
 use Rattle.rg_resolve.specs.Typing.{connective_of}
 use Rattle.rg_resolve.specs.declared.resolve.formula.Link.{Link}
-use Rattle.rg_resolve.proofs.Refusals.{of_first, of_rest}
+use Rattle.rg_leaves.proofs.Refusals.{of_first, of_rest}
 use Rattle.rg_resolve.proofs.Parts.{of_joined}
 use Rattle.rg_resolve.specs.Inner.FormulaTrees.{IsClaimTree}
 

@@ -10,7 +10,7 @@ use Rattle.rg_syntax.specs.declared.written.Declaration.{Declaration}
 use Rattle.rg_syntax.specs.Written.{DeclaredWord, declared_word}
 use Rattle.rg_resolve.specs.Faults.{IsRefusal}
 use Rattle.rg_resolve.specs.Words.{word_of, words_of, name_faults, width_faults, faults_behind, declaration_faults}
-use Rattle.rg_resolve.proofs.Refusals.{of_first}
+use Rattle.rg_leaves.proofs.Refusals.{of_first}
 
 -- these words and the rest of the declarations are all declarations
 pub record IsDeclaredSoFar (all rest : List DeclaredWord) (words : List Word) : Type 0 where

@@ -14,7 +14,7 @@ use Rattle.rg_resolve.specs.Faults.{number_of}
 use Rattle.rg_resolve.specs.Words.{word_of, words_of, name_faults, width_faults, faults_behind, declaration_faults}
 use Rattle.rg_resolve.specs.Programs.{spec_faults}
 use Rattle.rg_resolve.specs.Faultless.{AreDeclarable, FaultlessWords, FaultlessShown, FaultlessProgram}
-use Rattle.rg_resolve.proofs.Refusals.{no_faults}
+use Rattle.rg_leaves.proofs.Refusals.{no_faults}
 use Rattle.rg_resolve.proofs.Typed.{none_left, none_right, unless-none}
 use Rattle.rg_resolve.proofs.Layouts.{layout_faultless}
 use Rattle.rg_resolve.proofs.Stands.{faultless_stand}

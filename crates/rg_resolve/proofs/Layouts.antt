@@ -18,7 +18,7 @@ use Rattle.rg_words.specs.Layout.{Word, IsLayout, IsWidth, index_of}
 use Rattle.rg_syntax.specs.Written.{DeclaredWord}
 use Rattle.rg_resolve.specs.Faults.{number_of, IsRefusal}
 use Rattle.rg_resolve.specs.Words.{word_of, words_of, faults_behind, declaration_faults}
-use Rattle.rg_resolve.proofs.Refusals.{no_faults, no_test}
+use Rattle.rg_leaves.proofs.Refusals.{no_faults, no_test}
 
 -- no two words of one name
 abbrev AreDistinct : List Word → Type 0

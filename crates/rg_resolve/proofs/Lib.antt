@@ -6,9 +6,7 @@ pub mod Faultless
 pub mod Layouts
 pub mod Lines
 pub mod Lists
-pub mod Names
 pub mod Parts
-pub mod Refusals
 pub mod Resolved
 pub mod ResolvedStands
 pub mod ResolvedTyping

@@ -16,7 +16,7 @@ use Rattle.rg_syntax.specs.Written.{WrittenLine}
 use Rattle.rg_resolve.specs.Faults.{plain_faults, IsRefusal}
 use Rattle.rg_resolve.specs.Derivations.{line_faults, derivation_faults, leaf_number, NumberStandsFor, NumbersStandFor, LineStandsFor, DerivationStandsFor, OneListOfLines, FaultlessDerivation}
 use Rattle.rg_resolve.specs.Inner.ProgramTrees.{spec_tree}
-use Rattle.rg_resolve.proofs.Refusals.{no_faults, no_test}
+use Rattle.rg_leaves.proofs.Refusals.{no_faults, no_test}
 use Rattle.rg_resolve.proofs.Typed.{none_left, none_right, unless-none, layout_is_narrow}
 use Rattle.rg_resolve.proofs.ResolvedStands.{spec_stands, spec_faultless, spec_is}
 use Rattle.rg_resolve.proofs.ResolvedTyping.{spec_typed}

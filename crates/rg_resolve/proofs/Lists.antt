@@ -6,7 +6,7 @@ use Rattle.std.proofs.Math.ListN.{drop_of_length-le}
 use Rattle.rg_words.specs.declared.refusal.Refusal.{Refusal}
 use Rattle.rg_words.specs.declared.refusal.SourceFile.{SourceFile}
 use Rattle.rg_resolve.specs.Faults.{Fault, IsRefusal}
-use Rattle.rg_resolve.proofs.Refusals.{of_first}
+use Rattle.rg_leaves.proofs.Refusals.{of_first}
 
 -- what is done, and what the rest gives, is what all give; and the faults of the rest are those of all
 pub record AreDone {A B : Type 0} (tree : A → B) (faults : A → List Fault) (all rest : List A) (done : List B) : Type 0 where

@@ -16,10 +16,10 @@ use Rattle.rg_tree.specs.Trees.{Expression, Proposition}
 use Rattle.rg_syntax.specs.Written.{Term, Claim, number, word, next_word, inverse, binary, shifted, choice, truth, negation, joined, implied, compared}
 use Rattle.rg_resolve.specs.Faults.{number_of, group_of, after_first, unless, word_faults, term_faults}
 use Rattle.rg_resolve.specs.Inner.FormulaTrees.{place_of, width_of, typed_term, IsTermTree, IsClaimTree}
-use Rattle.rg_resolve.proofs.Refusals.{no_faults, no_test}
+use Rattle.rg_leaves.proofs.Refusals.{no_faults, no_test}
 use Rattle.rg_resolve.proofs.Typed.{known_group}
-use Rattle.rg_resolve.specs.declared.resolve.group.Group.{Group}
-use Rattle.rg_resolve.specs.declared.resolve.group.Group.TheVariants.{Width, Unasked}
+use Rattle.rg_leaves.specs.declared.group.Group.{Group}
+use Rattle.rg_leaves.specs.declared.group.Group.TheVariants.{Width, Unasked}
 use Rattle.rg_resolve.specs.Typing.{connective_of, conditional_of}
 
 module _ (words : List Word) (one_state : Bool) where

@@ -12,7 +12,7 @@ use Rattle.rg_resolve.specs.Programs.{spec_faults, parts_faults, program_faults}
 use Rattle.rg_resolve.specs.Inner.ProgramTrees.{spec_tree, part_tree}
 use Rattle.rg_resolve.specs.ProgramTyping.{ProgramStandsFor}
 use Rattle.rg_syntax.specs.ProgramLimits.{IsWithinLimits}
-use Rattle.rg_resolve.proofs.Refusals.{of_first, of_rest, no_faults}
+use Rattle.rg_leaves.proofs.Refusals.{of_first, of_rest, no_faults}
 use Rattle.rg_resolve.proofs.ResolvedTyping.{program_typed}
 use Rattle.rg_resolve.proofs.ResolvedStands.{program_stands}
 use Rattle.rg_resolve.proofs.WholeTrees.{program_tree}

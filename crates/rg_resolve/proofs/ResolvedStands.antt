@@ -25,7 +25,7 @@ use Rattle.rg_resolve.specs.Inner.ProgramTrees.{assignment_tree, items_of, block
 use Rattle.rg_resolve.specs.ProgramTyping.{AssignedStandsFor, AssignmentsStandFor, StatementStandsFor, skip, assign, await, branch, loop, BlockStandsFor, single, several, ItemsStandFor, last, next, SpecStandsFor, PartStandsFor, PartsStandBehind, ProgramStandsFor, OneProgramTree}
 use Rattle.rg_syntax.specs.ProgramLimits.{IsFullStatement, IsFullBlock, AreFull, AreFullParts, IsWithinLimits}
 use Rattle.rg_resolve.proofs.Assigned.{fine_assignment}
-use Rattle.rg_resolve.proofs.Refusals.{no_faults, no_test}
+use Rattle.rg_leaves.proofs.Refusals.{no_faults, no_test}
 use Rattle.rg_resolve.proofs.Typed.{none_left, none_right, unless-none}
 use Rattle.rg_resolve.proofs.Stands.{term_stands, term_faultless, term_tree, claim_stands, claim_faultless, claim_tree}
 use Rattle.rg_resolve.proofs.Layouts.{layout_faultless}

@@ -22,7 +22,7 @@ use Rattle.rg_syntax.specs.Written.{SettingTree}
 use Rattle.rg_resolve.specs.Faults.{number_of, width_at, group_at, number_faults, faults_in_turn, IsRefusal}
 use Rattle.rg_resolve.specs.Inner.FormulaTrees.{place_of}
 use Rattle.rg_resolve.specs.Settings.{is_named, named_faults, setting_faults, settings_faults, move_faults, moves_faults, SettingStandsFor, StandBehind, SettingsStandFor, StartStandsFor, MoveStandsFor, MovesStandFor, OneStateOfSettings, OneListOfMoves, FaultlessStart, FaultlessMoves}
-use Rattle.rg_resolve.proofs.Refusals.{no_faults, no_test}
+use Rattle.rg_leaves.proofs.Refusals.{no_faults, no_test}
 use Rattle.rg_resolve.proofs.Typed.{none_left, none_right, unless-none, found_within}
 use Rattle.rg_resolve.specs.Inner.SettingTrees.{word_value, word_values, move_tree, move_trees}
 

@@ -11,7 +11,7 @@ use Rattle.rg_syntax.specs.Written.{SpecTree, WrittenPart}
 use Rattle.rg_resolve.specs.Faults.{unless, claim_faults, IsRefusal}
 use Rattle.rg_resolve.specs.Inner.FormulaTrees.{IsClaimTree}
 use Rattle.rg_resolve.specs.Programs.{spec_faults, has_part, part_faults, block_faults}
-use Rattle.rg_resolve.proofs.Refusals.{of_first, of_rest, of_test, no_faults, no_test}
+use Rattle.rg_leaves.proofs.Refusals.{of_first, of_rest, of_test, no_faults, no_test}
 
 -- the four formulas, of which two are read in one state and two in two
 module _ (words : List Word) (s : SpecTree) (one two : Bool) (one_is : IsTrue one) (two_is : two ≡ false) where

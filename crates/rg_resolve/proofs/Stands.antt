@@ -17,9 +17,9 @@ use Rattle.rg_syntax.specs.Written.{Term, Claim}
 use Rattle.rg_resolve.specs.Faults.{number_of, width_at, first_name, group_at, group_by, group_of, word_faults, term_faults, claim_faults, IsRefusal}
 use Rattle.rg_resolve.specs.Inner.FormulaTrees.{typed_term, typed_claim}
 use Rattle.rg_resolve.specs.Typing.{TermStandsFor, ClaimStandsFor, OneTree, FaultlessStand, number, word, next_word, inverse, binary, shifted, choice, truth, negation, joined, implied, compared}
-use Rattle.rg_resolve.proofs.Refusals.{no_faults, no_test, no_fault_of_word}
+use Rattle.rg_leaves.proofs.Refusals.{no_faults, no_test, no_fault_of_word}
 use Rattle.rg_resolve.proofs.Typed.{none_left, none_right, unless-none, both_none, first_of_two, known_group}
-use Rattle.rg_resolve.specs.declared.resolve.group.Group.TheVariants.{Width}
+use Rattle.rg_leaves.specs.declared.group.Group.TheVariants.{Width}
 
 -- a name is there
 the_name : (first : Option (List ℕ)) → is_some first ≡ true → (name : List ℕ) × (first ≡ Some name)

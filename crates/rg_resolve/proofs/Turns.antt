@@ -6,7 +6,7 @@ use Rattle.std.proofs.Math.Seq.{take-suc}
 use Rattle.rg_words.specs.declared.refusal.Refusal.{Refusal}
 use Rattle.rg_words.specs.declared.refusal.SourceFile.{SourceFile}
 use Rattle.rg_resolve.specs.Faults.{Fault, faults_in_turn, IsRefusal}
-use Rattle.rg_resolve.proofs.Refusals.{of_first}
+use Rattle.rg_leaves.proofs.Refusals.{of_first}
 use Rattle.rg_resolve.proofs.Lists.{items_from, items_from-cons, items_from-end}
 
 pub any-map : {A B : Type 0} (p : B → Bool) (f : A → B) (xs : List A) → list_any p (map f xs) ≡ list_any (λ x. p (f x)) xs

@@ -15,8 +15,8 @@ use Rattle.rg_text.specs.Text.{unprimed}
 use Rattle.rg_syntax.specs.Written.{Term, Claim, number, word, next_word, inverse, binary, shifted, choice, truth, negation, joined, implied, compared}
 use Rattle.rg_resolve.specs.Faults.{Fault, width_at, first_name, group_at, group_by, group_of, after_first, unless, word_faults, term_faults, claim_faults}
 use Rattle.rg_resolve.specs.Inner.FormulaTrees.{place_of, typed_term, typed_claim}
-use Rattle.rg_resolve.specs.declared.resolve.group.Group.{Group}
-use Rattle.rg_resolve.specs.declared.resolve.group.Group.TheVariants.{Width, Unasked, Wordless}
+use Rattle.rg_leaves.specs.declared.group.Group.{Group}
+use Rattle.rg_leaves.specs.declared.group.Group.TheVariants.{Width, Unasked, Wordless}
 
 -- two lists that are joined to none
 pub none_left : {A : Type 0} (xs ys : List A) → xs ++ ys ≡ [] → xs ≡ []

@@ -1,22 +1,14 @@
 -- The faults of meaning of statements, specifications, parts and programs: lists over their tokens, in the order of the text.
-use Rattle.std.specs.Prelude.{ℕ, Bool, true, false, not, List, [], ◌∷◌, ◌++◌, Option, Some, None, slice_index_or}
+use Rattle.std.specs.Prelude.{ℕ, Bool, true, false, not, List, [], ◌∷◌, ◌++◌, Option}
 use Rattle.std.specs.List.{list_any, flat_map}
 use Rattle.std.specs.Str.{bytes_eq}
-use Rattle.rg_words.specs.declared.refusal.RefusalNumber.TheVariants.{UnknownName, NameTwice, FixedAssigned}
-use Rattle.rg_words.specs.Layout.{Word, index_of, fixed_of}
+use Rattle.rg_words.specs.declared.refusal.RefusalNumber.TheVariants.{NameTwice}
+use Rattle.rg_words.specs.Layout.{Word, index_of}
 use Rattle.rg_text.specs.Text.{Leaf}
 use Rattle.rg_syntax.specs.Written.{AssignedTree, StatementTree, skip, assign, await, branch, loop, StatementTrees, no_more, also, SpecTree, WrittenPart, WrittenProgram}
+pub use Rattle.rg_leaves.specs.Leaves.{is_fixed, target_faults}
 use Rattle.rg_resolve.specs.Faults.{Fault, group_at, unless, term_faults, claim_faults, faults_in_turn}
 use Rattle.rg_resolve.specs.Words.{words_of, declaration_faults}
-
--- the word at this place is fixed
-abbrev pub is_fixed : List Word → ℕ → Bool
-is_fixed words k = slice_index_or (fixed_of words) k false
-
--- the fault of a target: it isn't declared, or no step changes it
-abbrev pub target_faults : List Word → Leaf → Option ℕ → List Fault
-target_faults words x None = record { number = UnknownName; line = x.line } ∷ []
-target_faults words x (Some k) = unless (not (is_fixed words k)) FixedAssigned x.line
 
 -- the faults of an assignment: those of its target, and those of its value, whose group has the target's width
 unfoldable pub assigned_faults : List Word → AssignedTree → List Fault

@@ -9,7 +9,7 @@ ghost use Rattle.rg_syntax.specs.Written.{declared_word};
 ghost use Rattle.rg_resolve.specs.Faults.{number_of, IsRefusal};
 ghost use Rattle.rg_resolve.specs.Words.{word_of, words_of, name_faults, width_faults, declaration_faults};
 
-use crate::resolve::leaf::{find, number, text};
+use rg_leaves::leaf::{find, number, text};
 use rg_syntax::written::Declaration;
 use rg_text::token::Token;
 use rg_words::limits::{MOST_WIDTH, MOST_WORDS};
@@ -18,7 +18,7 @@ use rg_words::{Layout, Place, Refusal, RefusalNumber, SourceFile};
 use std::alloc::Global;
 
 /// A width from 1 to 64.
-#[tactic(auto, using(crate::proofs::Refusals::refusals))]
+#[tactic(auto, using(rg_leaves::proofs::Refusals::refusals))]
 fn width_of(file: SourceFile, source: &[u8], token: &Token) -> Result<u32, Refusal>
     ensures value { IfOk result (λ width. width ≡ number_of (text_of source.now token.now)) }
     ensures range { IfOk result (λ width. IsWidth width) }
@@ -36,7 +36,7 @@ fn width_of(file: SourceFile, source: &[u8], token: &Token) -> Result<u32, Refus
 }
 
 /// Puts a declared word behind the others.
-#[tactic(auto, using(crate::proofs::Refusals::refusals))]
+#[tactic(auto, using(rg_leaves::proofs::Refusals::refusals))]
 fn declare_word(
     layout: &mut Layout,
     file: SourceFile,

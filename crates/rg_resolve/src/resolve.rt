@@ -28,17 +28,15 @@ ghost use Rattle.rg_resolve.specs.Words.{words_of, shown_faults};
 mod assigned;
 mod block;
 mod formula;
-mod group;
-pub(crate) mod leaf;
 mod line;
 mod part;
-mod scope;
 mod setting;
 
 use crate::declare::declare;
 use formula::formula_tree;
 use line::lines_of;
 use part::{parts_of, spec_of};
+use rg_leaves::scope::Scope;
 use rg_syntax::written::{Declaration, FormulaText, LineText, MoveText, ProgramText, Setting};
 use rg_tree::line::DerivationLine;
 use rg_tree::moves::{Move, give};
@@ -47,7 +45,6 @@ use rg_tree::tree::Formula;
 use rg_tree::typing::typed_trees_fit;
 use rg_words::limits::MOST_WORDS;
 use rg_words::{Layout, Refusal, SourceFile, State};
-use scope::Scope;
 use setting::{moves_of, word_values};
 use std::alloc::Global;
 
@@ -93,7 +90,7 @@ pub fn resolve_formula(
 ///
 /// Refused at the least token that is at fault: those of the declarations, as `declare` refuses them, come before the
 /// leaves of the formula, as `resolve_formula` refuses them. 99 where memory was refused.
-#[tactic(auto, using(crate::proofs::Refusals::refusals))]
+#[tactic(auto, using(rg_leaves::proofs::Refusals::refusals))]
 pub fn resolve_shown(
     alloc: Global,
     file: SourceFile,

@@ -1,18 +1,11 @@
 -- What stands at a number of a list.
 use Rattle.std.proofs.Common.{◌≡◌, ℕ, zero, suc, ◌+◌, ◌-◌, ◌<◌, ◌≤◌, List, ◌∷◌, length, map, drop, get_or, add-one, Some, ap, ◌∙◌, sym, arith, []}
 use Rattle.std.specs.Prelude.{slice_get}
-use Rattle.std.specs.Option.{option_map}
-use Rattle.std.proofs.lemmas.Option.{slice_get-map, slice_get-get_or}
+use Rattle.std.proofs.lemmas.Option.{slice_get-get_or}
 use Rattle.std.proofs.Math.Seq.{drop-cons}
 use Rattle.rg_tree.specs.Programs.{nth}
-
-pub nth_later : {X : Type 0} → (xs : List X) (n : ℕ) → 0 < n → nth xs n ≡ slice_get xs (n - 1)
-nth_later xs zero h = absurd (omega arith)
-nth_later xs (suc n) h = ap (λ k. slice_get xs k) (omega arith)
-
-pub nth-map : {X Y : Type 0} → (f : X → Y) (xs : List X) (n : ℕ) (d : X) → 0 < n → n ≤ length xs → nth (map f xs) n ≡ Some (f (get_or xs (n - 1) d))
-nth-map f xs n d low high =
-    nth_later (map f xs) n low ∙ slice_get-map f xs (n - 1) ∙ ap (λ o. option_map f o) (slice_get-get_or xs (n - 1) d (omega arith))
+pub use Rattle.rg_conditions.proofs.Found.{nth-map}
+use Rattle.rg_conditions.proofs.Found.{nth_later}
 
 -- what stands at a place, and what stands behind it
 pub here : {X : Type 0} (xs : List X) (i : ℕ) (x : X) → i < length xs → x ≡ get_or xs i x → drop i xs ≡ x ∷ drop (i + 1) xs

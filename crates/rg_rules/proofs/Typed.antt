@@ -1,15 +1,14 @@
 -- Lines and statements of typed programs are typed.
-use Rattle.std.proofs.Common.{◌≡◌, ℕ, zero, suc, ◌<◌, List, [], ◌∷◌, ◌++◌, length, map, get_or, Option, Some, None, refl, subst, sym, arith}
+use Rattle.std.proofs.Common.{◌≡◌, ℕ, zero, suc, ◌<◌, List, [], ◌∷◌, ◌++◌, length, map, get_or, Some, subst, sym, arith}
 use Rattle.std.specs.Prelude.{slice_get}
 use Rattle.rg_words.specs.Layout.{Word}
-use Rattle.rg_tree.specs.Statements.{Statement, skip, assign, await, sequence, branch, loop, Items, one, more, PartTree, Specification}
+use Rattle.rg_tree.specs.Statements.{Statement, skip, assign, await, sequence, branch, loop, Items, one, more, PartTree}
 use Rattle.rg_tree.specs.Numbering.{statements, statements_of_items, statements_of_parts}
 use Rattle.rg_tree.specs.Programs.{nth}
 use Rattle.rg_tree.specs.ProgramView.{specification}
 use Rattle.rg_tree.specs.TypedPrograms.{IsTypedSpecification, IsTypedStatement, AreTypedItems, AreTypedParts}
 use Rattle.rg_tree.specs.declared.line.DerivationLine.{DerivationLine}
-use Rattle.rg_tree.specs.Lines.{LineTree, line_tree, AreTypedLines}
-use Rattle.rg_rules.specs.Derivations.{spec_of_line, first_spec}
+use Rattle.rg_tree.specs.Lines.{line_tree, AreTypedLines}
 
 abbrev AllTyped : List Word → List Statement → Type 0
 AllTyped words [] = Unit {0}
@@ -51,23 +50,3 @@ pub line_typed : (words : List Word) (lines : List DerivationLine) (i : ℕ) (li
 line_typed words [] i line h less at = absurd (omega arith)
 line_typed words (x ∷ lines) zero line h less at = subst (λ (l : DerivationLine). IsTypedSpecification words (specification l.spec)) (sym at) h.0
 line_typed words (x ∷ lines) (suc i) line h less at = line_typed words lines i line h.1 (omega arith) at
-
-get_line_typed : (words : List Word) (lines : List LineTree) (i : ℕ) (line : LineTree) → AreTypedLines words lines → slice_get lines i ≡ Some line → IsTypedSpecification words line.spec
-get_line_typed words [] i line h e = cc e
-get_line_typed words (x ∷ lines) zero line h e = let same : x ≡ line = cc e in subst (λ (l : LineTree). IsTypedSpecification words l.spec) same h.0
-get_line_typed words (x ∷ lines) (suc i) line h e = get_line_typed words lines i line h.1 e
-
-pub nth_line_typed : (words : List Word) (lines : List LineTree) (i : ℕ) (line : LineTree) → AreTypedLines words lines → nth lines i ≡ Some line → IsTypedSpecification words line.spec
-nth_line_typed words lines zero line h e = cc e
-nth_line_typed words lines (suc i) line h e = get_line_typed words lines i line h e
-
--- so are the formulas of the first premise
-pub first_typed : (words : List Word) (lines : List LineTree) (is : List ℕ) (spec : Specification) → AreTypedLines words lines → first_spec lines is ≡ Some spec → IsTypedSpecification words spec
-first_typed words lines [] spec h e = cc e
-first_typed words lines (i ∷ is) spec h e = by_line (nth lines i) refl e
-  where
-    by_line : (o : Option LineTree) → nth lines i ≡ o → spec_of_line o ≡ Some spec → IsTypedSpecification words spec
-    by_line None found e = cc e
-    by_line (Some line) found e =
-        let same : line.spec ≡ spec = cc e in
-        subst (IsTypedSpecification words) same (nth_line_typed words lines i line h found)

@@ -1,4 +1,1 @@
-mod EachMove
 mod Opening
-mod Printed
-mod Walking

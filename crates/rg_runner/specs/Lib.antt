@@ -1,4 +1,3 @@
-pub mod Moves
-pub mod Faults
+pub use Rattle.rg_standing.specs.Moves
+pub use Rattle.rg_threads.specs.Faults
 pub mod Running
-pub mod Inner

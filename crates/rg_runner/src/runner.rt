@@ -1,6 +1,6 @@
 //! A whole run.
 
-ghost use Rattle.std.specs.Prelude.{◌≡◌, ◌+◌, ◌<◌, map, vec_len, IfOk, IfErr};
+ghost use Rattle.std.specs.Prelude.{◌≡◌, ◌≢◌, ◌+◌, ◌<◌, map, vec_len, Ok, OnOk, IfOk, IfErr};
 ghost use Rattle.std.specs.Io.KnownBytes.{Appends};
 ghost use Rattle.rg_words.specs.Layout.{widths_of};
 ghost use Rattle.rg_words.specs.Written.{CanCount};
@@ -8,22 +8,24 @@ ghost use Rattle.rg_tree.specs.Moves.{move as move_tree, AreMoves};
 ghost use Rattle.rg_tree.specs.ProgramTrees.{program as program_tree};
 ghost use Rattle.rg_code.specs.CodeTrees.{code_blocks};
 ghost use Rattle.rg_monitor.specs.Lines.{lines_of};
-ghost use Rattle.rg_runner.specs.Faults.{IsRunFault, failures_in};
+ghost use Rattle.rg_threads.specs.Faults.{IsRunFault, failures_in};
+ghost use Rattle.rg_floor.specs.declared.turn.Why.TheVariants.{Stopped};
+ghost use Rattle.rg_standing.specs.Moves.{first_place, MovesStand};
 ghost use Rattle.rg_runner.specs.Running.{IsLeftOf, IsRunOf};
 
-use crate::gate::Gate;
-use crate::log::print_all;
-use crate::table::{Table, has_begun, stop};
-use crate::threads::{Played, play_once};
-use crate::walk::moves_stand;
 use crossbeam_channel::Receiver;
 use rg_code::code::Code;
-use rg_floor::closed::Closed;
+use rg_floor::closed::{Closed, Passed};
 use rg_floor::floor::Floor;
 use rg_floor::round::Round;
 use rg_floor::seat::Seat;
 use rg_floor::turn::Why;
 use rg_monitor::record::Record;
+use rg_standing::walk::moves_stand;
+use rg_threads::gate::Gate;
+use rg_threads::log::print_all;
+use rg_threads::table::{Table, has_begun, stop};
+use rg_threads::threads::{Played, play_once};
 use rg_tree::moves::Move;
 use rg_tree::program::Program;
 use rg_words::{Out, Refusal, RefusalNumber, State};
@@ -57,6 +59,21 @@ fn print_or_stop<L: Round, W: Out, R: Wait>(
     printed
 }
 
+/// What the threads left and what was printed, where neither failed.
+fn both<L: Round>(
+    played: Result<Played<L>, AllocError>,
+    printed: Result<Vec<Record>, Refusal>,
+) -> Result<(Played<L>, Vec<Record>), Refusal>
+    ensures played { IfOk result (λ r. played ≡ Ok r.0) }
+    ensures printed { IfOk result (λ r. printed ≡ Ok r.1) }
+    ensures failures { failures_in result ≡ failures_in printed }
+    ensures faults { IfErr printed IsRunFault → IfErr result IsRunFault }
+{
+    let printed = printed?;
+    let played = played?;
+    Ok((played, printed))
+}
+
 /// The threads play, and the calling thread prints.
 fn play_and_print<L: Round + Send + Sync, G: Gate + Sync, W: Out, R: Threads + Wait + Sync>(
     rt: &R,
@@ -87,9 +104,35 @@ fn play_and_print<L: Round + Send + Sync, G: Gate + Sync, W: Out, R: Threads + W
         { play_once(rt, alloc, program, table, gate, moves, &mut seats, &mut to) },
         &mut || print_or_stop(rt, alloc, program, table, &from, writer),
     );
-    let printed = printed?;
-    let played = played?;
-    Ok((played, printed))
+    both(played, printed)
+}
+
+/// Whether what is left of a run is as promised: it wasn't stopped, and the moves stand in its history.
+fn check_moves(
+    alloc: Global,
+    program: &Program,
+    code: &Code,
+    start: State,
+    limit: u64,
+    closed: &Closed<'_>,
+    printed: &[Record],
+    moves: &[Move],
+    passed: &[Passed],
+) -> Result<(), Refusal>
+    requires start { start.widths ≡ widths_of (program_tree program.now).words }
+    requires moves { AreMoves (program_tree program.now).words (map move_tree moves.now) }
+    ensures over { OnOk result (closed.now.why ≢ Stopped) }
+    ensures moves { OnOk result (MovesStand (program_tree program.now).spec.rely limit (first_place (program_tree program.now).words (code_blocks code.now) start.values) 1 (map move_tree moves.now) passed.now printed.now) }
+    ensures quiet { failures_in result ≡ 0 }
+    ensures faults { IfErr result IsRunFault }
+{
+    if matches!(closed.why(), Why::Stopped) {
+        return Err(Refusal::new(RefusalNumber::Mismatch));
+    }
+    if !moves_stand(alloc, program, code, start, limit, printed, moves, passed)? {
+        return Err(Refusal::new(RefusalNumber::Mismatch));
+    }
+    Ok(())
 }
 
 /// Ends a run whose threads are joined: the floor is closed, and its history is walked once for the moves.
@@ -115,12 +158,9 @@ fn finish<'e, L: Round>(
     let limit = floor.limit();
     let Played { seats, passed } = played;
     let closed = floor.close(alloc, program, seats, printed)?;
-    if matches!(closed.why(), Why::Stopped) {
-        return Err(Refusal::new(RefusalNumber::Mismatch));
-    }
-    if !moves_stand(alloc, program, code, start, limit, printed, moves, &passed)? {
-        return Err(Refusal::new(RefusalNumber::Mismatch));
-    }
+    check_moves(
+        alloc, program, code, start, limit, &closed, printed, moves, &passed,
+    )?;
     Ok(closed.with_refused(passed))
 }
 

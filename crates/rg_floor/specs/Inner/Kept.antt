@@ -1,21 +1,16 @@
 -- What the fields of a floor keep.
-use Rattle.std.specs.Prelude.{◌≡◌, ℕ, ◌+◌, ◌≤◌, Bool, true, List, [], ◌∷◌, ◌++◌, length, None, Result, Ok, Err}
-use Rattle.std.specs.declared.alloc.AllocError.{AllocError}
+use Rattle.std.specs.Prelude.{◌≡◌, ℕ, ◌≤◌, Bool, true, List, length}
 use Rattle.rg_words.specs.Layout.{widths_of}
-use Rattle.rg_words.specs.States.{Valuation, IsPair}
+use Rattle.rg_words.specs.States.{Valuation}
 use Rattle.rg_words.specs.declared.limits.TheConstants.{MOST_RUN_STEPS}
-use Rattle.rg_words.specs.declared.refusal.Refusal.{Refusal}
 use Rattle.rg_tree.specs.Meaning.{holds}
 use Rattle.rg_tree.specs.Statements.{ProgramTree}
 use Rattle.rg_tree.specs.Traces.{State, holds_at, IsTraceOf}
 use Rattle.rg_tree.specs.Programs.{OthersInside}
 use Rattle.rg_code.specs.Code.{BlockTree, zeros}
-use Rattle.rg_machine.specs.Machine.{Configuration, IsStepOf}
-use Rattle.rg_monitor.specs.Entry.{Entry, entry_of}
-use Rattle.rg_floor.specs.Changes.{Changing, change_of, rebuilt, state_after, AreChangesOf}
+use Rattle.rg_machine.specs.Machine.{Configuration}
+use Rattle.rg_stepping.specs.Changes.{Changing, rebuilt, state_after, AreChangesOf}
 use Rattle.rg_floor.specs.History.{FloorView, GoTogether, RecordsLead, steps_of, own_steps}
-use Rattle.rg_floor.specs.Ready.{line_at}
-use Rattle.rg_floor.specs.Turns.{move_fault, IsErrorOf}
 
 -- the fields are those of this code, start and limit, and the changes are those of a legal history
 pub record IsKept (p : ProgramTree) (codes : List (List BlockTree)) (start : State) (limit : ℕ) (code : List (List BlockTree)) (c ahead : Configuration) (first scratch : Valuation) (changes : List Changing) (most own total : ℕ) : Type 0 where
@@ -44,18 +39,3 @@ pub record IsKept (p : ProgramTree) (codes : List (List BlockTree)) (start : Sta
 abbrev pub view_of : ProgramTree → State → Configuration → List Changing → Bool → Bool → FloorView
 view_of p start c changes stopped more =
     record { words = c.state; places = c.places; changes = changes; history = rebuilt p 0 start changes; stopped = stopped; more = more }
-
--- what the step of a part makes of a configuration and of changes: with its record, a configuration to which the block leads, twice,
--- and its change behind the others; an error changes nothing
-abbrev pub StepMakes : ProgramTree → Configuration → List Changing → ℕ → Result Entry AllocError → Configuration → Configuration → List Changing → Type 0
-StepMakes p c cs who (Ok r) d ahead ds =
-    IsStepOf c who d × (r ≡ entry_of p (length cs + 1) who (line_at c.codes c.places who) c.state d.state) × (ahead ≡ d)
-    × (ds ≡ cs ++ change_of who (line_at c.codes c.places who) c.state d.state ∷ [])
-StepMakes p c cs who (Err e) d ahead ds = (d ≡ c) × (ahead ≡ c) × (ds ≡ cs)
-
--- the same of a move to a state
-abbrev pub MoveMakes : ProgramTree → Bool → Configuration → List Changing → State → Result Entry Refusal → Configuration → Configuration → List Changing → Type 0
-MoveMakes p m c cs t (Ok r) d ahead ds =
-    (move_fault p m c.state t ≡ None) × IsPair c.words c.state t × (r ≡ entry_of p (length cs + 1) 0 0 c.state t) × (d ≡ record c { state = t }) × (ahead ≡ d)
-    × (ds ≡ cs ++ change_of 0 0 c.state t ∷ [])
-MoveMakes p m c cs t (Err e) d ahead ds = IsErrorOf (move_fault p m c.state t) e × (d ≡ c) × (ahead ≡ c) × (ds ≡ cs)

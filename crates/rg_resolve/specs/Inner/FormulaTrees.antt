@@ -1,25 +1,15 @@
 -- The typed tree that a formula without faults stands for.
 use Rattle.std.specs.Prelude.{◌≡◌, ℕ, Bool, List, []}
-use Rattle.std.specs.Option.{unwrap_or}
-use Rattle.rg_words.specs.Layout.{Word, index_of}
+use Rattle.rg_words.specs.Layout.{Word}
 use Rattle.rg_tree.specs.Trees as tree
 use Rattle.rg_tree.specs.Trees.{Expression, Proposition}
 use Rattle.rg_text.specs.Text.{unprimed}
 use Rattle.rg_syntax.specs.Written.{Term, Claim, number, word, next_word, inverse, binary, shifted, choice, truth, negation, joined, implied, compared}
+pub use Rattle.rg_leaves.specs.Leaves.{place_of, width_of}
 use Rattle.rg_resolve.specs.Faults.{number_of, group_of, term_faults, claim_faults}
 use Rattle.rg_resolve.specs.Typing.{connective_of, conditional_of}
-use Rattle.rg_resolve.specs.declared.resolve.group.Group.{Group}
-use Rattle.rg_resolve.specs.declared.resolve.group.Group.TheVariants.{Width, Unasked, Wordless}
-
--- the place of a declared word, from 0
-abbrev pub place_of : List Word → List ℕ → ℕ
-place_of words name = unwrap_or (index_of words name) 0
-
--- the width of a group that has one
-abbrev pub width_of : Group → ℕ
-width_of (Width w) = w
-width_of Unasked = 0
-width_of Wordless = 0
+use Rattle.rg_leaves.specs.declared.group.Group.{Group}
+use Rattle.rg_leaves.specs.declared.group.Group.TheVariants.{Width}
 
 -- an expression at this width, and a formula whose comparisons are each at the width of their group
 abbrev mutual

@@ -10,7 +10,7 @@ ghost use Rattle.rg_resolve.specs.Inner.ProgramTrees.{statement_tree, statement_
 
 use super::assigned::{assignment_of, assignments_of};
 use super::formula::formula_tree;
-use super::scope::Scope;
+use rg_leaves::scope::Scope;
 use rg_syntax::written::StatementText;
 use rg_tree::statement::{Items, Stmt};
 use rg_words::Refusal;

@@ -1,21 +1,23 @@
 //! The typed tree of a formula, or its first fault.
 
 ghost use Rattle.std.specs.Prelude.{◌≡◌, ◌≤◌, IfOk, IfErr};
+ghost use Rattle.rg_text.specs.Text.{text_of, leaf_of};
 ghost use Rattle.rg_resolve.specs.Typing.{connective_of, conditional_of};
 ghost use Rattle.rg_tree.specs.View.{expression, formula};
-ghost use Rattle.rg_syntax.specs.Written.{term, claim, joined};
-ghost use Rattle.rg_resolve.specs.Faults.{term_faults, claim_faults, IsRefusal};
+ghost use Rattle.rg_syntax.specs.Written.{number as number_leaf, term, claim, joined};
+ghost use Rattle.rg_resolve.specs.Faults.{number_of, number_faults, term_faults, claim_faults, IsRefusal};
 ghost use Rattle.rg_resolve.specs.Inner.FormulaTrees.{width_of, IsTermTree, IsClaimTree};
 
-use super::group::{Group, group_of};
-use super::leaf::{text, unprimed};
-use super::scope::Scope;
+use rg_leaves::group::{Group, group_of};
+use rg_leaves::leaf::{number_below, text, unprimed};
+use rg_leaves::scope::Scope;
 use rg_syntax::written::{ExpressionText, FormulaText};
 use rg_text::kind::{Conditional, Junction};
+use rg_text::token::Token;
 use rg_tree::tree::{Expr, Formula};
-use rg_words::Refusal;
 use rg_words::limits::MOST_WIDTH;
 use rg_words::operators::Connective;
+use rg_words::{Refusal, RefusalNumber};
 
 fn connective(junction: Junction) -> Connective
     ensures { result ≡ connective_of junction }
@@ -35,16 +37,33 @@ fn conditional(conditional: Conditional) -> Connective
     }
 }
 
+/// The tree of a number of this group.
+#[tactic(auto, using(rg_leaves::proofs::Refusals::refusals, crate::proofs::Parts::parts))]
+fn number_tree(scope: &Scope, group: Group, token: &Token) -> Result<Expr, Refusal>
+    requires { width_of group ≤ MOST_WIDTH }
+    ensures tree { IfOk result (λ e. IsTermTree scope.now.layout.now scope.now.one_state group (number_leaf (leaf_of scope.now.source.now token.now)) (expression e)) }
+    ensures fault { IfErr result (λ e. IsRefusal scope.now.file (number_faults group token.now.line (number_of (text_of scope.now.source.now token.now))) e) }
+{
+    match group {
+        Group::Width(width) => match number_below(text(scope.source, token), width) {
+            Some(value) => Ok(Expr::Number(width, value)),
+            None => Err(scope.fault(RefusalNumber::NumberTooLarge, token)),
+        },
+        Group::Unasked => Ok(Expr::Number(0, 0)),
+        Group::Wordless => Err(scope.fault(RefusalNumber::WidthUnknown, token)),
+    }
+}
+
 /// The tree of an expression of this group.
 #[cycle(resolving)]
-#[tactic(auto, using(crate::proofs::Refusals::refusals, crate::proofs::Parts::parts))]
+#[tactic(auto, using(rg_leaves::proofs::Refusals::refusals, crate::proofs::Parts::parts))]
 pub fn expression_tree(scope: &Scope, group: Group, e: &ExpressionText) -> Result<Expr, Refusal>
     requires { width_of group ≤ MOST_WIDTH }
     ensures tree { IfOk result (λ tree. IsTermTree scope.now.layout.now scope.now.one_state group (term scope.now.source.now e.now) (expression tree)) }
     ensures fault { IfErr result (λ refusal. IsRefusal scope.now.file (term_faults scope.now.layout.now scope.now.one_state group (term scope.now.source.now e.now)) refusal) }
 {
     match e {
-        ExpressionText::Number(token) => scope.number(group, token),
+        ExpressionText::Number(token) => number_tree(scope, group, token),
         ExpressionText::Word(token) => {
             let word = scope.word(group, token, text(scope.source, token), false)?;
             Ok(Expr::Word(word))
@@ -82,7 +101,7 @@ pub fn expression_tree(scope: &Scope, group: Group, e: &ExpressionText) -> Resul
 
 /// The tree of a formula.
 #[cycle(resolving)]
-#[tactic(auto, using(crate::proofs::Refusals::refusals, crate::proofs::Parts::parts))]
+#[tactic(auto, using(rg_leaves::proofs::Refusals::refusals, crate::proofs::Parts::parts))]
 pub fn formula_tree(scope: &Scope, f: &FormulaText) -> Result<Formula, Refusal>
     ensures tree { IfOk result (λ tree. IsClaimTree scope.now.layout.now scope.now.one_state (claim scope.now.source.now f.now) (formula tree)) }
     ensures fault { IfErr result (λ refusal. IsRefusal scope.now.file (claim_faults scope.now.layout.now scope.now.one_state (claim scope.now.source.now f.now)) refusal) }
@@ -118,7 +137,7 @@ struct Link<'a> {
 
 /// The tree of a chain of operands, which leans to the left.
 #[cycle(resolving)]
-#[tactic(auto, using(crate::proofs::Refusals::refusals, crate::proofs::Parts::parts))]
+#[tactic(auto, using(rg_leaves::proofs::Refusals::refusals, crate::proofs::Parts::parts))]
 fn chain_tree(
     scope: &Scope,
     junction: Junction,

@@ -10,7 +10,7 @@ ghost use Rattle.rg_resolve.specs.Faults.{plain_faults, IsRefusal};
 ghost use Rattle.rg_resolve.specs.Derivations.{line_faults, derivation_faults, leaf_number};
 
 use super::part::spec_of;
-use super::scope::Scope;
+use rg_leaves::scope::Scope;
 use rg_syntax::written::LineText;
 use rg_text::token::Token;
 use rg_tree::line::DerivationLine;
@@ -30,7 +30,7 @@ fn premises_of(scope: &Scope, written: &[Token]) -> Result<Vec<u64>, Refusal>
 }
 
 /// The line that a line as written gives.
-#[tactic(auto, using(crate::proofs::Refusals::refusals), unfolding(crate::specs::Derivations::line_faults))]
+#[tactic(auto, using(rg_leaves::proofs::Refusals::refusals), unfolding(crate::specs::Derivations::line_faults))]
 fn line_of(scope: &Scope, written: &LineText) -> Result<DerivationLine, Refusal>
     requires { IsTrue scope.now.one_state }
     ensures tree { IfOk result (λ l. line_tree l ≡ resolved_line scope.now.layout.now (line_text scope.now.source.now written.now)) }

@@ -11,8 +11,8 @@ ghost use Rattle.rg_resolve.specs.Inner.ProgramTrees.{spec_tree, part_tree};
 
 use super::block::block_of;
 use super::formula::formula_tree;
-use super::leaf::text;
-use super::scope::Scope;
+use rg_leaves::leaf::text;
+use rg_leaves::scope::Scope;
 use rg_syntax::written::{PartText, SpecText};
 use rg_tree::part::{Part, Spec};
 use rg_words::names::as_name;

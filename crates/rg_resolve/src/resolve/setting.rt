@@ -7,8 +7,8 @@ ghost use Rattle.rg_tree.specs.Moves.{move};
 ghost use Rattle.rg_resolve.specs.Faults.{IsRefusal};
 ghost use Rattle.rg_resolve.specs.Settings.{is_named, setting_faults, settings_faults, move_faults, moves_faults};
 
-use super::leaf::{find, number_below, text};
-use super::scope::Scope;
+use rg_leaves::leaf::{find, number_below, text};
+use rg_leaves::scope::Scope;
 use rg_syntax::written::{MoveText, Setting};
 use rg_tree::moves::{Move, WordValue};
 use rg_words::{Refusal, RefusalNumber};
@@ -23,7 +23,7 @@ fn is_named(source: &[u8], settings: &[Setting], name: &[u8]) -> bool
 }
 
 /// The value that a setting behind others gives its word.
-#[tactic(auto, using(crate::proofs::Refusals::refusals), unfolding(crate::specs::Settings::setting_faults))]
+#[tactic(auto, using(rg_leaves::proofs::Refusals::refusals), unfolding(crate::specs::Settings::setting_faults))]
 fn word_value(scope: &Scope, before: &[Setting], setting: &Setting) -> Result<WordValue, Refusal>
     ensures value { IfOk result (λ v. v ≡ word_value scope.now.layout.now (leaves scope.now.source.now setting.now)) }
     ensures faultless { IfOk result (λ _. setting_faults scope.now.layout.now (map (leaves scope.now.source.now) before.now) (leaves scope.now.source.now setting.now) ≡ []) }
@@ -57,7 +57,7 @@ pub fn word_values(scope: &Scope, settings: &[Setting]) -> Result<Vec<WordValue>
 }
 
 /// The move that a move as written gives.
-#[tactic(auto, using(crate::proofs::Refusals::refusals), unfolding(crate::specs::Settings::move_faults))]
+#[tactic(auto, using(rg_leaves::proofs::Refusals::refusals), unfolding(crate::specs::Settings::move_faults))]
 fn move_of(scope: &Scope, written: &MoveText) -> Result<Move, Refusal>
     ensures tree { IfOk result (λ m. move m ≡ move_tree scope.now.layout.now (move_text scope.now.source.now written.now)) }
     ensures faultless { IfOk result (λ _. move_faults scope.now.layout.now (move_text scope.now.source.now written.now) ≡ []) }

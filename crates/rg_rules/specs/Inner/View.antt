@@ -1,19 +1,9 @@
 -- What references lead to, without where it lies in memory.
-use Rattle.rg_tree.specs.declared.line.DerivationLine.{DerivationLine}
 use Rattle.rg_tree.specs.declared.statement.Stmt.{Stmt}
-use Rattle.rg_tree.specs.declared.part.Spec.{Spec}
-use Rattle.rg_tree.specs.Statements.{Statement, Specification}
-use Rattle.rg_tree.specs.ProgramView.{specification, statement}
-use Rattle.rg_tree.specs.Lines.{LineTree, line_tree}
+use Rattle.rg_tree.specs.Statements.{Statement}
+use Rattle.rg_tree.specs.ProgramView.{statement}
 use Rattle.std.specs.Borrow.{Bor}
 
 -- the statement that a reference leads to
 abbrev pub referred : Bor Stmt → Statement
 referred r = statement r.now
-
--- the line, and the formulas, that a reference leads to
-abbrev pub referred_line : Bor DerivationLine → LineTree
-referred_line r = line_tree r.now
-
-abbrev pub referred_spec : Bor Spec → Specification
-referred_spec r = specification r.now

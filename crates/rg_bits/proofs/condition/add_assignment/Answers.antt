@@ -1,12 +1,12 @@
 use Rattle.std.proofs.Common.{set}
 use Rattle.rg_tree.specs.View.{expression}
-use Rattle.rg_bits.specs.Build.{give}
-use Rattle.rg_bits.specs.Inner.Within.{rows_of}
+use Rattle.rg_rows.specs.Build.{give}
+use Rattle.rg_rows.specs.Within.{rows_of}
 use Rattle.rg_bits.specs.Formulas.{row_of}
 use Rattle.rg_bits.specs.Conditions.{assign_of}
 use Rattle.rg_bits.proofs.TreeSteps.{AreRowsIn-extends}
 use Rattle.rg_bits.proofs.ConditionSteps.{rows_of-set, set_in}
-use Rattle.rg_bits.proofs.Building.{stopped, went_on, gave, same_count}
+use Rattle.rg_rows.proofs.Building.{stopped, went_on, gave, same_count}
 use Rattle.rg_bits.proofs.condition.add_assignment.Goals as goal
 
 pub returns-in_err-row-clause-builds : goal.returns-in_err-row-clause-builds

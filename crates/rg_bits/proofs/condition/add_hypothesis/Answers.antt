@@ -1,10 +1,10 @@
 use Rattle.rg_gates.specs.And.{and_of}
 use Rattle.rg_tree.specs.View.{formula}
-use Rattle.rg_bits.specs.Inner.Within.{rows_of}
+use Rattle.rg_rows.specs.Within.{rows_of}
 use Rattle.rg_bits.specs.Formulas.{literal_of}
 use Rattle.rg_bits.specs.Conditions.{hypothesis_of}
-use Rattle.rg_bits.proofs.LiteralsMean.{and-grows}
-use Rattle.rg_bits.proofs.Building.{stopped, went_on}
+use Rattle.rg_rows.proofs.LiteralsMean.{and-grows}
+use Rattle.rg_rows.proofs.Building.{stopped, went_on}
 use Rattle.rg_bits.proofs.condition.add_hypothesis.Goals as goal
 
 pub returns-in_err-literal : goal.returns-in_err-literal

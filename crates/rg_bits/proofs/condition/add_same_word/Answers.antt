@@ -2,8 +2,8 @@ use Rattle.rg_gates.specs.And.{and_of}
 use Rattle.rg_words.specs.declared.operators.Comparison.TheVariants.{Equal}
 use Rattle.rg_bits.specs.Formulas.{compared_of}
 use Rattle.rg_bits.specs.Conditions.{same_word_of}
-use Rattle.rg_bits.proofs.LiteralsMean.{and-grows}
-use Rattle.rg_bits.proofs.Building.{stopped, went_on}
+use Rattle.rg_rows.proofs.LiteralsMean.{and-grows}
+use Rattle.rg_rows.proofs.Building.{stopped, went_on}
 use Rattle.rg_bits.proofs.condition.add_same_word.Goals as goal
 
 pub returns-in_err-equal : goal.returns-in_err-equal

@@ -4,7 +4,7 @@ use Rattle.std.proofs.lemmas.List.{drop_all, length-map}
 use Rattle.rg_words.specs.declared.limits.TheConstants.{MOST_VARIABLES}
 use Rattle.rg_gates.proofs.Growth.{Extends-trans}
 use Rattle.rg_tree.specs.Conditions.{assignment}
-use Rattle.rg_bits.specs.Inner.Within.{rows_of}
+use Rattle.rg_rows.specs.Within.{rows_of}
 use Rattle.rg_bits.specs.Conditions.{assign_of}
 use Rattle.rg_bits.proofs.FoldSteps.{fold-turn, fold-done, fold-past, drop_mapped}
 use Rattle.rg_bits.proofs.ConditionSteps.{assign-grows, assignment_fits}

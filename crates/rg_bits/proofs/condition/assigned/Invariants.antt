@@ -1,8 +1,8 @@
 use Rattle.std.proofs.Common.{◌≡◌, drop, map, length}
 use Rattle.rg_gates.specs.Extends.{Extends}
 use Rattle.rg_tree.specs.Conditions.{assignment}
-use Rattle.rg_bits.specs.Build.{fold_of}
-use Rattle.rg_bits.specs.Inner.Within.{AreRowsIn, rows_of}
+use Rattle.rg_rows.specs.Build.{fold_of}
+use Rattle.rg_rows.specs.Within.{AreRowsIn, rows_of}
 use Rattle.rg_bits.specs.Conditions.{assign_of}
 use Rattle.rg_bits.proofs.condition.assigned.Given as goal
 

@@ -1,4 +1,4 @@
-use Rattle.rg_bits.proofs.Building.{stopped, seen_as, ran_out, same_count}
+use Rattle.rg_rows.proofs.Building.{stopped, seen_as, ran_out, same_count}
 use Rattle.rg_bits.proofs.condition.assigned_row.Goals as goal
 
 pub returns-in_err-row : goal.returns-in_err-row

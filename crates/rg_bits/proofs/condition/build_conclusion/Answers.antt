@@ -1,13 +1,13 @@
 use Rattle.std.proofs.Common.{cond}
 use Rattle.rg_tree.specs.View.{formula}
-use Rattle.rg_bits.specs.Build.{◌>>=◌}
-use Rattle.rg_bits.specs.Inner.Within.{rows_of}
-use Rattle.rg_bits.specs.Literals.{implies_of}
+use Rattle.rg_rows.specs.Build.{◌>>=◌}
+use Rattle.rg_rows.specs.Within.{rows_of}
+use Rattle.rg_rows.specs.Literals.{implies_of}
 use Rattle.rg_bits.specs.Formulas.{literal_of}
 use Rattle.rg_bits.specs.Conditions.{goal_of, conclusion_of}
-use Rattle.rg_bits.proofs.LiteralsMean.{implies-grows}
+use Rattle.rg_rows.proofs.LiteralsMean.{implies-grows}
 use Rattle.rg_bits.proofs.ConditionSteps.{implied-grows}
-use Rattle.rg_bits.proofs.Building.{stopped, went_on}
+use Rattle.rg_rows.proofs.Building.{stopped, went_on}
 use Rattle.rg_bits.proofs.condition.build_conclusion.Goals as goal
 
 pub returns-in_err-goal : goal.returns-in_err-goal

@@ -2,11 +2,11 @@ use Rattle.std.proofs.Common.{map}
 use Rattle.rg_gates.specs.declared.Lit.TheVariants.{True}
 use Rattle.rg_tree.specs.View.{formula}
 use Rattle.rg_tree.specs.Conditions.{condition_tree}
-use Rattle.rg_bits.specs.Build.{◌>>=◌, fold_of}
-use Rattle.rg_bits.specs.Inner.Within.{rows_of}
+use Rattle.rg_rows.specs.Build.{◌>>=◌, fold_of}
+use Rattle.rg_rows.specs.Within.{rows_of}
 use Rattle.rg_bits.specs.Conditions.{hypothesis_of, reached_rows, conclusion_of, implication_of}
 use Rattle.rg_bits.proofs.ConditionSteps.{concluded-grows, conclusion-grows}
-use Rattle.rg_bits.proofs.Building.{stopped, went_on}
+use Rattle.rg_rows.proofs.Building.{stopped, went_on}
 use Rattle.rg_bits.proofs.condition.build_implication.Goals as goal
 
 pub returns-in_err-held : goal.returns-in_err-held

@@ -2,13 +2,13 @@ use Rattle.std.proofs.Common.{List, length, sym, ap, ◌∙◌, subst, arith}
 use Rattle.std.proofs.lemmas.Result.{IfOk-weaker}
 use Rattle.rg_gates.specs.declared.Lit.{Lit}
 use Rattle.rg_tree.specs.Conditions.{condition_tree, second_state}
-use Rattle.rg_bits.specs.Inner.Within.{AreRowsIn, rows_of}
-use Rattle.rg_bits.specs.Inputs.{second_width}
-use Rattle.rg_bits.proofs.ConditionSteps.{length-rows_of}
-use Rattle.rg_bits.proofs.InputRows.{first_in}
+use Rattle.rg_rows.specs.Within.{AreRowsIn, rows_of}
+use Rattle.rg_rows.specs.Inputs.{second_width}
+use Rattle.rg_rows.proofs.RowsOf.{length-rows_of}
+use Rattle.rg_rows.proofs.InputRows.{first_in}
 use Rattle.rg_bits.proofs.FormulaLaw.{row_counts, condition_law, before_in, length-before_rows}
 use Rattle.rg_gates.proofs.Growth.{Extends-refl}
-use Rattle.rg_bits.proofs.Building.{ran_out}
+use Rattle.rg_rows.proofs.Building.{ran_out}
 use Rattle.rg_bits.proofs.Pairs.{pairs_law}
 use Rattle.rg_bits.proofs.condition.formula.Goals as goal
 

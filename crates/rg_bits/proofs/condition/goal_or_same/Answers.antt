@@ -1,11 +1,11 @@
 use Rattle.std.specs.List.{zip}
 use Rattle.rg_gates.specs.declared.Lit.TheVariants.{True}
-use Rattle.rg_bits.specs.Build.{fold_of}
-use Rattle.rg_bits.specs.Inner.Within.{rows_of}
-use Rattle.rg_bits.specs.Literals.{or_of}
+use Rattle.rg_rows.specs.Build.{fold_of}
+use Rattle.rg_rows.specs.Within.{rows_of}
+use Rattle.rg_rows.specs.Literals.{or_of}
 use Rattle.rg_bits.specs.Conditions.{goal_of, same_word_of}
-use Rattle.rg_bits.proofs.LiteralsMean.{or-grows}
-use Rattle.rg_bits.proofs.Building.{stopped, went_on}
+use Rattle.rg_rows.proofs.LiteralsMean.{or-grows}
+use Rattle.rg_rows.proofs.Building.{stopped, went_on}
 use Rattle.rg_bits.proofs.condition.goal_or_same.Goals as goal
 
 pub returns-in_err-same : goal.returns-in_err-same

@@ -5,7 +5,7 @@ use Rattle.rg_gates.specs.declared.Lit.TheVariants.{True}
 use Rattle.rg_words.specs.declared.limits.TheConstants.{MOST_VARIABLES}
 use Rattle.rg_gates.proofs.Growth.{Extends-trans}
 use Rattle.rg_tree.specs.View.{formula}
-use Rattle.rg_bits.specs.Inner.Within.{rows_of}
+use Rattle.rg_rows.specs.Within.{rows_of}
 use Rattle.rg_bits.specs.Conditions.{hypothesis_of}
 use Rattle.rg_bits.proofs.FoldSteps.{fold-turn, fold-done, fold-past, drop_mapped}
 use Rattle.rg_bits.proofs.ConditionSteps.{hypothesis-grows, formula_fits}

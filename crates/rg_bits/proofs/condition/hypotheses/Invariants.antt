@@ -2,8 +2,8 @@ use Rattle.std.proofs.Common.{◌≡◌, drop, map}
 use Rattle.rg_gates.specs.Extends.{Extends, IsIn}
 use Rattle.rg_gates.specs.declared.Lit.TheVariants.{True}
 use Rattle.rg_tree.specs.View.{formula}
-use Rattle.rg_bits.specs.Build.{fold_of}
-use Rattle.rg_bits.specs.Inner.Within.{rows_of}
+use Rattle.rg_rows.specs.Build.{fold_of}
+use Rattle.rg_rows.specs.Within.{rows_of}
 use Rattle.rg_bits.specs.Conditions.{hypothesis_of}
 use Rattle.rg_bits.proofs.condition.hypotheses.Given as goal
 

@@ -4,14 +4,14 @@ use Rattle.std.specs.List.{zip}
 use Rattle.rg_gates.specs.declared.Lit.TheVariants.{True}
 use Rattle.rg_words.specs.declared.limits.TheConstants.{MOST_VARIABLES}
 use Rattle.rg_gates.proofs.Growth.{Extends-trans}
-use Rattle.rg_bits.specs.Inner.Within.{rows_of}
+use Rattle.rg_rows.specs.Within.{rows_of}
 use Rattle.rg_bits.specs.Conditions.{same_word_of}
 use Rattle.rg_bits.proofs.TreeSteps.{word_in}
 use Rattle.rg_bits.proofs.FoldSteps.{fold-turn, fold-done, fold-past}
 use Rattle.rg_bits.proofs.ConditionSteps.{zipped_at, zipped_end, same_word-grows}
-use Rattle.rg_bits.proofs.TreeSteps.{row_at}
+use Rattle.rg_rows.proofs.RowsOf.{row_at}
 use Rattle.rg_bits.proofs.condition.unchanged.Goals as goal
-use Rattle.rg_bits.proofs.RowsIn.{IsRowIn-extends}
+use Rattle.rg_rows.proofs.RowsIn.{IsRowIn-extends}
 
 pub add_same_word-requires-clause-first : goal.add_same_word-requires-clause-first
 add_same_word-requires-clause-first g c =

@@ -2,8 +2,8 @@ use Rattle.std.proofs.Common.{◌≡◌, drop}
 use Rattle.std.specs.List.{zip}
 use Rattle.rg_gates.specs.Extends.{Extends, IsIn}
 use Rattle.rg_gates.specs.declared.Lit.TheVariants.{True}
-use Rattle.rg_bits.specs.Build.{fold_of}
-use Rattle.rg_bits.specs.Inner.Within.{rows_of}
+use Rattle.rg_rows.specs.Build.{fold_of}
+use Rattle.rg_rows.specs.Within.{rows_of}
 use Rattle.rg_bits.specs.Conditions.{same_word_of}
 use Rattle.rg_bits.proofs.condition.unchanged.Given as goal
 

@@ -1,7 +1,7 @@
 use Rattle.std.proofs.Common.{◌≡◌, length, map, ap, ◌∙◌}
 use Rattle.rg_words.specs.Layout.{widths_of}
-use Rattle.rg_bits.specs.Inner.Within.{rows_of}
-use Rattle.rg_bits.specs.Inputs.{total_width}
+use Rattle.rg_rows.specs.Within.{rows_of}
+use Rattle.rg_rows.specs.Inputs.{total_width}
 use Rattle.rg_bits.proofs.FormulaLaw.{row_counts}
 use Rattle.rg_bits.proofs.Widths.{first_lengths, free_lengths}
 use Rattle.rg_bits.proofs.decode.read_second.Goals as goal

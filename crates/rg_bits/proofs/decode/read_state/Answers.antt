@@ -2,7 +2,7 @@ use Rattle.std.proofs.Common.{length, arith, ap, ◌∙◌}
 use Rattle.std.proofs.Math.ListN.{length-set}
 use Rattle.rg_words.specs.Layout.{widths_of}
 use Rattle.rg_words.specs.States.{Valuation}
-use Rattle.rg_bits.specs.Inner.Within.{rows_of}
+use Rattle.rg_rows.specs.Within.{rows_of}
 use Rattle.rg_bits.proofs.Values.{rows_count, read_limit, read_fits, read_more, all_read}
 use Rattle.rg_bits.proofs.decode.read_state.Goals as goal
 

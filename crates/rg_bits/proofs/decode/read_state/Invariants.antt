@@ -1,7 +1,7 @@
 use Rattle.std.proofs.Common.{◌≡◌, ℕ, ◌<◌, [], get_or, length}
 use Rattle.rg_words.specs.Layout.{widths_of}
-use Rattle.rg_bits.specs.Rows.{row_value}
-use Rattle.rg_bits.specs.Inner.Within.{rows_of}
+use Rattle.rg_rows.specs.Rows.{row_value}
+use Rattle.rg_rows.specs.Within.{rows_of}
 use Rattle.rg_bits.proofs.decode.read_state.Given as goal
 
 abbrev pub invariant-loop-k : goal.invariant-loop-k

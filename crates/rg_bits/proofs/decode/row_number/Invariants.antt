@@ -1,5 +1,5 @@
 use Rattle.std.proofs.Common.{◌≡◌, ◌-◌, drop, length}
-use Rattle.rg_bits.specs.Rows.{row_value}
+use Rattle.rg_rows.specs.Rows.{row_value}
 use Rattle.rg_bits.proofs.decode.row_number.Given as goal
 
 -- the high bits are read

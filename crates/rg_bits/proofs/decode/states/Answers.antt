@@ -1,6 +1,6 @@
 use Rattle.std.proofs.Common.{length, map, ap, ◌∙◌}
 use Rattle.rg_tree.specs.Conditions.{condition_tree}
-use Rattle.rg_bits.specs.Inner.Within.{rows_of}
+use Rattle.rg_rows.specs.Within.{rows_of}
 use Rattle.rg_bits.proofs.Values.{pair_law, bits_law}
 use Rattle.rg_bits.proofs.Widths.{first_lengths}
 use Rattle.rg_bits.proofs.decode.states.Goals as goal

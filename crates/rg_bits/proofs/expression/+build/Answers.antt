@@ -3,16 +3,18 @@ use Rattle.std.specs.Cow.{cow_slice_items}
 use Rattle.rg_gates.specs.Circuit.{negation}
 use Rattle.rg_gates.proofs.Growth.{Extends-refl, IsIn-negation}
 use Rattle.rg_tree.specs.View.{expression, formula}
-use Rattle.rg_bits.specs.declared.rows.BitOperation.TheVariants.{Pick}
-use Rattle.rg_bits.specs.Build.{◌>>=◌, give}
-use Rattle.rg_bits.specs.Inner.Within.{rows_of}
-use Rattle.rg_bits.specs.Rows.{bits_of, inverted}
+use Rattle.rg_rows.specs.declared.rows.BitOperation.TheVariants.{Pick}
+use Rattle.rg_rows.specs.Build.{◌>>=◌, give}
+use Rattle.rg_rows.specs.Within.{rows_of}
+use Rattle.rg_rows.specs.Rows.{bits_of, inverted}
 use Rattle.rg_bits.specs.Formulas.{row_of, literal_of, operated_of, moved_row, connected_of, compared_of}
-use Rattle.rg_bits.proofs.RowsMean.{bits-grows}
-use Rattle.rg_bits.proofs.RowsIn.{IsRowIn-number, IsRowIn-inverted, IsRowIn-moved}
+use Rattle.rg_rows.proofs.RowsMean.{bits-grows}
+use Rattle.rg_rows.proofs.RowsIn.{IsRowIn-number, IsRowIn-inverted}
+use Rattle.rg_rows.proofs.RowsOf.{row_at}
+use Rattle.rg_bits.proofs.Moved.{IsRowIn-moved}
 use Rattle.rg_bits.proofs.FormulaSteps.{operated-grows, connected-grows, compared-grows}
-use Rattle.rg_bits.proofs.TreeSteps.{row_at, word_in, binary-grows, picked-grows, choice-grows, both-connected-grows, both-compared-grows}
-use Rattle.rg_bits.proofs.Building.{stopped, went_on, gave, ran_out, same_count}
+use Rattle.rg_bits.proofs.TreeSteps.{word_in, binary-grows, picked-grows, choice-grows, both-connected-grows, both-compared-grows}
+use Rattle.rg_rows.proofs.Building.{stopped, went_on, gave, ran_out, same_count}
 use Rattle.rg_bits.proofs.expression.+build.Goals as goal
 
 pub build_row-returns-in_err-number-in-Number : goal.build_row-returns-in_err-number-in-Number

@@ -1,0 +1,11 @@
+pub mod Steps
+pub mod Means
+pub mod Building
+pub mod LiteralsMean
+pub mod RowsMean
+pub mod RowSteps
+pub mod BitSteps
+pub mod TestSteps
+pub mod RowsIn
+pub mod RowsOf
+pub mod InputRows
