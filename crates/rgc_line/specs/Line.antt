@@ -1,13 +1,13 @@
 -- What a command line says, by the matches of its subcommand.
-use Rattle.std.specs.Prelude.{◌≡◌, ◌⊎◌, ◌↔◌, ℕ, Bool, true, Option, Some, None, Ok, List, [], ◌∷◌, length, codes, slice_get}
+use Rattle.std.specs.Prelude.{◌≡◌, ◌⊎◌, ◌↔◌, ℕ, Bool, true, Option, Some, None, Ok, List, [], ◌∷◌, ◌≤◌, length, codes, slice_get}
 use Rattle.std.specs.Str.Parse.{ParsesUnsigned}
 use Rattle.std.specs.Borrow.{Bor}
 use Rattle.clap.specs.Words.{Row, Rule, Text, all_of, first_of, one_of, HasKind, fault_of, subcommand_of}
-use Rattle.rgc_line.specs.App.{rgc_app, row_of, chosen_derivation, chosen_condition, output, format, explained, threads, run_outline, run_text, run_derivation, run_proofs}
+use Rattle.rgc_line.specs.App.{rgc_app, row_of, chosen_derivation, chosen_condition, output, format, explained, threads, run_outline, run_text, run_derivation, run_proofs, outlines}
 use Rattle.rgc_line.specs.declared.line.LineFault.{LineFault}
 use Rattle.rgc_line.specs.declared.line.LineFault.TheVariants.{Usage, Fields}
 use Rattle.rgc_line.specs.declared.fields.FieldFault.{FieldFault}
-use Rattle.rgc_line.specs.declared.fields.FieldFault.TheVariants.{Incomplete, Apart, UnknownFormat, RunFiles}
+use Rattle.rgc_line.specs.declared.fields.FieldFault.TheVariants.{Apart, UnknownFormat, RunFiles, NoFile}
 use Rattle.rgc_line.specs.declared.command.Chosen.{Chosen}
 use Rattle.rgc_line.specs.declared.command.Outlines.{Outlines}
 use Rattle.rgc_line.specs.declared.command.Format.{Format}
@@ -154,16 +154,29 @@ AreRunFilesApart rows =
     (((outline : Text) × (first_of run_outline.id rows ≡ Some outline)) × (text : Text) × (first_of run_text.id rows ≡ Some text))
     ⊎ (HasNo rows run_outline.id × (HasNo rows run_text.id ⊎ (HasNo rows run_derivation.id ⊎ HasNo rows run_proofs.id)))
 
--- why matches give no command
-abbrev pub IsFieldFault : List Row → FieldFault → Type 0
-IsFieldFault rows Incomplete = Unit {0}
-IsFieldFault rows Apart = AreApart rows
-IsFieldFault rows UnknownFormat = IsUnknownFormat rows
-IsFieldFault rows RunFiles = AreRunFilesApart rows
+-- no file stands at the place: the words name so many files or fewer
+abbrev pub IsBeyond : List Row → ℕ → Type 0
+IsBeyond rows place = (names : List Text) × (all_of outlines.id rows ≡ Some names) × (length names ≤ place)
 
--- why the words name no command: memory, or a fault that `clap` finds in them, or options that do not fit
-abbrev pub IsLineFault : List Text → LineFault → Type 0
-IsLineFault words (Usage error) = HasKind (fault_of rgc_app words) error
-IsLineFault words (Fields Incomplete) = fault_of rgc_app words ≡ []
-IsLineFault words (Fields fault) =
-    (fault_of rgc_app words ≡ []) × (name : Text) × (rows : List Row) × (subcommand_of rgc_app words ≡ Some (name, rows)) × IsFieldFault rows fault
+-- the commands about a condition that two options choose
+abbrev pub Chooses : Kind → Type 0
+Chooses of = (of ≡ kind.Clauses) ⊎ (of ≡ kind.Find)
+
+-- why the matches of a subcommand give no command: of each fault, at which commands it can be told and what the words have then
+abbrev pub IsFieldFault : Kind → List Row → ℕ → FieldFault → Type 0
+IsFieldFault of rows place Apart = Chooses of × AreApart rows
+IsFieldFault of rows place UnknownFormat = IsUnknownFormat rows
+IsFieldFault of rows place RunFiles = (of ≡ kind.Run) × AreRunFilesApart rows
+IsFieldFault of rows place NoFile = (of ≡ kind.Verify) × IsBeyond rows place
+
+-- the words are those of a subcommand of the table, and its matches give no command
+pub record AreRefused (words : List Text) (place : ℕ) (fault : FieldFault) : Type 0 where
+  pub kind : Kind
+  pub rows : List Row
+  pub is : subcommand_of rgc_app words ≡ Some ((row_of kind).name, rows)
+  pub why : IsFieldFault kind rows place fault
+
+-- why the words name no command: memory was refused, or `clap` finds a fault in them, or it finds none and options don't fit together
+abbrev pub IsLineFault : List Text → ℕ → LineFault → Type 0
+IsLineFault words place (Usage error) = HasKind (fault_of rgc_app words) error
+IsLineFault words place (Fields fault) = (fault_of rgc_app words ≡ []) × AreRefused words place fault

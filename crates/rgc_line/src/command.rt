@@ -159,11 +159,11 @@ pub struct Named<'a> {
 }
 
 impl<'a> Command<'a> {
-    /// The files that the command reads.
-    pub fn named(&self) -> Named<'a>
-        ensures { result ≡ named self.now }
+    /// The text, the derivation and the proofs that the command reads.
+    fn files_of(&self) -> (Option<&'a str>, Option<&'a str>, Option<&'a str>)
+        ensures { result ≡ ((named self.now).text, (named self.now).derivation, (named self.now).proofs) }
     {
-        let (text, derivation, proofs) = match *self {
+        match *self {
             Command::Number { text } => (Some(text), None, None),
             Command::Check {
                 text,
@@ -200,13 +200,27 @@ impl<'a> Command<'a> {
             | Command::Challenge { outline, .. } => (Some(outline), None, None),
             Command::Verify { outlines, .. } => (Some(outlines.outline), None, None),
             Command::Explain { .. } => (None, None, None),
-        };
-        let (start, moves) = match *self {
+        }
+    }
+
+    /// The values at the start and the environment's moves that the command reads.
+    fn inputs_of(&self) -> (Option<&'a str>, Option<&'a str>)
+        ensures { result ≡ ((named self.now).start, (named self.now).moves) }
+    {
+        match *self {
             Command::Run { start, moves, .. } | Command::RunOutline { start, moves, .. } => {
                 (start, moves)
             }
             _ => (None, None),
-        };
+        }
+    }
+
+    /// The files that the command reads.
+    pub fn named(&self) -> Named<'a>
+        ensures { result ≡ named self.now }
+    {
+        let (text, derivation, proofs) = self.files_of();
+        let (start, moves) = self.inputs_of();
         Named {
             text,
             derivation,

@@ -2,21 +2,19 @@
 
 ghost use Rattle.std.specs.Prelude.{◌≡◌, IfOk, IfErr};
 ghost use Rattle.clap.specs.Words.{found_of, rows_of};
-ghost use Rattle.rgc_line.specs.Line.{HasFile, HasFileOf, HasFlag, HasNumber, HasValue, optional, optional_number, IsFieldFault};
-ghost use Rattle.rgc_line.specs.Inner.Table.{HasOption, HasChosen};
-ghost use Rattle.rgc_line.specs.declared.fields.FieldFault.TheVariants.{Incomplete};
+ghost use Rattle.rgc_line.specs.App.{outlines, chosen_condition};
+ghost use Rattle.rgc_line.specs.Line.{HasFile, HasFileOf, HasFlag, HasNumber, HasValue, optional, optional_number, AreApart, IsBeyond};
+ghost use Rattle.rgc_line.specs.Inner.Table.{HasOption, HasChosen, IsThere, IsNumber, IsNumberIf};
+ghost use Rattle.rgc_line.specs.declared.fields.FieldFault.TheVariants.{Apart, NoFile};
 
 use crate::command::{Chosen, Outlines};
-use crate::commands::{CHOSEN_CONDITION, CHOSEN_DERIVATION};
+use crate::commands::{CHOSEN_CONDITION, CHOSEN_DERIVATION, OUTLINES};
 use clap::ArgMatches;
 use thiserror::Error;
 
 /// Why the matches of a subcommand give no command.
 #[derive(Clone, Copy, Debug, Error)]
 pub enum FieldFault {
-    /// A file isn't among the matches.
-    #[error("an argument is missing")]
-    Incomplete,
     /// One of two options that go together stands alone.
     #[error("--derivation and --condition go together")]
     Apart,
@@ -26,6 +24,9 @@ pub enum FieldFault {
     /// A run of an outline and of files, or of some files alone.
     #[error("run takes TEXT DERIVATION PROOFS, or --outline FILE")]
     RunFiles,
+    /// The place is behind the last of the files.
+    #[error("there is no file at the place")]
+    NoFile,
 }
 
 pub fn option<'a>(matches: &ArgMatches<'a>, id: &str) -> Option<&'a str>
@@ -35,29 +36,22 @@ pub fn option<'a>(matches: &ArgMatches<'a>, id: &str) -> Option<&'a str>
     matches.get_str(id)
 }
 
-pub fn file<'a>(matches: &ArgMatches<'a>, id: &str) -> Result<&'a str, FieldFault>
-    ensures file { IfOk result (HasFile (rows_of (found_of matches.now)) id.now) }
-    ensures fault { IfErr result (λ f. f ≡ Incomplete) }
+/// A file that has to be named.
+pub fn file<'a>(matches: &ArgMatches<'a>, id: &str) -> &'a str
+    requires { IsThere (rows_of (found_of matches.now)) id.now }
+    ensures { HasFile (rows_of (found_of matches.now)) id.now result }
 {
-    match option(matches, id) {
-        Some(name) => Ok(name),
-        None => Err(FieldFault::Incomplete),
-    }
+    option(matches, id).unwrap()
 }
 
-/// The file at a place among those of this id.
-pub fn file_of<'a>(
-    matches: &ArgMatches<'a>,
-    id: &str,
-    place: usize,
-) -> Result<Outlines<'a>, FieldFault>
-    ensures file { IfOk result (HasFileOf (rows_of (found_of matches.now)) id.now) }
+/// The file at a place among the outlines.
+pub fn outline_at<'a>(matches: &ArgMatches<'a>, place: usize) -> Result<Outlines<'a>, FieldFault>
+    requires { IsThere (rows_of (found_of matches.now)) outlines.id }
+    ensures file { IfOk result (HasFileOf (rows_of (found_of matches.now)) outlines.id) }
     ensures place { IfOk result (λ o. o.place ≡ place) }
-    ensures fault { IfErr result (λ f. f ≡ Incomplete) }
+    ensures fault { IfErr result (λ f. (f ≡ NoFile) × IsBeyond (rows_of (found_of matches.now)) place) }
 {
-    let Some(names) = matches.get_strs(id) else {
-        return Err(FieldFault::Incomplete);
-    };
+    let names = matches.get_strs(OUTLINES.id).unwrap();
     if place < names.len() {
         return Ok(Outlines {
             outline: names[place],
@@ -65,27 +59,25 @@ pub fn file_of<'a>(
             count: names.len(),
         });
     }
-    Err(FieldFault::Incomplete)
+    Err(FieldFault::NoFile)
 }
 
-pub fn given_number(matches: &ArgMatches<'_>, id: &str) -> Result<u64, FieldFault>
-    ensures number { IfOk result (HasNumber (rows_of (found_of matches.now)) id.now) }
-    ensures fault { IfErr result (λ f. f ≡ Incomplete) }
+/// A number that has to be given, or is given by default.
+pub fn given_number(matches: &ArgMatches<'_>, id: &str) -> u64
+    requires { IsNumber (rows_of (found_of matches.now)) id.now }
+    ensures { HasNumber (rows_of (found_of matches.now)) id.now result }
 {
-    match matches.get_one::<u64>(id) {
-        Some(number) => Ok(number),
-        None => Err(FieldFault::Incomplete),
-    }
+    matches.get_one::<u64>(id).unwrap()
 }
 
 /// A number that may be left out.
-pub fn number_or_none(matches: &ArgMatches<'_>, id: &str) -> Result<Option<u64>, FieldFault>
-    ensures number { IfOk result (λ n. HasValue (rows_of (found_of matches.now)) id.now (optional_number n)) }
-    ensures fault { IfErr result (λ f. f ≡ Incomplete) }
+pub fn number_or_none(matches: &ArgMatches<'_>, id: &str) -> Option<u64>
+    requires { IsNumberIf (rows_of (found_of matches.now)) id.now }
+    ensures { HasValue (rows_of (found_of matches.now)) id.now (optional_number result) }
 {
     match option(matches, id) {
-        Some(_) => Ok(Some(given_number(matches, id)?)),
-        None => Ok(None),
+        Some(_) => Some(given_number(matches, id)),
+        None => None,
     }
 }
 
@@ -101,21 +93,19 @@ pub fn is_given(matches: &ArgMatches<'_>, id: &str) -> bool
 
 /// The condition that the two options choose, where both are given.
 pub fn chosen<'a>(matches: &ArgMatches<'a>) -> Result<Option<Chosen<'a>>, FieldFault>
+    requires { IsNumberIf (rows_of (found_of matches.now)) chosen_condition.id }
     ensures chosen { IfOk result (HasChosen (rows_of (found_of matches.now))) }
-    ensures fault { IfErr result (IsFieldFault (rows_of (found_of matches.now))) }
+    ensures fault { IfErr result (λ f. (f ≡ Apart) × AreApart (rows_of (found_of matches.now))) }
 {
     match (
         option(matches, CHOSEN_DERIVATION.id),
         option(matches, CHOSEN_CONDITION.id),
     ) {
         (None, None) => Ok(None),
-        (Some(derivation), Some(_)) => match given_number(matches, CHOSEN_CONDITION.id) {
-            Ok(condition) => Ok(Some(Chosen {
-                derivation,
-                condition,
-            })),
-            Err(fault) => Err(fault),
-        },
+        (Some(derivation), Some(_)) => Ok(Some(Chosen {
+            derivation,
+            condition: given_number(matches, CHOSEN_CONDITION.id),
+        })),
         _ => Err(FieldFault::Apart),
     }
 }

@@ -47,10 +47,11 @@ impl<'a> Line<'a> {
         // The command, its files and its options are those that `clap` reads in the words.
         ensures line { IfOk result (Says (subcommand_of rgc_app (map S.text words.now)) place) }
 
-        // Words come to a command only where `clap` finds no fault in them, and else to a fault that it finds, or to options that don't fit.
+        // Words come to a command only where `clap` finds no fault in them, and else to a fault that it finds, or, where memory was not refused
+        // and it finds none, to options that don't fit together or to no file at the place.
         ensures fault { MatchResult result
             (λ _. fault_of rgc_app (map S.text words.now) ≡ [])
-            (IsLineFault (map S.text words.now)) }
+            (IsLineFault (map S.text words.now) place) }
     {
         let command = match rgc_command(alloc) {
             Ok(command) => command,
@@ -60,9 +61,7 @@ impl<'a> Line<'a> {
             Ok(matches) => matches,
             Err(error) => return Err(LineFault::Usage(error)),
         };
-        let Some((name, inner)) = matches.subcommand() else {
-            return Err(LineFault::Fields(FieldFault::Incomplete));
-        };
+        let (name, inner) = matches.subcommand().unwrap();
         match line_of(name, inner, place) {
             Ok(line) => Ok(line),
             Err(fault) => Err(LineFault::Fields(fault)),

@@ -1,85 +1,87 @@
 //! Each command, from the matches of its subcommand.
 
-ghost use Rattle.std.specs.Prelude.{◌≡◌, IfOk, IfErr, IfSome};
+ghost use Rattle.std.specs.Prelude.{◌≡◌, IfOk, IfErr, find, option_map};
+ghost use Rattle.std.specs.Str.{bytes_eq};
 ghost use Rattle.clap.specs.Words.{found_of, rows_of};
-ghost use Rattle.rgc_line.specs.Line.{HasContents, HasFile, HasNo, HasSettings, IsAt, IsFieldFault, contents_of};
-ghost use Rattle.rgc_line.specs.App.{run_outline};
-ghost use Rattle.rgc_line.specs.Inner.Table.{IsNamed, IsTable, Reads};
+ghost use Rattle.rgc_line.specs.Line.{AreApart, AreRunFilesApart, HasContents, HasFile, HasNo, HasSettings, IsAt, IsBeyond, IsFieldFault, contents_of};
+ghost use Rattle.rgc_line.specs.App.{kinds, row_of, run_outline};
+ghost use Rattle.rgc_line.specs.Inner.Table.{IsListed, IsRefused, IsTable, IsWhole, Reads};
 ghost use Rattle.rgc_line.specs.declared.commands.Kind.TheVariants as kind;
-ghost use Rattle.rgc_line.specs.declared.fields.FieldFault.TheVariants.{Incomplete};
+ghost use Rattle.rgc_line.specs.declared.fields.FieldFault.TheVariants.{Apart, NoFile, RunFiles};
 
 use crate::command::Command;
 use crate::commands::{
     COMMANDS, CONDITIONS, DERIVATION, DRAW, FORMULA, FORMULA_OR_PROGRAM, FORMULAS, HINTS, Kind,
-    LIMIT, MAP, MOVES, OUTLINE, OUTLINES, PROGRAM, PROOFS, REFUSAL, REFUSED, RUN_DERIVATION,
-    RUN_OUTLINE, RUN_PROGRAM, RUN_PROOFS, RUNS_ONLY, Row, START, STEPS, WRITTEN_DERIVATION,
-    WRITTEN_PROOFS, WRITTEN_TEXT,
+    LIMIT, MAP, MOVES, OUTLINE, PROGRAM, PROOFS, REFUSAL, REFUSED, RUN_DERIVATION, RUN_OUTLINE,
+    RUN_PROGRAM, RUN_PROOFS, RUNS_ONLY, Row, START, STEPS, WRITTEN_DERIVATION, WRITTEN_PROOFS,
+    WRITTEN_TEXT,
 };
-use crate::fields::{FieldFault, chosen, file, file_of, given_number, is_given, option};
+use crate::fields::{FieldFault, chosen, file, given_number, is_given, option, outline_at};
 use crate::line::Line;
 use crate::settings::settings_of;
 use clap::ArgMatches;
 
-fn number<'a>(matches: &ArgMatches<'a>) -> Result<Command<'a>, FieldFault>
-    ensures reads { IfOk result (Reads kind.Number (rows_of (found_of matches.now))) }
-    ensures fault { IfErr result (λ f. f ≡ Incomplete) }
+fn number<'a>(matches: &ArgMatches<'a>) -> Command<'a>
+    requires { IsWhole kind.Number (rows_of (found_of matches.now)) }
+    ensures { Reads kind.Number (rows_of (found_of matches.now)) result }
 {
-    let text = file(matches, PROGRAM.id)?;
-    Ok(Command::Number { text })
+    let text = file(matches, PROGRAM.id);
+    Command::Number { text }
 }
 
-fn check<'a>(matches: &ArgMatches<'a>) -> Result<Command<'a>, FieldFault>
-    ensures reads { IfOk result (Reads kind.Check (rows_of (found_of matches.now))) }
-    ensures fault { IfErr result (λ f. f ≡ Incomplete) }
+fn check<'a>(matches: &ArgMatches<'a>) -> Command<'a>
+    requires { IsWhole kind.Check (rows_of (found_of matches.now)) }
+    ensures { Reads kind.Check (rows_of (found_of matches.now)) result }
 {
-    Ok(Command::Check {
-        text: file(matches, PROGRAM.id)?,
-        derivation: file(matches, DERIVATION.id)?,
-        proofs: file(matches, PROOFS.id)?,
-    })
+    Command::Check {
+        text: file(matches, PROGRAM.id),
+        derivation: file(matches, DERIVATION.id),
+        proofs: file(matches, PROOFS.id),
+    }
 }
 
-fn conditions<'a>(matches: &ArgMatches<'a>) -> Result<Command<'a>, FieldFault>
-    ensures reads { IfOk result (Reads kind.Conditions (rows_of (found_of matches.now))) }
-    ensures fault { IfErr result (λ f. f ≡ Incomplete) }
+fn conditions<'a>(matches: &ArgMatches<'a>) -> Command<'a>
+    requires { IsWhole kind.Conditions (rows_of (found_of matches.now)) }
+    ensures { Reads kind.Conditions (rows_of (found_of matches.now)) result }
 {
-    Ok(Command::Conditions {
-        text: file(matches, PROGRAM.id)?,
-        derivation: file(matches, DERIVATION.id)?,
+    Command::Conditions {
+        text: file(matches, PROGRAM.id),
+        derivation: file(matches, DERIVATION.id),
         has_formulas: is_given(matches, FORMULAS.id),
-    })
+    }
 }
 
-fn prove<'a>(matches: &ArgMatches<'a>) -> Result<Command<'a>, FieldFault>
-    ensures reads { IfOk result (Reads kind.Prove (rows_of (found_of matches.now))) }
-    ensures fault { IfErr result (λ f. f ≡ Incomplete) }
+fn prove<'a>(matches: &ArgMatches<'a>) -> Command<'a>
+    requires { IsWhole kind.Prove (rows_of (found_of matches.now)) }
+    ensures { Reads kind.Prove (rows_of (found_of matches.now)) result }
 {
-    Ok(Command::Prove {
-        text: file(matches, PROGRAM.id)?,
-        derivation: file(matches, DERIVATION.id)?,
-        steps: given_number(matches, STEPS.id)?,
+    Command::Prove {
+        text: file(matches, PROGRAM.id),
+        derivation: file(matches, DERIVATION.id),
+        steps: given_number(matches, STEPS.id),
         conditions: option(matches, CONDITIONS.id),
-    })
+    }
 }
 
-fn emit<'a>(matches: &ArgMatches<'a>) -> Result<Command<'a>, FieldFault>
-    ensures reads { IfOk result (Reads kind.Emit (rows_of (found_of matches.now))) }
-    ensures fault { IfErr result (λ f. f ≡ Incomplete) }
+fn emit<'a>(matches: &ArgMatches<'a>) -> Command<'a>
+    requires { IsWhole kind.Emit (rows_of (found_of matches.now)) }
+    ensures { Reads kind.Emit (rows_of (found_of matches.now)) result }
 {
-    Ok(Command::Emit {
-        text: file(matches, PROGRAM.id)?,
-        derivation: file(matches, DERIVATION.id)?,
-        proofs: file(matches, PROOFS.id)?,
-    })
+    Command::Emit {
+        text: file(matches, PROGRAM.id),
+        derivation: file(matches, DERIVATION.id),
+        proofs: file(matches, PROOFS.id),
+    }
 }
 
 /// A run of three files.
 fn run_files<'a>(matches: &ArgMatches<'a>) -> Result<Command<'a>, FieldFault>
-    requires { HasNo (rows_of (found_of matches.now)) run_outline.id }
+    requires whole { IsWhole kind.Run (rows_of (found_of matches.now)) }
+    requires no_outline { HasNo (rows_of (found_of matches.now)) run_outline.id }
     ensures reads { IfOk result (Reads kind.Run (rows_of (found_of matches.now))) }
-    ensures fault { IfErr result (IsFieldFault (rows_of (found_of matches.now))) }
+    ensures fault { IfErr result (λ f. (f ≡ RunFiles) × AreRunFilesApart (rows_of (found_of matches.now))) }
 {
-    let limit = given_number(matches, LIMIT.id)?;
+    let limit = given_number(matches, LIMIT.id);
     let Some(text) = option(matches, RUN_PROGRAM.id) else {
         return Err(FieldFault::RunFiles);
     };
@@ -102,9 +104,10 @@ fn run_files<'a>(matches: &ArgMatches<'a>) -> Result<Command<'a>, FieldFault>
 
 /// A run of an outline.
 fn run_outline<'a>(matches: &ArgMatches<'a>, outline: &'a str) -> Result<Command<'a>, FieldFault>
-    requires { HasFile (rows_of (found_of matches.now)) run_outline.id outline }
+    requires whole { IsWhole kind.Run (rows_of (found_of matches.now)) }
+    requires outline { HasFile (rows_of (found_of matches.now)) run_outline.id outline }
     ensures reads { IfOk result (Reads kind.Run (rows_of (found_of matches.now))) }
-    ensures fault { IfErr result (IsFieldFault (rows_of (found_of matches.now))) }
+    ensures fault { IfErr result (λ f. (f ≡ RunFiles) × AreRunFilesApart (rows_of (found_of matches.now))) }
 {
     if let Some(_) = option(matches, RUN_PROGRAM.id) {
         return Err(FieldFault::RunFiles);
@@ -113,14 +116,15 @@ fn run_outline<'a>(matches: &ArgMatches<'a>, outline: &'a str) -> Result<Command
         outline,
         start: option(matches, START.id),
         moves: option(matches, MOVES.id),
-        limit: given_number(matches, LIMIT.id)?,
+        limit: given_number(matches, LIMIT.id),
         draw: option(matches, DRAW.id),
     })
 }
 
 fn run<'a>(matches: &ArgMatches<'a>) -> Result<Command<'a>, FieldFault>
+    requires { IsWhole kind.Run (rows_of (found_of matches.now)) }
     ensures reads { IfOk result (Reads kind.Run (rows_of (found_of matches.now))) }
-    ensures fault { IfErr result (IsFieldFault (rows_of (found_of matches.now))) }
+    ensures fault { IfErr result (λ f. (f ≡ RunFiles) × AreRunFilesApart (rows_of (found_of matches.now))) }
 {
     match option(matches, RUN_OUTLINE.id) {
         Some(outline) => run_outline(matches, outline),
@@ -128,32 +132,34 @@ fn run<'a>(matches: &ArgMatches<'a>) -> Result<Command<'a>, FieldFault>
     }
 }
 
-fn valid<'a>(matches: &ArgMatches<'a>) -> Result<Command<'a>, FieldFault>
-    ensures reads { IfOk result (Reads kind.Valid (rows_of (found_of matches.now))) }
-    ensures fault { IfErr result (λ f. f ≡ Incomplete) }
+fn valid<'a>(matches: &ArgMatches<'a>) -> Command<'a>
+    requires { IsWhole kind.Valid (rows_of (found_of matches.now)) }
+    ensures { Reads kind.Valid (rows_of (found_of matches.now)) result }
 {
-    Ok(Command::Valid {
-        text: file(matches, FORMULA.id)?,
-        proofs: file(matches, HINTS.id)?,
-    })
+    Command::Valid {
+        text: file(matches, FORMULA.id),
+        proofs: file(matches, HINTS.id),
+    }
 }
 
 fn clauses<'a>(matches: &ArgMatches<'a>) -> Result<Command<'a>, FieldFault>
+    requires { IsWhole kind.Clauses (rows_of (found_of matches.now)) }
     ensures reads { IfOk result (Reads kind.Clauses (rows_of (found_of matches.now))) }
-    ensures fault { IfErr result (IsFieldFault (rows_of (found_of matches.now))) }
+    ensures fault { IfErr result (λ f. (f ≡ Apart) × AreApart (rows_of (found_of matches.now))) }
 {
-    let text = file(matches, FORMULA_OR_PROGRAM.id)?;
+    let text = file(matches, FORMULA_OR_PROGRAM.id);
     let chosen = chosen(matches)?;
     Ok(Command::Clauses { text, chosen })
 }
 
 fn find<'a>(matches: &ArgMatches<'a>) -> Result<Command<'a>, FieldFault>
+    requires { IsWhole kind.Find (rows_of (found_of matches.now)) }
     ensures reads { IfOk result (Reads kind.Find (rows_of (found_of matches.now))) }
-    ensures fault { IfErr result (IsFieldFault (rows_of (found_of matches.now))) }
+    ensures fault { IfErr result (λ f. (f ≡ Apart) × AreApart (rows_of (found_of matches.now))) }
 {
-    let text = file(matches, FORMULA_OR_PROGRAM.id)?;
+    let text = file(matches, FORMULA_OR_PROGRAM.id);
     let chosen = chosen(matches)?;
-    let steps = given_number(matches, STEPS.id)?;
+    let steps = given_number(matches, STEPS.id);
     Ok(Command::Find {
         text,
         steps,
@@ -161,47 +167,48 @@ fn find<'a>(matches: &ArgMatches<'a>) -> Result<Command<'a>, FieldFault>
     })
 }
 
-fn outline<'a>(matches: &ArgMatches<'a>) -> Result<Command<'a>, FieldFault>
-    ensures reads { IfOk result (Reads kind.Outline (rows_of (found_of matches.now))) }
-    ensures fault { IfErr result (λ f. f ≡ Incomplete) }
+fn outline<'a>(matches: &ArgMatches<'a>) -> Command<'a>
+    requires { IsWhole kind.Outline (rows_of (found_of matches.now)) }
+    ensures { Reads kind.Outline (rows_of (found_of matches.now)) result }
 {
-    Ok(Command::Outline {
-        outline: file(matches, OUTLINE.id)?,
+    Command::Outline {
+        outline: file(matches, OUTLINE.id),
         text: option(matches, WRITTEN_TEXT.id),
         derivation: option(matches, WRITTEN_DERIVATION.id),
         proofs: option(matches, WRITTEN_PROOFS.id),
         map: option(matches, MAP.id),
-    })
+    }
 }
 
 fn verify<'a>(matches: &ArgMatches<'a>, place: usize) -> Result<Command<'a>, FieldFault>
+    requires { IsWhole kind.Verify (rows_of (found_of matches.now)) }
     ensures reads { IfOk result (Reads kind.Verify (rows_of (found_of matches.now))) }
     ensures at { IfOk result (IsAt place) }
-    ensures fault { IfErr result (λ f. f ≡ Incomplete) }
+    ensures fault { IfErr result (λ f. (f ≡ NoFile) × IsBeyond (rows_of (found_of matches.now)) place) }
 {
     Ok(Command::Verify {
-        outlines: file_of(matches, OUTLINES.id, place)?,
-        steps: given_number(matches, STEPS.id)?,
+        outlines: outline_at(matches, place)?,
+        steps: given_number(matches, STEPS.id),
         is_runs_only: is_given(matches, RUNS_ONLY.id),
     })
 }
 
-fn challenge<'a>(matches: &ArgMatches<'a>) -> Result<Command<'a>, FieldFault>
-    ensures reads { IfOk result (Reads kind.Challenge (rows_of (found_of matches.now))) }
-    ensures fault { IfErr result (λ f. f ≡ Incomplete) }
+fn challenge<'a>(matches: &ArgMatches<'a>) -> Command<'a>
+    requires { IsWhole kind.Challenge (rows_of (found_of matches.now)) }
+    ensures { Reads kind.Challenge (rows_of (found_of matches.now)) result }
 {
-    Ok(Command::Challenge {
-        outline: file(matches, OUTLINE.id)?,
+    Command::Challenge {
+        outline: file(matches, OUTLINE.id),
         has_refused: is_given(matches, REFUSED.id),
-    })
+    }
 }
 
-fn explain<'a>(matches: &ArgMatches<'a>) -> Result<Command<'a>, FieldFault>
-    ensures reads { IfOk result (Reads kind.Explain (rows_of (found_of matches.now))) }
-    ensures fault { IfErr result (λ f. f ≡ Incomplete) }
+fn explain<'a>(matches: &ArgMatches<'a>) -> Command<'a>
+    requires { IsWhole kind.Explain (rows_of (found_of matches.now)) }
+    ensures { Reads kind.Explain (rows_of (found_of matches.now)) result }
 {
-    let number = given_number(matches, REFUSAL.id)?;
-    Ok(Command::Explain { number })
+    let number = given_number(matches, REFUSAL.id);
+    Command::Explain { number }
 }
 
 /// The command of this kind; of one over several files, the one over the file at this place.
@@ -210,31 +217,32 @@ fn command_of<'a>(
     matches: &ArgMatches<'a>,
     place: usize,
 ) -> Result<Command<'a>, FieldFault>
+    requires { IsWhole kind (rows_of (found_of matches.now)) }
     ensures reads { IfOk result (Reads kind (rows_of (found_of matches.now))) }
     ensures at { IfOk result (IsAt place) }
-    ensures fault { IfErr result (IsFieldFault (rows_of (found_of matches.now))) }
+    ensures fault { IfErr result (IsFieldFault kind (rows_of (found_of matches.now)) place) }
 {
     match kind {
-        Kind::Number => number(matches),
-        Kind::Check => check(matches),
-        Kind::Conditions => conditions(matches),
-        Kind::Prove => prove(matches),
-        Kind::Emit => emit(matches),
+        Kind::Number => Ok(number(matches)),
+        Kind::Check => Ok(check(matches)),
+        Kind::Conditions => Ok(conditions(matches)),
+        Kind::Prove => Ok(prove(matches)),
+        Kind::Emit => Ok(emit(matches)),
         Kind::Run => run(matches),
-        Kind::Valid => valid(matches),
+        Kind::Valid => Ok(valid(matches)),
         Kind::Clauses => clauses(matches),
         Kind::Find => find(matches),
-        Kind::Outline => outline(matches),
+        Kind::Outline => Ok(outline(matches)),
         Kind::Verify => verify(matches, place),
-        Kind::Challenge => challenge(matches),
-        Kind::Explain => explain(matches),
+        Kind::Challenge => Ok(challenge(matches)),
+        Kind::Explain => Ok(explain(matches)),
     }
 }
 
 /// The row of a name.
 fn row_named<'r>(rows: &'r [Row], name: &str) -> Option<&'r Row>
     requires { IsTable rows.now }
-    ensures { IfSome result (λ row. IsNamed name.now row.now) }
+    ensures { option_map (λ row. row.now.kind) result ≡ find (λ kind. bytes_eq (row_of kind).name name.now) kinds }
 {
     for row in rows {
         if row.name == name {
@@ -250,15 +258,16 @@ pub fn line_of<'a>(
     matches: &ArgMatches<'a>,
     place: usize,
 ) -> Result<Line<'a>, FieldFault>
+    requires { IsListed name.now (rows_of (found_of matches.now)) }
     ensures contents { IfOk result (λ l. HasContents name.now (rows_of (found_of matches.now)) (contents_of l.command)) }
     ensures settings { IfOk result (λ l. HasSettings (rows_of (found_of matches.now)) l.settings) }
     ensures at { IfOk result (λ l. IsAt place l.command) }
-    ensures fault { IfErr result (IsFieldFault (rows_of (found_of matches.now))) }
+    ensures fault { IfErr result (IsRefused name.now (rows_of (found_of matches.now)) place) }
 {
-    let Some(row) = row_named(&COMMANDS, name) else {
-        return Err(FieldFault::Incomplete);
-    };
+    let row = row_named(&COMMANDS, name).unwrap();
     let settings = settings_of(matches)?;
-    let command = command_of(row.kind, matches, place)?;
-    Ok(Line { command, settings })
+    match command_of(row.kind, matches, place) {
+        Ok(command) => Ok(Line { command, settings }),
+        Err(fault) => Err(fault),
+    }
 }

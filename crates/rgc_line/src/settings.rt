@@ -1,8 +1,11 @@
 //! What is asked of several commands, from the matches of a subcommand.
 
-ghost use Rattle.std.specs.Prelude.{IfOk, IfErr};
+ghost use Rattle.std.specs.Prelude.{◌≡◌, IfOk, IfErr};
 ghost use Rattle.clap.specs.Words.{found_of, rows_of};
-ghost use Rattle.rgc_line.specs.Line.{HasFormat, HasSettings, IsFieldFault};
+ghost use Rattle.rgc_line.specs.App.{threads};
+ghost use Rattle.rgc_line.specs.Inner.Table.{IsNumberIf};
+ghost use Rattle.rgc_line.specs.Line.{HasFormat, HasSettings, IsUnknownFormat};
+ghost use Rattle.rgc_line.specs.declared.fields.FieldFault.TheVariants.{UnknownFormat};
 
 use crate::command::{Format, Settings};
 use crate::commands::{EXPLAINED, FORMAT, OUTPUT, THREADS};
@@ -12,7 +15,7 @@ use clap::ArgMatches;
 /// The format; without a word for it, lines to be read.
 fn format(matches: &ArgMatches<'_>) -> Result<Format, FieldFault>
     ensures format { IfOk result (HasFormat (rows_of (found_of matches.now))) }
-    ensures fault { IfErr result (IsFieldFault (rows_of (found_of matches.now))) }
+    ensures fault { IfErr result (λ f. (f ≡ UnknownFormat) × IsUnknownFormat (rows_of (found_of matches.now))) }
 {
     let Some(word) = option(matches, FORMAT.id) else {
         return Ok(Format::Plain);
@@ -28,21 +31,18 @@ fn format(matches: &ArgMatches<'_>) -> Result<Format, FieldFault>
 
 /// The settings of a subcommand; one that it has no option for is not given.
 pub fn settings_of<'a>(matches: &ArgMatches<'a>) -> Result<Settings<'a>, FieldFault>
+    requires { IsNumberIf (rows_of (found_of matches.now)) threads.id }
     ensures settings { IfOk result (HasSettings (rows_of (found_of matches.now))) }
-    ensures fault { IfErr result (IsFieldFault (rows_of (found_of matches.now))) }
+    ensures fault { IfErr result (λ f. (f ≡ UnknownFormat) × IsUnknownFormat (rows_of (found_of matches.now))) }
 {
     let format = match format(matches) {
         Ok(format) => format,
-        Err(fault) => return Err(fault),
-    };
-    let threads = match number_or_none(matches, THREADS.id) {
-        Ok(threads) => threads,
         Err(fault) => return Err(fault),
     };
     Ok(Settings {
         output: option(matches, OUTPUT.id),
         format,
         is_explained: is_given(matches, EXPLAINED.id),
-        threads,
+        threads: number_or_none(matches, THREADS.id),
     })
 }

@@ -1,11 +1,13 @@
 -- The rows of the table as the code has them.
-use Rattle.std.specs.Prelude.{◌≡◌, Option, List, [], ◌∷◌, map, false, option_map, Some, None}
+use Rattle.std.specs.Prelude.{◌≡◌, ◌⊎◌, ◌<◌, ◌^◌, ◌||◌, ℕ, Bool, true, false, Option, List, [], ◌∷◌, length, map, nat_lt, is_some, option_map, Some, None}
+use Rattle.std.specs.Str.Parse.{IsNumeral, without_leading_plus, digits_value}
 use Rattle.std.specs.Borrow.{Bor}
-use Rattle.clap.specs.Words.{App, Rule, Row as Given, Shape, Text, app_of, first_of, with_subcommand}
+use Rattle.clap.specs.Words.{App, Rule, Row as Given, Shape, Text, app_of, first_of, one_of, with_subcommand}
 use Rattle.clap.specs.declared.builder.command.Command.{Command}
 use Rattle.clap.specs.declared.builder.command.Command.TheViews.{out-Command}
-use Rattle.rgc_line.specs.App.{file_rule, place_rule, files_rule, option_rule, number_rule, needed_rule, default_rule, flag_rule, leaf, row_of, chosen_derivation, chosen_condition}
-use Rattle.rgc_line.specs.Line.{HasFile, HasNumber, HasNo, HasValues, contents_of}
+use Rattle.rgc_line.specs.App.{file_rule, place_rule, files_rule, option_rule, number_rule, needed_rule, default_rule, flag_rule, leaf, row_of, kinds, chosen_derivation, chosen_condition, threads}
+use Rattle.rgc_line.specs.Line.{HasFile, HasNumber, HasNo, HasValues, contents_of, IsFieldFault}
+use Rattle.rgc_line.specs.declared.fields.FieldFault.{FieldFault}
 use Rattle.rgc_line.specs.declared.command.Command.{Command as RgCommand}
 use Rattle.rgc_line.specs.declared.commands.Kind.{Kind}
 use Rattle.rgc_line.specs.declared.command.Chosen.{Chosen}
@@ -43,17 +45,57 @@ with_subcommands a (shape ∷ rest) = with_subcommands (with_subcommand a shape)
 abbrev pub IsLeafOf : Row → Command → Type 0
 IsLeafOf row c = (app_of c ≡ record { top = shape_at row; subs = [] }) × ((out-Command c).has_globals ≡ false)
 
--- the row is the one that the table has for its kind
-abbrev pub IsListed : Row → Type 0
-IsListed row = shape_at row ≡ row_of row.kind
-
--- each row is the one that the table has for its kind
+-- the rows are those of the table, one for each kind, in its order
 abbrev pub IsTable : List Row → Type 0
-IsTable rows = map shape_at rows ≡ map (λ row. row_of row.kind) rows
+IsTable rows = (map shape_at rows ≡ map row_of kinds) × (map (λ row. row.kind) rows ≡ kinds)
 
--- the row has this name, and is the one that the table has for its kind
-abbrev pub IsNamed : Text → Row → Type 0
-IsNamed name row = (row.name.now ≡ name) × IsListed row
+-- the text is a number in decimal digits, of 64 bits
+abbrev pub IsNumberText : Text → Type 0
+IsNumberText text = IsNumeral 10 (without_leading_plus text) × (digits_value 10 (without_leading_plus text) < 2 ^ 64)
+
+-- the words have something at the id
+abbrev pub IsThere : List Given → Text → Type 0
+IsThere rows id = (text : Text) × (first_of id rows ≡ Some text)
+
+-- the words have a number at the id
+abbrev pub IsNumber : List Given → Text → Type 0
+IsNumber rows id = (text : Text) × (one_of id rows ≡ Some text) × IsNumberText text
+
+-- the words have nothing at the id, or a number
+abbrev pub IsNumberIf : List Given → Text → Type 0
+IsNumberIf rows id = HasNo rows id ⊎ IsNumber rows id
+
+-- the argument has to be given, or is given by default
+abbrev pub is_wanted : Rule → Bool
+is_wanted rule = rule.required || (nat_lt 0 (length rule.defaults))
+
+-- what the words have at an argument in which `clap` finds no fault, by whether it is wanted, and whether it is a number
+abbrev pub IsSound : Bool → Bool → List Given → Text → Type 0
+IsSound true true rows id = IsNumber rows id
+IsSound true false rows id = IsThere rows id
+IsSound false true rows id = IsNumberIf rows id
+IsSound false false rows id = Unit {0}
+
+-- the same of each of the arguments
+abbrev pub AreSound : List Given → List Rule → Type 0
+AreSound rows [] = Unit {0}
+AreSound rows (rule ∷ rules) = IsSound (is_wanted rule) (is_some rule.parser) rows rule.id × AreSound rows rules
+
+-- the same of the arguments of a command, and of the number of threads, which each is asked for
+abbrev pub IsWhole : Kind → List Given → Type 0
+IsWhole kind rows = IsNumberIf rows threads.id × AreSound rows (row_of kind).rules
+
+-- the subcommand is one of the table, and `clap` finds no fault in its words
+pub record IsListed (name : Text) (rows : List Given) : Type 0 where
+  pub kind : Kind
+  pub named : name ≡ (row_of kind).name
+  pub whole : IsWhole kind rows
+
+-- a fault of the subcommand of this name
+pub record IsRefused (name : Text) (rows : List Given) (place : ℕ) (fault : FieldFault) : Type 0 where
+  pub kind : Kind
+  pub named : name ≡ (row_of kind).name
+  pub why : IsFieldFault kind rows place fault
 
 -- the command is of this kind, and the matches have its values
 abbrev pub Reads : Kind → List Given → RgCommand → Type 0

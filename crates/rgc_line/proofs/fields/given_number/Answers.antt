@@ -1,14 +1,22 @@
-use Rattle.std.proofs.Common.{◌∙◌, Ok, sym}
-use Rattle.std.specs.Str.Parse.{ParsesUnsigned}
-use Rattle.clap.specs.Words.{Text, found_of, one_text}
+use Rattle.std.proofs.Common.{◌≡◌, ◌∙◌, ℕ, Ok, Some, subst, sym}
+use Rattle.std.specs.Str.Parse.{ParsesUnsigned, ExplainsUnsignedError, HasUnsignedDigitsIfOk}
+use Rattle.clap.specs.Words.{found_of}
 use Rattle.clap.proofs.WalkLemmas.{one_text-rows}
-use Rattle.rgc_line.proofs.Apps.{number_read}
+use Rattle.rgc_line.proofs.Apps.{number_read, some_is}
 use Rattle.rgc_line.proofs.fields.given_number.Goals as goal
 
-pub returns-in-Some-clause-number : goal.returns-in-Some-clause-number
-returns-in-Some-clause-number c =
-    let found = found_of c.args.matches.now in
-    let n = c.in-Some.number in
-    let P : Text → Type 0 = λ t. ParsesUnsigned {E = Unit {0}} 64 10 t (Ok n) in
-    let (text, is, parses) = number_read (one_text found c.args.id.now) n P c.in-Some.ensures.none (λ t e. (c.in-Some.ensures.value t e).0) in
-    (text, sym (one_text-rows found c.args.id.now) ∙ is, parses)
+pub unwrap-requires : goal.unwrap-requires
+unwrap-requires c =
+    let text = c.requires.0 in
+    let reads = c.get_one.ensures.value text (one_text-rows (found_of c.args.matches.now) c.args.id.now ∙ c.requires.1) in
+    let r = number_read (λ bs r. ParsesUnsigned 64 10 bs r × ExplainsUnsignedError 10 bs r × HasUnsignedDigitsIfOk bs r) text c.get_one.result reads c.requires.2 (λ x gives. gives.0) in
+    some_is c.get_one.result r.0 r.1
+
+pub returns : goal.returns
+returns c =
+    let text = c.requires.0 in
+    let reads = c.get_one.ensures.value text (one_text-rows (found_of c.args.matches.now) c.args.id.now ∙ c.requires.1) in
+    let r = number_read (λ bs r. ParsesUnsigned 64 10 bs r × ExplainsUnsignedError 10 bs r × HasUnsignedDigitsIfOk bs r) text c.get_one.result reads c.requires.2 (λ x gives. gives.0) in
+    let same : Some r.0 ≡ Some c.unwrap.result = sym r.1 ∙ c.unwrap.ensures in
+    let is : r.0 ≡ c.unwrap.result = cc in
+    (text, c.requires.1, subst (λ (n : ℕ). ParsesUnsigned {E = Unit {0}} 64 10 text (Ok n)) is r.2)
