@@ -8,7 +8,6 @@ use rg_hints::{Lines, check_piece};
 use rg_words::{Place, Refusal, RefusalNumber, SourceFile};
 use std::alloc::Global;
 use std::process::Abort;
-use std::test::Fail;
 
 /// Whether the lines of a text have this normal form.
 fn is_normal_form(alloc: Global, text: &[u8], expected: &str) -> Result<bool, Refusal>
@@ -19,11 +18,10 @@ fn is_normal_form(alloc: Global, text: &[u8], expected: &str) -> Result<bool, Re
 }
 
 #[test]
-fn normal_form(rt: HostRuntime) -> Result<(), Fail> {
+fn normal_form(rt: HostRuntime) {
     let text = b"c first\n08 -0007\t0 07 5 1 4 00\r\n2147483647 0 0";
-    let same = is_normal_form(rt.alloc(), text, "8 -7 0 7 5 1 4 0\n2147483647 0 0\n")?;
-    assert!(rt; same);
-    Ok(())
+    let same = is_normal_form(rt.alloc(), text, "8 -7 0 7 5 1 4 0\n2147483647 0 0\n");
+    assert!(rt; matches!(same, Ok(true)));
 }
 
 /// What a text's lines are answered from one place to another, over seven clauses.
@@ -50,28 +48,41 @@ const TWO_FAULTS: &str =
 /// The last line doesn't follow.
 const LAST_FAULT: &str = "8 0 7 5 1 4 0\n9 0 7 5 1 4 0\n10 0 7 5 1 4 0\n11 0 7 5 1 4 0\n12 0 7 0\n";
 
-#[test]
-fn pieces_of_a_section(rt: HostRuntime) -> Result<(), Fail> {
-    let rows = [
-        (GOOD, 2, 5, None),
-        (TWO_FAULTS, 0, 2, None),
-        (TWO_FAULTS, 2, 5, Some((RefusalNumber::HintNotUnit, 3))),
-        (TWO_FAULTS, 3, 5, Some((RefusalNumber::HintNotEarlier, 4))),
-        (TWO_FAULTS, 4, 5, None),
-        (LAST_FAULT, 2, 5, Some((RefusalNumber::NoConflict, 5))),
-    ];
-    let clauses = implication(rt.alloc())?;
-    for (text, from, to, fault) in &rows {
-        let told = match fault {
-            None => Ok(()),
-            Some((number, line)) => Err(Refusal::at(
-                *number,
-                SourceFile::Proofs,
-                Place::Line(*line),
-            )),
-        };
-        let answer = piece_of(&rt, rt.alloc(), &clauses, text, *from, *to);
-        assert!(rt; answer == told);
+/// Pieces of sections: the text, the places of the first line and behind the last, and the fault with its line.
+const PIECES: &[(&str, usize, usize, Option<(RefusalNumber, u64)>)] = &[
+    (GOOD, 2, 5, None),
+    (TWO_FAULTS, 0, 2, None),
+    (TWO_FAULTS, 2, 5, Some((RefusalNumber::HintNotUnit, 3))),
+    (TWO_FAULTS, 3, 5, Some((RefusalNumber::HintNotEarlier, 4))),
+    (TWO_FAULTS, 4, 5, None),
+    (LAST_FAULT, 2, 5, Some((RefusalNumber::NoConflict, 5))),
+];
+
+/// What is told of a piece with this fault.
+fn told(fault: Option<(RefusalNumber, u64)>) -> Result<(), Refusal> {
+    match fault {
+        None => Ok(()),
+        Some((number, line)) => Err(Refusal::at(number, SourceFile::Proofs, Place::Line(line))),
     }
-    Ok(())
+}
+
+/// What is answered for a piece over the clauses of the implication; refused as memory is where there are none.
+fn piece_over_implication(
+    rt: &impl Abort,
+    alloc: Global,
+    text: &str,
+    from: usize,
+    to: usize,
+) -> Result<(), Refusal> {
+    match implication(alloc) {
+        Ok(clauses) => piece_of(rt, alloc, &clauses, text, from, to),
+        Err(_) => Err(Refusal::new(RefusalNumber::Memory)),
+    }
+}
+
+#[test]
+fn pieces_of_a_section(rt: HostRuntime) {
+    for (text, from, to, fault) in PIECES {
+        assert!(rt; piece_over_implication(&rt, rt.alloc(), text, *from, *to) == told(*fault));
+    }
 }
