@@ -1,6 +1,8 @@
 //! A run, one line for each step.
 
+use crate::falsity::Falsity;
 use crate::places::statement_at;
+use crate::shown::push_falsity;
 use rg_outline::Expansion;
 use rg_outline_text::{Span, push_count, push_phrase};
 use rg_walk::{BreakingRun, Broken, RunStep, Unbroken};
@@ -178,7 +180,7 @@ pub(crate) fn push_broken(
 }
 
 /// Adds a run that breaks the specification, one line for each step: who makes it, the line and the statement, and the words that it changes;
-/// and then what is broken.
+/// and then what is broken, with its first conjunct that is false and where that stands.
 ///
 /// # Errors
 ///
@@ -195,7 +197,8 @@ pub fn push_run(
     text.extend_from_slice(b"    ")?;
     push_broken(expansion, text, run)?;
     text.push(b'\n')?;
-    Ok(())
+    let falsity = Falsity::of(expansion, run)?;
+    push_falsity(expansion, text, &falsity)
 }
 
 /// Adds that no run was found that breaks the specification, and how far was looked.
