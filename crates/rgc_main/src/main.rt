@@ -1,6 +1,8 @@
 //! The program `rgc`: it reads the words and the files, and does the command.
 #![tactic(auto)]
 
+mod version;
+
 ghost use Rattle.std.specs.Prelude.{◌≡◌};
 ghost use Rattle.rg_words.specs.Written.{CanCount};
 
@@ -19,6 +21,7 @@ use std::process::ExitCode;
 use std::sync::Wait;
 use std::thread::{Threads, available_parallelism};
 use std::{env, io};
+use version::proved_at;
 
 /// The name of a file that stands for standard input.
 const INPUT: &str = "-";
@@ -62,6 +65,9 @@ fn bytes_of(rt: &HostRuntime, name: &str, most: usize) -> Result<Option<Vec<u8>>
 fn usage(rt: &HostRuntime, fault: &LineFault) -> u8 {
     match fault {
         LineFault::Usage(error) if error.kind() == ErrorKind::OutOfMemory => tell(rt, "refused 99"),
+        LineFault::Usage(error) if error.kind() == ErrorKind::DisplayVersion => print_version(
+            rt, error,
+        ),
         LineFault::Usage(error) => match error.print(rt) {
             Ok(()) if !error.use_stderr() => 0,
             Err(_) if !error.use_stderr() => tell(rt, "refused 63"),
@@ -71,6 +77,14 @@ fn usage(rt: &HostRuntime, fault: &LineFault) -> u8 {
             let _ = eprintln!(rt; "error: {fault}");
             2
         }
+    }
+}
+
+/// Prints the version, and behind it at which commit the program was proved, where a file says so; the status.
+fn print_version(rt: &HostRuntime, error: &clap::Error) -> u8 {
+    match error.print(rt) {
+        Ok(()) => shown(rt, &proved_at(rt), 0),
+        Err(_) => tell(rt, "refused 63"),
     }
 }
 
