@@ -10,7 +10,7 @@ use Rattle.rg_code.specs.declared.code.PartCode.{PartCode}
 use Rattle.rg_code.specs.declared.code.Code.{Code}
 use Rattle.rg_code.specs.Code.{StoreTree, BlockTree, do_block, await_block, test_block, end_block}
 use Rattle.rg_code.specs.BlockView.{blocks}
-use Rattle.rg_code.specs.Listing.{operation_text, operations_data, store_data, stores_data, block_data, part_data, word_data, listing_data}
+use Rattle.rg_listing.specs.Listing.{operation_text, operations_data, store_data, stores_data, block_data, part_data, word_data, listing_data}
 
 -- the word at a place, by what is known of it
 word_at : (words : List Word) (i : ℕ) → i < length words → map word_data (take (suc i) words) ≡ map word_data (take i words) ++ word_data (record { name = slice_index_or (names_of words) i []; width = slice_index (widths_of words) i; fixed = slice_index_or (fixed_of words) i false }) ∷ []

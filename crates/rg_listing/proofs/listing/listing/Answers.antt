@@ -1,8 +1,8 @@
 use Rattle.std.proofs.Common.{◌∙◌, ap}
 use Rattle.std.proofs.lemmas.Result.{IfOk-weaker}
 use Rattle.serde_json.specs.Written.{has_float, compact_text}
-use Rattle.rg_code.proofs.Listed.{listing_none}
-use Rattle.rg_code.proofs.listing.listing.Goals as goal
+use Rattle.rg_listing.proofs.Listed.{listing_none}
+use Rattle.rg_listing.proofs.listing.listing.Goals as goal
 
 pub returns : goal.returns
 returns c =

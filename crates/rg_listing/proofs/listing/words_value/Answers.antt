@@ -3,9 +3,9 @@ use Rattle.std.proofs.lemmas.List.{map-append, take_all}
 use Rattle.serde_json.specs.View.{view, items_of}
 use Rattle.serde_json.specs.Data.{array}
 use Rattle.serde_json.specs.declared.value.Value.{the_lemmas}
-use Rattle.rg_code.specs.Listing.{word_data}
-use Rattle.rg_code.proofs.Listed.{word_pushed}
-use Rattle.rg_code.proofs.listing.words_value.Goals as goal
+use Rattle.rg_listing.specs.Listing.{word_data}
+use Rattle.rg_listing.proofs.Listed.{word_pushed}
+use Rattle.rg_listing.proofs.listing.words_value.Goals as goal
 
 pub loop-word-preserved : goal.loop-word-preserved
 loop-word-preserved c =

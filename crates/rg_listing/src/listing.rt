@@ -1,17 +1,17 @@
 //! The listing of a code, as JSON text.
 
-ghost use Rattle.std.specs.Prelude.{◌≡◌, ◌<◌, ◌++◌, map, length, decimal, string_bytes, slice_get, OnOk, IfOk, Some};
+ghost use Rattle.std.specs.Prelude.{◌≡◌, ◌++◌, [], ◌∷◌, map, decimal, string_bytes, OnOk, IfOk};
 ghost use Rattle.serde_json.specs.Data.{string as string_data};
 ghost use Rattle.serde_json.specs.View.{view};
 ghost use Rattle.serde_json.specs.Written.{compact_text};
 ghost use Rattle.rg_code.specs.Code.{do_block, await_block, test_block, end_block};
 ghost use Rattle.rg_code.specs.BlockView.{block as block_tree, store as store_tree};
-ghost use Rattle.rg_code.specs.Listing.{listed_operator, listed_shift, listed_comparison, listed_connective, operation_text, list_data, operations_data, store_data, stores_data, block_data, part_data, word_data, listing_data};
+ghost use Rattle.rg_listing.specs.Listing.{listed_operator, listed_shift, listed_comparison, listed_connective, operation_text, number_data, list_data, operations_data, store_data, stores_data, block_data, part_data, word_data, listing_data};
 
-use crate::block::{Block, Store};
-use crate::code::{Code, PartCode};
-use crate::operation::Operation;
 use itoa::Buffer;
+use rg_code::block::{Block, Store};
+use rg_code::code::{Code, PartCode};
+use rg_code::operation::Operation;
 use rg_words::Layout;
 use rg_words::operators::{Comparison, Connective, Operator, Shift};
 use serde_json::{Value, json};
@@ -105,11 +105,36 @@ fn operations_value(alloc: Global, operations: &[Operation]) -> Result<Value, Al
     Ok(Value::Array(texts))
 }
 
+/// Adds an item at the end of a list. It stands apart so that a call that is refused memory drops no value in place, kind by kind.
+fn put<T: Drop>(items: &mut Vec<T>, item: T) -> Result<(), AllocError>
+    ensures { OnOk result (items.new.items ≡ items.old.items ++ item ∷ []) }
+{
+    items.push(item)?;
+    Ok(())
+}
+
+/// Adds a text at the end of a list of values.
+fn put_text(alloc: Global, items: &mut Vec<Value>, text: &str) -> Result<(), AllocError>
+    ensures { OnOk result (map view items.new.items ≡ map view items.old.items ++ string_data text.now ∷ []) }
+{
+    let text = String::from_str(alloc, text)?;
+    put(items, Value::String(text))
+}
+
+/// Adds a number at the end of a list of values.
+fn put_number(items: &mut Vec<Value>, n: u64) -> Result<(), AllocError>
+    ensures { OnOk result (map view items.new.items ≡ map view items.old.items ++ number_data n ∷ []) }
+{
+    put(items, Value::from(n))
+}
+
 fn store_value(alloc: Global, store: &Store) -> Result<Value, AllocError>
     ensures { IfOk result (λ v. view v ≡ store_data (store_tree store.now)) }
 {
-    let value = operations_value(alloc, &store.value)?;
-    json!(in alloc; [store.word, value])
+    let mut items = Vec::new(alloc);
+    put_number(&mut items, store.word as u64)?;
+    put(&mut items, operations_value(alloc, &store.value)?)?;
+    Ok(Value::Array(items))
 }
 
 fn stores_value(alloc: Global, act: &[Store]) -> Result<Value, AllocError>
@@ -122,11 +147,23 @@ fn stores_value(alloc: Global, act: &[Store]) -> Result<Value, AllocError>
     Ok(Value::Array(stores))
 }
 
+/// A block's name, its line and a place.
+fn head(alloc: Global, name: &str, line: u32, place: usize) -> Result<Vec<Value>, AllocError>
+    ensures { IfOk result (λ items. map view items.items ≡ string_data name.now ∷ number_data line ∷ number_data place ∷ []) }
+{
+    let mut items = Vec::new(alloc);
+    put_text(alloc, &mut items, name)?;
+    put_number(&mut items, u64::from(line))?;
+    put_number(&mut items, place as u64)?;
+    Ok(items)
+}
+
 fn do_value(alloc: Global, line: u32, next: usize, act: &[Store]) -> Result<Value, AllocError>
     ensures { IfOk result (λ v. view v ≡ block_data (do_block line next (map store_tree act.now))) }
 {
-    let act = stores_value(alloc, act)?;
-    json!(in alloc; ["do", line, next, act])
+    let mut items = head(alloc, "do", line, next)?;
+    put(&mut items, stores_value(alloc, act)?)?;
+    Ok(Value::Array(items))
 }
 
 fn await_value(
@@ -138,9 +175,10 @@ fn await_value(
 ) -> Result<Value, AllocError>
     ensures { IfOk result (λ v. view v ≡ block_data (await_block line next guard.now (map store_tree act.now))) }
 {
-    let guard = operations_value(alloc, guard)?;
-    let act = stores_value(alloc, act)?;
-    json!(in alloc; ["await", line, next, guard, act])
+    let mut items = head(alloc, "await", line, next)?;
+    put(&mut items, operations_value(alloc, guard)?)?;
+    put(&mut items, stores_value(alloc, act)?)?;
+    Ok(Value::Array(items))
 }
 
 fn test_value(
@@ -152,8 +190,10 @@ fn test_value(
 ) -> Result<Value, AllocError>
     ensures { IfOk result (λ v. view v ≡ block_data (test_block line yes_place no_place guard.now)) }
 {
-    let guard = operations_value(alloc, guard)?;
-    json!(in alloc; ["test", line, yes_place, no_place, guard])
+    let mut items = head(alloc, "test", line, yes_place)?;
+    put_number(&mut items, no_place as u64)?;
+    put(&mut items, operations_value(alloc, guard)?)?;
+    Ok(Value::Array(items))
 }
 
 fn end_value(alloc: Global) -> Result<Value, AllocError>
@@ -205,11 +245,13 @@ fn parts_value(alloc: Global, parts: &[PartCode]) -> Result<Value, AllocError>
 fn word_value(alloc: Global, name: &str, width: u32, fixed: bool) -> Result<Value, AllocError>
     ensures { IfOk result (λ v. view v ≡ word_data (record { name = name.now; width = width; fixed = fixed })) }
 {
+    let mut items = Vec::new(alloc);
+    put_text(alloc, &mut items, name)?;
+    put_number(&mut items, u64::from(width))?;
     if fixed {
-        json!(in alloc; [name, width, "fixed"])
-    } else {
-        json!(in alloc; [name, width])
+        put_text(alloc, &mut items, "fixed")?;
     }
+    Ok(Value::Array(items))
 }
 
 fn words_value(alloc: Global, layout: &Layout) -> Result<Value, AllocError>
