@@ -3,5 +3,4 @@ pub mod CodeOfStatements
 pub mod Views
 pub mod Limits
 pub mod Legal
-pub mod Listed
 pub mod LegalSteps

@@ -3,7 +3,6 @@ pub mod Code
 pub mod BlockView
 pub mod Legal
 pub mod CodeTrees
-pub mod Listing
 pub mod Laws
 pub mod Lawful
 pub mod Inner

@@ -1,6 +1,6 @@
 //! Statements as blocks.
 
-ghost use Rattle.std.specs.Prelude.{◌≡◌, ◌+◌, ◌^◌, ◌<◌, ◌++◌, map, length, OnOk, IfOk};
+ghost use Rattle.std.specs.Prelude.{◌≡◌, ◌+◌, ◌^◌, ◌<◌, ◌++◌, [], ◌∷◌, map, length, OnOk, IfOk};
 ghost use Rattle.rg_tree.specs.ProgramView.{statement, items};
 ghost use Rattle.rg_code.specs.Code.{count_of, count_of_items, code_of, code_of_items, part_code};
 ghost use Rattle.rg_code.specs.BlockView.{block};
@@ -43,6 +43,14 @@ fn count_items(list: &Items) -> usize
     }
 }
 
+/// Adds an item at the end of a list. It stands apart so that a call that is refused memory drops no block in place, kind by kind.
+fn put<T: Drop>(items: &mut Vec<T>, item: T) -> Result<(), AllocError>
+    ensures { OnOk result (items.new.items ≡ items.old.items ++ item ∷ []) }
+{
+    items.push(item)?;
+    Ok(())
+}
+
 /// Adds the blocks of a statement, after which comes the block at place `next`.
 #[cycle(emit)]
 fn emit(alloc: Global, code: &mut Vec<Block>, s: &Stmt, next: usize) -> Result<(), AllocError>
@@ -51,19 +59,15 @@ fn emit(alloc: Global, code: &mut Vec<Block>, s: &Stmt, next: usize) -> Result<(
     ensures count { OnOk result (length code.new.items ≡ length code.old.items + count_of (statement s.now)) }
 {
     match s {
-        Stmt::Skip(line) => {
-            code.push(Block::Do(*line, next, Vec::new(alloc)))?;
-            Ok(())
-        }
+        Stmt::Skip(line) => { put(code, Block::Do(*line, next, Vec::new(alloc))) }
         Stmt::Assign(line, a) => {
-            code.push(Block::Do(*line, next, one_store(alloc, a)?))?;
-            Ok(())
+            let act = one_store(alloc, a)?;
+            put(code, Block::Do(*line, next, act))
         }
         Stmt::Await(line, guard, act) => {
             let guard = test(alloc, guard)?;
             let act = stores(alloc, act)?;
-            code.push(Block::Await(*line, next, guard, act))?;
-            Ok(())
+            put(code, Block::Await(*line, next, guard, act))
         }
         Stmt::Seq(_, first, rest) => {
             let middle = code.len() + count(first);
@@ -74,14 +78,14 @@ fn emit(alloc: Global, code: &mut Vec<Block>, s: &Stmt, next: usize) -> Result<(
             let yes_place = code.len() + 1;
             let no_place = yes_place + count(first);
             let guard = test(alloc, guard)?;
-            code.push(Block::Test(*line, yes_place, no_place, guard))?;
+            put(code, Block::Test(*line, yes_place, no_place, guard))?;
             emit(alloc, code, first, next)?;
             emit(alloc, code, second, next)
         }
         Stmt::While(line, guard, body) => {
             let place = code.len();
             let guard = test(alloc, guard)?;
-            code.push(Block::Test(*line, place + 1, next, guard))?;
+            put(code, Block::Test(*line, place + 1, next, guard))?;
             emit(alloc, code, body, place)
         }
     }
@@ -120,6 +124,6 @@ pub(crate) fn body_blocks(alloc: Global, body: &Stmt) -> Result<Vec<Block>, Allo
     let mut code = Vec::new(alloc);
     let end = count(body);
     emit(alloc, &mut code, body, end)?;
-    code.push(Block::End)?;
+    put(&mut code, Block::End)?;
     Ok(code)
 }

@@ -7,6 +7,5 @@ pub mod code;
 pub mod compile;
 mod emit;
 pub mod laws;
-pub mod listing;
 pub mod operation;
 mod postfix;

@@ -3,7 +3,7 @@ use Rattle.std.proofs.Common.{◌≡◌, ℕ, ◌+◌, ◌<◌, Option, None, Li
 use Rattle.std.proofs.lemmas.Bool.Decides.{eqb_tells}
 use Rattle.std.proofs.Math.ListN.{get_or-append}
 use Rattle.std.proofs.Math.Seq.{get_or-append_seam}
-use Rattle.rg_hints.specs.declared.sections.SectionBytes.{SectionBytes}
+use Rattle.rg_hint_lines.specs.declared.sections.SectionBytes.{SectionBytes}
 use Rattle.rg_hints.specs.Placed.{IsPlaced, ArePlaced}
 
 -- one more section, or none

@@ -5,7 +5,7 @@ use Rattle.std.proofs.lemmas.Bool.{cond-false, ne_eqb}
 use Rattle.std.proofs.lemmas.List.Elements.{All-head, All-tail}
 use Rattle.std.proofs.Math.Seq.{drop-cons}
 use Rattle.rg_clauses.specs.ClauseLists.{SatisfiesClause, IsUnsatisfiable}
-use Rattle.rg_hints.specs.declared.sections.SectionBytes.{SectionBytes}
+use Rattle.rg_hint_lines.specs.declared.sections.SectionBytes.{SectionBytes}
 use Rattle.rg_hints.specs.Proved.{section_for}
 use Rattle.rg_hints.specs.Placed.{text_of, HasRoom, AreFrom}
 

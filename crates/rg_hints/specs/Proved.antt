@@ -9,10 +9,10 @@ use Rattle.rg_words.specs.declared.refusal.Place.TheVariants.{Condition}
 use Rattle.rg_words.specs.Refusals.{no_memory, refused_in, refused_at}
 use Rattle.rg_tree.specs.ConditionTrees.{ConditionTree}
 use Rattle.rg_clauses.specs.Conditions.{clauses_of_condition}
-use Rattle.rg_hints.specs.Lines.{Section}
-use Rattle.rg_hints.specs.Reading.{hint_lines_of, section_with}
+use Rattle.rg_hint_lines.specs.Lines.{Section}
+use Rattle.rg_hint_lines.specs.Reading.{hint_lines_of, section_with}
 use Rattle.rg_hints.specs.Verdict.{IsClosed, IsSectionRefusal}
-use Rattle.rg_hints.specs.Sections.{SectionText, sections_of}
+use Rattle.rg_hint_lines.specs.Sections.{SectionText, sections_of}
 
 -- the section of the condition with this number, if it has one
 abbrev pub section_for : List SectionText → ℕ → Option SectionText

@@ -6,13 +6,13 @@ ghost use Rattle.rg_tree.specs.Conditions.{condition_tree, ConditionHolds};
 ghost use Rattle.rg_tree.specs.RuleConditions.{AllConditionsHold};
 ghost use Rattle.rg_clauses.specs.ClauseLists.{IsUnsatisfiable};
 ghost use Rattle.rg_hints.specs.Proved.{section_for, Closes, AreClosedBy, IsProvedBy, AllProvedFrom, AreProved, IsUnclosed, IsConditionRefusal, IsFirstRefusal, IsProofsRefusal};
-ghost use Rattle.rg_hints.specs.Sections.{SectionText};
+ghost use Rattle.rg_hint_lines.specs.Sections.{SectionText};
 ghost use Rattle.rg_hints.specs.Placed.{text_of, HasRoom, AreFrom, HasSections, IsHeadsRefusal, ArePlaced};
 
-use crate::lines::Lines;
 use crate::section::{Checker, OneThread, has_empty_clause};
-use crate::sections::{SectionBytes, read_sections};
 use rg_clauses::Clauses;
+use rg_hint_lines::lines::Lines;
+use rg_hint_lines::sections::{SectionBytes, read_sections};
 use rg_tree::condition::Condition;
 use rg_words::limits::MOST_PROOF_BYTES;
 use rg_words::{Place, Refusal, RefusalNumber, SourceFile};

@@ -15,7 +15,7 @@ use Rattle.rg_hints.specs.Normal.{section_text}
 use Rattle.rg_hints.specs.Verdict.{IsClosed}
 use Rattle.rg_hints.specs.Proved.{AreProved}
 use Rattle.rg_pool.specs.Parts.{ArePartProved}
-use Rattle.rg_code.specs.Listing.{listing_data}
+use Rattle.rg_listing.specs.Listing.{listing_data}
 use Rattle.rg_code.specs.CodeTrees.{code_blocks, names_of_code}
 use Rattle.rg_code.specs.declared.code.Code.{Code}
 use Rattle.rgc.specs.Accepted.{conditions_of, AreAccepted, IsBuiltText}

@@ -6,13 +6,13 @@ ghost use Rattle.rg_words.specs.Written.{CanCount};
 ghost use Rattle.serde_json.specs.Written.{compact_text};
 ghost use Rattle.rg_tree.specs.ProgramTrees.{program as program_tree};
 ghost use Rattle.rg_tree.specs.Printed.{formula_text};
-ghost use Rattle.rg_code.specs.Listing.{listing_data};
+ghost use Rattle.rg_listing.specs.Listing.{listing_data};
 ghost use Rattle.rgc_print.specs.Stopped.{IsCut};
 ghost use Rattle.rgc_print.specs.Conditions.{condition_line, condition_lines, conditions_text};
 ghost use Rattle.rgc.specs.Stages.{derived_program, derived_lines};
 
 use rg_code::code::Code;
-use rg_code::listing::listing;
+use rg_listing::listing::listing;
 use rg_tree::print::print;
 use rg_tree::program::Program;
 use rg_tree::typing::typed_trees_fit;

@@ -6,7 +6,7 @@ use Rattle.std.proofs.Math.Logic.{∥∥₁_map}
 use Rattle.std.specs.Io.KnownBytes.{Appends}
 use Rattle.serde_json.specs.Written.{compact_text}
 use Rattle.rg_code.specs.declared.code.Code.{Code}
-use Rattle.rg_code.specs.Listing.{listing_data}
+use Rattle.rg_listing.specs.Listing.{listing_data}
 use Rattle.rgc.specs.Stages.{emitted_program}
 use Rattle.rgc_print.proofs.Listings.{lawful_over}
 use Rattle.rgc.specs.Accepted.{IsAcceptTextRefusal}

@@ -1,0 +1,7 @@
+-- Literals in 32 bits.
+use Rattle.std.proofs.Common.{◌≡◌, ℤ, to_z, of_z, w32, arith}
+use Rattle.std.proofs.lemmas.Int.{to_z-of_z, fits_signed_from_abs}
+use Rattle.rg_hint_lines.specs.Lines.{IsHintLiteral}
+
+pub literal_back : (x : ℤ) → IsHintLiteral x → to_z w32 (of_z w32 x) ≡ x
+literal_back x h = to_z-of_z w32 x (fits_signed_from_abs w32 x (omega (arith, h.within)))

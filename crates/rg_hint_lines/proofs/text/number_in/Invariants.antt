@@ -1,0 +1,14 @@
+use Rattle.std.proofs.Common.{◌≡◌, ◌<◌, ◌≤◌, ◌+◌, ◌*◌, take, true}
+use Rattle.std.specs.Str.{all_ascii_digits}
+use Rattle.std.specs.Str.Parse.{digits_value}
+use Rattle.rg_words.specs.declared.limits.TheConstants.{MOST_HINT_NUMBER}
+use Rattle.rg_hint_lines.proofs.text.number_in.Given as goal
+
+-- what the digits so far write, where it is in range
+abbrev pub invariant-loop-byte : goal.invariant-loop-byte
+invariant-loop-byte l = record {
+  digits : all_ascii_digits (take l.byte-index l.field) ≡ true;
+  bound : l.number ≤ 10 * MOST_HINT_NUMBER + 9;
+  small : l.number ≤ MOST_HINT_NUMBER → l.number ≡ digits_value 10 (take l.byte-index l.field);
+  large : MOST_HINT_NUMBER < l.number → MOST_HINT_NUMBER < digits_value 10 (take l.byte-index l.field);
+}

@@ -1,0 +1,3 @@
+-- What only contracts of private functions, ghost fields and proofs speak of: no public contract reaches it.
+pub mod LineForms
+pub mod SectionForms

@@ -1,0 +1,9 @@
+pub mod Lines
+pub mod Zipped
+pub mod Text
+pub mod Reading
+pub mod Normal
+pub mod Sections
+pub mod Located
+pub mod LineEnds
+pub mod Inner

@@ -1,0 +1,4 @@
+//! The listing of a code.
+#![tactic(auto)]
+
+pub mod listing;
