@@ -242,9 +242,12 @@ fn add_part(expansion: &mut Expansion<'_>, heads: &Heads, owned: List, written: 
     expansion.scope.want_stored(stored.is_ok());
 }
 
-/// Works out the body of the last part.
+/// Works out the body of the last part. Behind a fault the blocks are no whole tree, and nothing is asked of them.
 fn take_body(expansion: &mut Expansion<'_>, written: PartWritten) {
     let body = expansion.take_block(written.body, written.span);
+    if expansion.scope.is_stopped() {
+        return;
+    }
     let place = expansion.parts.len().saturating_sub(1);
     let Some(mut part) = expansion.parts.get(place).copied() else {
         return;
