@@ -77,7 +77,8 @@ const NUMBER_TOO_LARGE: Entry = Entry {
     name: "NumberTooLarge",
     when: "a number that is too large for where it stands",
     meaning: "In a comparison or an assignment a number is below 2 to the width of its word; a shift count\n\
-is at most 63; in a start or a move a value is below 2 to the width of its word.",
+is at most 63; in a start or a move a value is below 2 to the width of its word; the number of a\n\
+line or of a statement, and the one behind `at`, are at most 4,294,967,295.",
     remedy: "Make the word wider or the number smaller.",
     example: "\n\
 An example: `rgc clauses text` with\n\

@@ -1,5 +1,8 @@
 //! The files of a command, and what they are read as.
 
+ghost use Rattle.std.specs.Prelude.{◌≡◌};
+ghost use Rattle.rgc_told.specs.Telling.{source_of};
+
 use rg_parse::{moves, program, show, start};
 use rg_rules::Derivation;
 use rg_syntax::TextKind;
@@ -21,7 +24,9 @@ pub struct Sources<'a> {
 
 impl<'a> Sources<'a> {
     /// The bytes of a file.
-    pub fn of(&self, file: SourceFile) -> Option<&'a [u8]> {
+    pub fn of(&self, file: SourceFile) -> Option<&'a [u8]>
+        ensures { result ≡ source_of self.now file }
+    {
         match file {
             SourceFile::Text => self.text,
             SourceFile::Derivation => self.derivation,

@@ -1,7 +1,10 @@
 //! What is told below a refusal.
 
+ghost use Rattle.std.specs.Prelude.{◌≡◌, false, None, Some, [], ◌++◌, MatchOption, IfOk, OnOk, string_bytes};
+ghost use Rattle.rgc_told.specs.Telling.{named_line, tells_more, said, IsToldAt, IsTold};
+
 use crate::derivations::line_told;
-use crate::lines::{line_of, line_start, push_shown};
+use crate::lines::{Span, line_of, line_start, push_marked, within};
 use crate::meaning::{bad_byte_told, meaning_told};
 use crate::slips::{unexpected, unfinished};
 use crate::sources::Sources;
@@ -11,14 +14,21 @@ use rg_text::token::Token;
 use rg_words::{Place, Refusal, RefusalNumber, SourceFile};
 use std::alloc::{AllocError, Global};
 
-/// A place of a file, and what is said of it.
+/// The line that a refusal names.
+#[derive(Clone, Copy)]
+struct NamedLine<'a> {
+    /// The file, and its bytes.
+    file: SourceFile,
+    source: &'a [u8],
+    /// The line's number, from 1, and its bytes without the end.
+    number: u64,
+    bytes: &'a [u8],
+}
+
+/// A part of a line, and what is said of it.
 #[derive(Drop)]
 struct Note {
-    /// The line, from 1.
-    number: u64,
-    /// Where it is in the line, from 0, and how many bytes it has.
-    column: usize,
-    width: usize,
+    span: Span,
     /// What is said; no text where nothing is.
     sentence: String,
 }
@@ -72,14 +82,14 @@ fn sentence_of(
     }
 }
 
-/// The note of a refusal at a token of a file; none where it is at no token.
+/// The note of a refusal at a token of a line; none where it is at no token of it.
 fn note_at_token(
     alloc: Global,
     refusal: &Refusal,
     sources: &Sources<'_>,
-    file: SourceFile,
-    source: &[u8],
+    line: NamedLine<'_>,
 ) -> Result<Option<Note>, AllocError> {
+    let NamedLine { file, source, .. } = line;
     let Some(text) = sources.kind_of(file) else {
         return Ok(None);
     };
@@ -93,6 +103,9 @@ fn note_at_token(
     let Some(token) = tokens.get(place) else {
         return Ok(None);
     };
+    if u64::from(token.line) != line.number {
+        return Ok(None);
+    }
     let sentence = sentence_of(
         alloc,
         refusal.number,
@@ -104,38 +117,63 @@ fn note_at_token(
         token,
     )?;
     Ok(Some(Note {
-        number: u64::from(token.line),
-        column: token.start.saturating_sub(line_start(source, token.start)),
-        width: token.end.saturating_sub(token.start),
+        span: Span {
+            column: token.start.saturating_sub(line_start(source, token.start)),
+            width: token.end.saturating_sub(token.start),
+        },
         sentence,
     }))
 }
 
-/// The note of a byte that begins no token.
-fn note_at_byte(alloc: Global, source: &[u8], number: u64) -> Result<Option<Note>, AllocError> {
-    let line = line_of(source, number);
+/// The note of a byte of a line that begins no token.
+fn note_at_byte(alloc: Global, line: &[u8]) -> Result<Option<Note>, AllocError> {
     let Some(column) = bad_byte(line) else {
         return Ok(None);
     };
     let byte = line.get(column).copied().unwrap_or(b' ');
     Ok(Some(Note {
-        number,
-        column,
-        width: 1,
+        span: Span { column, width: 1 },
         sentence: String::from_str(alloc, bad_byte_told(byte))?,
     }))
 }
 
-/// The note of a line of a file that has no tokens, or at none of them.
-fn note_at_line(alloc: Global, source: &[u8], number: u64) -> Note {
-    let line = line_of(source, number);
+/// The note of a whole line behind its blanks, of which nothing is said.
+fn note_at_line(alloc: Global, line: &[u8]) -> Note
+    ensures { string_bytes result.sentence ≡ [] }
+{
     let column = line.iter().position(|byte| *byte != b' ').unwrap_or(0);
     Note {
-        number,
-        column,
-        width: line.len().saturating_sub(column),
+        span: Span {
+            column,
+            width: line.len() - column,
+        },
         sentence: String::new(alloc),
     }
+}
+
+/// The note of a refusal of which more can be said than when it is given.
+fn telling_note(
+    alloc: Global,
+    refusal: &Refusal,
+    sources: &Sources<'_>,
+    line: NamedLine<'_>,
+) -> Result<Note, AllocError> {
+    let found = if refusal.number == RefusalNumber::BadByte {
+        note_at_byte(alloc, line.bytes)?
+    } else {
+        note_at_token(alloc, refusal, sources, line)?
+    };
+    match found {
+        Some(note) => Ok(note),
+        None => Ok(note_at_line(alloc, line.bytes)),
+    }
+}
+
+/// Whether more can be said of a fault than when it is given: of those of texts and of derivations.
+fn tells_more(number: RefusalNumber) -> bool
+    ensures { result ≡ tells_more number }
+{
+    number.code() <= 27
 }
 
 /// The note of a refusal at a line of a file.
@@ -143,23 +181,76 @@ fn note_of(
     alloc: Global,
     refusal: &Refusal,
     sources: &Sources<'_>,
-    file: SourceFile,
-    source: &[u8],
-    number: u64,
-) -> Result<Note, AllocError> {
-    let found = if refusal.number == RefusalNumber::BadByte {
-        note_at_byte(alloc, source, number)?
+    line: NamedLine<'_>,
+) -> Result<Note, AllocError>
+    ensures { IfOk result (λ note. tells_more refusal.now.number ≡ false → string_bytes note.sentence ≡ []) }
+{
+    if tells_more(refusal.number) {
+        telling_note(alloc, refusal, sources, line)
     } else {
-        note_at_token(alloc, refusal, sources, file, source)?
-    };
-    match found {
-        Some(note) => Ok(note),
-        None => Ok(note_at_line(alloc, source, number)),
+        Ok(note_at_line(alloc, line.bytes))
     }
 }
 
-/// What is told below a refusal's line: the line of the file with a mark under the token, and a sentence that says what is wrong and what
-/// could stand there. `when` is the sentence where no other is known, and it stands alone where the refusal names no line.
+/// The line that a refusal names; none where it names no line of a file that is there.
+fn named_line<'a>(refusal: &Refusal, sources: &Sources<'a>) -> Option<NamedLine<'a>>
+    ensures { let line = named_line sources.now refusal.now.file refusal.now.place in
+        MatchOption result (line ≡ None) (λ found. line ≡ Some (found.number, found.bytes.now)) }
+{
+    let file = refusal.file?;
+    let Some(Place::Line(number)) = refusal.place else {
+        return None;
+    };
+    let source = sources.of(file)?;
+    let bytes = line_of(source, number)?;
+    Some(NamedLine {
+        file,
+        source,
+        number,
+        bytes,
+    })
+}
+
+/// A sentence, or, where it has no text, when the refusal is given.
+fn push_said(text: &mut Vec<u8>, sentence: &str, when: &str) -> Result<(), AllocError>
+    ensures { OnOk result (text.new.items ≡ text.old.items ++ said sentence.now when.now) }
+{
+    let said = if sentence.is_empty() { when } else { sentence };
+    text.extend_from_slice(said.as_bytes())?;
+    text.push(b'\n')?;
+    Ok(())
+}
+
+/// The sentence alone, where the refusal names no line.
+fn told_alone(alloc: Global, when: &str) -> Result<Vec<u8>, AllocError>
+    ensures { IfOk result (λ text. text.items ≡ said [] when.now) }
+{
+    let mut text = Vec::new(alloc);
+    push_said(&mut text, "", when)?;
+    Ok(text)
+}
+
+/// The line that the refusal names with a mark, and the sentence.
+fn told_at(
+    alloc: Global,
+    refusal: &Refusal,
+    sources: &Sources<'_>,
+    line: NamedLine<'_>,
+    when: &str,
+) -> Result<Vec<u8>, AllocError>
+    ensures { IfOk result (λ text. IsToldAt refusal.now.number (line.entry.number, line.entry.bytes.now) when.now text.items) }
+{
+    let note = note_of(alloc, refusal, sources, line)?;
+    let span = within(note.span, line.bytes);
+    let mut text = Vec::new(alloc);
+    push_marked(alloc, &mut text, line.number, line.bytes, span)?;
+    push_said(&mut text, note.sentence.as_str(), when)?;
+    Ok(text)
+}
+
+/// What is told below a refusal's line: the line of the file with a mark under some of its bytes, and a sentence that says what is wrong and
+/// what could stand there. `when` is the sentence where no other is known, and it stands alone where the refusal names no line of a file that
+/// is there.
 ///
 /// # Errors
 ///
@@ -169,23 +260,11 @@ pub fn told(
     refusal: &Refusal,
     sources: &Sources<'_>,
     when: &str,
-) -> Result<Vec<u8>, AllocError> {
-    let mut text = Vec::new(alloc);
-    let mut sentence = String::new(alloc);
-    if let (Some(file), Some(Place::Line(number))) = (refusal.file, refusal.place) {
-        if let Some(source) = sources.of(file) {
-            let note = note_of(alloc, refusal, sources, file, source, number)?;
-            let line = line_of(source, note.number);
-            push_shown(alloc, &mut text, note.number, line, note.column, note.width)?;
-            sentence = note.sentence;
-        }
+) -> Result<Vec<u8>, AllocError>
+    ensures { IfOk result (λ text. IsTold refusal.now sources.now when.now text.items) }
+{
+    match named_line(refusal, sources) {
+        None => told_alone(alloc, when),
+        Some(line) => told_at(alloc, refusal, sources, line, when),
     }
-    let last = if sentence.is_empty() {
-        when
-    } else {
-        sentence.as_str()
-    };
-    text.extend_from_slice(last.as_bytes())?;
-    text.push(b'\n')?;
-    Ok(text)
 }
