@@ -17,8 +17,10 @@ use std::alloc::{AllocError, Global};
 pub struct OutlineFiles {
     /// The program.
     pub text: Vec<u8>,
-    /// The lines that derive its parts.
+    /// The lines that derive its parts. They may be longer than a file may be.
     pub derivation: Vec<u8>,
+    /// The places of the derivation at which a further piece of it begins: a piece is whole lines, as many as fit into a file.
+    pub cuts: Vec<usize>,
     /// A formula to show that says that no state meets the program's pre.
     pub unmet: Vec<u8>,
 }
@@ -87,7 +89,7 @@ enum Wanted<'w> {
 /// Prints the files of an outline that was worked out.
 fn print_files(expansion: &Expansion<'_>, files: &mut OutlineFiles) -> Result<(), Fault> {
     push_text(expansion, &mut files.text)?;
-    push_derivation(expansion, &mut files.derivation)?;
+    push_derivation(expansion, &mut files.derivation, &mut files.cuts)?;
     push_unmet(expansion, &mut files.unmet)
 }
 
@@ -206,12 +208,14 @@ impl OutlineFiles {
     ///
     /// # Errors
     ///
-    /// - `NoFiles::Told`, with the first fault of the tokens, else of the shape, else of the meaning, else that a file would be too large.
+    /// - `NoFiles::Told`, with the first fault of the tokens, else of the shape, else of the meaning, else that the text or a line of the derivation
+    ///   would be too large for a file, or the derivation as a whole for this program.
     /// - `NoFiles::Memory` where memory is refused.
     pub fn of(alloc: Global, outline: OutlineSource<'_>) -> Result<OutlineFiles, NoFiles> {
         let mut files = OutlineFiles {
             text: Vec::new(alloc),
             derivation: Vec::new(alloc),
+            cuts: Vec::new(alloc),
             unmet: Vec::new(alloc),
         };
         print(alloc, outline, Wanted::Files(&mut files))?;

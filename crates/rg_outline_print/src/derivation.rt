@@ -9,6 +9,9 @@ use std::alloc::AllocError;
 /// The most bytes of a phrase in the map.
 const MOST_PHRASE: usize = 70;
 
+/// The most bytes of a derivation, which may be longer than a file: what is held of it at once is bounded.
+const MOST_DERIVATION_BYTES: usize = 67_108_864;
+
 fn rule_text(rule: Rule) -> &'static str {
     match rule {
         Rule::Basic => "basic",
@@ -44,21 +47,44 @@ fn push_tight(text: &mut Vec<u8>, loose: &[u8]) -> Result<(), Fault> {
     Ok(())
 }
 
-/// Adds the derivation, as `rg_parse::derivation` reads it, without a space that no token needs.
+/// Adds the derivation, without a space that no token needs, and the places of the text at which a further piece of it begins. A piece is whole
+/// lines, as many as fit into a file, and `rg_parse::derivation` reads each.
 ///
 /// # Errors
 ///
-/// - `MeaningFault::TooLarge` where it has more than `MOST_TEXT_BYTES` bytes.
+/// - `MeaningFault::TooLarge` where a line has more than `MOST_TEXT_BYTES` bytes, or the text has more than `MOST_DERIVATION_BYTES`.
 /// - `FaultKind::Memory`.
-pub fn push_derivation(expansion: &Expansion<'_>, text: &mut Vec<u8>) -> Result<(), Fault> {
+pub fn push_derivation(
+    expansion: &Expansion<'_>,
+    text: &mut Vec<u8>,
+    cuts: &mut Vec<usize>,
+) -> Result<(), Fault> {
+    let mut start = text.len();
     for (place, line) in expansion.lines.iter().enumerate() {
+        let begin = text.len();
         push_head(expansion, text, place.saturating_add(1), *line)?;
         push_claims(expansion, text, *line)?;
-        if text.len() > MOST_TEXT_BYTES {
-            return Err(too_large());
-        }
+        start = piece_with(cuts, start, begin, text.len())?;
     }
     Ok(())
+}
+
+/// Where the piece begins that has a line from `begin` to `end`: it is the last one, which begins at `start`; or a new one where the line doesn't
+/// fit into that.
+fn piece_with(
+    cuts: &mut Vec<usize>,
+    start: usize,
+    begin: usize,
+    end: usize,
+) -> Result<usize, Fault> {
+    if end > MOST_DERIVATION_BYTES || end.saturating_sub(begin) > MOST_TEXT_BYTES {
+        return Err(too_large());
+    }
+    if end.saturating_sub(start) <= MOST_TEXT_BYTES {
+        return Ok(start);
+    }
+    cuts.push(begin)?;
+    Ok(begin)
 }
 
 /// Adds the first row of a line.

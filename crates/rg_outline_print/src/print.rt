@@ -337,7 +337,7 @@ pub(crate) fn push_spaces(text: &mut Vec<u8>, count: usize) -> Result<(), Fault>
     Ok(())
 }
 
-/// What is told where a text or a derivation has more bytes than a file may have.
+/// What is told where a text, or a line of a derivation, has more bytes than a file may have, or a derivation more than it may have.
 pub(crate) fn too_large() -> Fault {
     Fault::meaning(MeaningFault::TooLarge, Span { start: 0, end: 0 })
 }

@@ -12,6 +12,7 @@ ghost use Rattle.rg_rules.specs.Faults.{Derives};
 ghost use Rattle.rg_code.specs.declared.code.Code.{Code};
 ghost use Rattle.rg_code.specs.Lawful.{IsLawful};
 
+mod pieces;
 mod steps;
 
 use rg_code::checked::Checked;
