@@ -1,2 +1,4 @@
 pub mod Done
 pub mod DoneAsJson
+pub mod Stopped
+pub mod Inner

@@ -1,17 +1,19 @@
 //! The commands over a text, a derivation, proofs and a run's files.
 
-ghost use Rattle.std.specs.Prelude.{◌≡◌, ℕ, List, IsTrue, Option, Some, None, false, OnOk, OnErr};
+ghost use Rattle.std.specs.Prelude.{◌≡◌, ℕ, List, IsTrue, Option, Some, None, false, OnOk, OnErr, IfErr};
 ghost use Rattle.std.specs.Borrow.{Bor};
 ghost use Rattle.rg_words.specs.Written.{CanCount};
 ghost use Rattle.rgc_line.specs.declared.command.Command.TheVariants.{Number, Check, Conditions, Prove, Emit, Run, Valid, Clauses, Find, Explain};
+ghost use Rattle.rgc_line.specs.declared.command.Format.TheVariants.{Plain};
 ghost use Rattle.rgc_perform.specs.Done.{IsDone};
+ghost use Rattle.rgc_perform.specs.Inner.Stops.{Stops};
 
 use crate::explaining::print_explanation;
-use crate::files::{Files, derivation_of, proofs_of, read_where_named, text_of};
+use crate::files::{Files, derivation_of, inputs, proofs_of, text_of, three_files, two_files};
 use crate::ranges::{NO_RANGE, range_of};
 use crate::stops::Stop;
 use rg_find::Watcher;
-use rg_words::Out;
+use rg_words::{Out, Taker, write_all};
 use rgc_explain::entry_of;
 use rgc_formulas::print_formulas;
 use rgc_line::Chosen;
@@ -27,7 +29,8 @@ use std::thread::Threads;
 
 /// Done only where a proof was found.
 pub(crate) fn proved(is_found: bool) -> Result<(), Stop>
-    ensures { OnOk result (IsTrue is_found) }
+    ensures found { OnOk result (IsTrue is_found) }
+    ensures told { IfErr result (λ stop. (stop ≡ Stop.Told) × (is_found ≡ false)) }
 {
     if is_found {
         return Ok(());
@@ -40,8 +43,10 @@ pub(crate) fn number<W: Out>(alloc: Global, files: &Files<'_>, out: &mut W) -> R
     requires { CanCount (W.failures out.old) }
     ensures done { (t : Bor (List ℕ)) → OnOk result (IsDone (Number t) files.now (W.contents out.old) (W.contents out.new)) }
     ensures failures { OnOk result (W.failures out.new ≡ W.failures out.old) }
+    ensures stopped { (t : Bor (List ℕ)) → IfErr result (Stops Plain (Number t) files.now (W.contents out.old) (W.contents out.new) (W.failures out.old) (W.failures out.new)) }
 {
-    print_numbers(alloc, text_of(files)?, out)?;
+    let text = text_of(files)?;
+    print_numbers(alloc, text, out)?;
     Ok(())
 }
 
@@ -56,10 +61,9 @@ pub(crate) fn check<R: Threads + Sync, W: Out>(
     requires { CanCount (W.failures out.old) }
     ensures done { (t d p : Bor (List ℕ)) → OnOk result (IsDone (Check t d p) files.now (W.contents out.old) (W.contents out.new)) }
     ensures failures { OnOk result (W.failures out.new ≡ W.failures out.old) }
+    ensures stopped { (t d p : Bor (List ℕ)) → IfErr result (Stops Plain (Check t d p) files.now (W.contents out.old) (W.contents out.new) (W.failures out.old) (W.failures out.new)) }
 {
-    let text = text_of(files)?;
-    let derivation = derivation_of(files)?;
-    let proofs = proofs_of(files)?;
+    let (text, derivation, proofs) = three_files(files)?;
     print_accepted(rt, alloc, threads, text, derivation, proofs, out)?;
     Ok(())
 }
@@ -74,9 +78,9 @@ pub(crate) fn conditions<W: Out>(
     requires { CanCount (W.failures out.old) }
     ensures done { (t d : Bor (List ℕ)) → OnOk result (IsDone (Conditions t d has_formulas) files.now (W.contents out.old) (W.contents out.new)) }
     ensures failures { OnOk result (W.failures out.new ≡ W.failures out.old) }
+    ensures stopped { (t d : Bor (List ℕ)) → IfErr result (Stops Plain (Conditions t d has_formulas) files.now (W.contents out.old) (W.contents out.new) (W.failures out.old) (W.failures out.new)) }
 {
-    let text = text_of(files)?;
-    let derivation = derivation_of(files)?;
+    let (text, derivation) = two_files(files)?;
     if has_formulas {
         print_formulas(alloc, text, derivation, out)?;
         return Ok(());
@@ -98,9 +102,9 @@ fn prove_all<R: Threads + Sync, W: Out, P: Watcher + Copy + Sync>(
     requires { CanCount (W.failures out.old) }
     ensures done { (t d : Bor (List ℕ)) → OnOk result (IsDone (Prove t d steps None) files.now (W.contents out.old) (W.contents out.new)) }
     ensures failures { OnOk result (W.failures out.new ≡ W.failures out.old) }
+    ensures stopped { (t d : Bor (List ℕ)) → IfErr result (Stops Plain (Prove t d steps None) files.now (W.contents out.old) (W.contents out.new) (W.failures out.old) (W.failures out.new)) }
 {
-    let text = text_of(files)?;
-    let derivation = derivation_of(files)?;
+    let (text, derivation) = two_files(files)?;
     proved(print_proofs(rt, alloc, threads, text, derivation, steps, out, watcher)?)
 }
 
@@ -118,12 +122,12 @@ fn prove_part<R: Threads + Sync, W: Out, P: Watcher + Copy + Sync>(
     requires { CanCount (W.failures out.old) }
     ensures done { (t d : Bor (List ℕ)) → OnOk result (IsDone (Prove t d steps (Some range.entry)) files.now (W.contents out.old) (W.contents out.new)) }
     ensures failures { OnOk result (W.failures out.new ≡ W.failures out.old) }
+    ensures stopped { (t d : Bor (List ℕ)) → IfErr result (Stops Plain (Prove t d steps (Some range.entry)) files.now (W.contents out.old) (W.contents out.new) (W.failures out.old) (W.failures out.new)) }
 {
     let Some((first, last)) = range_of(range) else {
         return Err(Stop::Usage(NO_RANGE));
     };
-    let text = text_of(files)?;
-    let derivation = derivation_of(files)?;
+    let (text, derivation) = two_files(files)?;
     proved(print_proofs_part(
         rt, alloc, threads, text, derivation, first, last, steps, out, watcher,
     )?)
@@ -143,6 +147,7 @@ pub(crate) fn prove<R: Threads + Sync, W: Out, P: Watcher + Copy + Sync>(
     requires { CanCount (W.failures out.old) }
     ensures done { (t d : Bor (List ℕ)) → OnOk result (IsDone (Prove t d steps range.entry) files.now (W.contents out.old) (W.contents out.new)) }
     ensures failures { OnOk result (W.failures out.new ≡ W.failures out.old) }
+    ensures stopped { (t d : Bor (List ℕ)) → IfErr result (Stops Plain (Prove t d steps range.entry) files.now (W.contents out.old) (W.contents out.new) (W.failures out.old) (W.failures out.new)) }
 {
     match range {
         None => prove_all(rt, alloc, threads, steps, files, out, watcher),
@@ -161,10 +166,9 @@ pub(crate) fn emit<R: Threads + Sync, W: Out>(
     requires { CanCount (W.failures out.old) }
     ensures done { (t d p : Bor (List ℕ)) → OnOk result (IsDone (Emit t d p) files.now (W.contents out.old) (W.contents out.new)) }
     ensures failures { OnOk result (W.failures out.new ≡ W.failures out.old) }
+    ensures stopped { (t d p : Bor (List ℕ)) → IfErr result (Stops Plain (Emit t d p) files.now (W.contents out.old) (W.contents out.new) (W.failures out.old) (W.failures out.new)) }
 {
-    let text = text_of(files)?;
-    let derivation = derivation_of(files)?;
-    let proofs = proofs_of(files)?;
+    let (text, derivation, proofs) = three_files(files)?;
     print_listing(rt, alloc, threads, text, derivation, proofs, out)?;
     Ok(())
 }
@@ -211,19 +215,26 @@ pub(crate) fn run<R: Threads + Wait + Sync, W: Out, F: Out>(
     requires faults { CanCount (F.failures faults.old) }
     ensures done { (t d p : Bor (List ℕ)) → (w : Option (Bor (List ℕ))) → OnOk result (IsDone (Run t d p options.entry.start options.entry.moves options.entry.limit w) files.now (W.contents out.old) (W.contents out.new)) }
     ensures failures { OnOk result (W.failures out.new ≡ W.failures out.old) }
+    ensures stopped { (t d p : Bor (List ℕ)) → (w : Option (Bor (List ℕ))) → IfErr result (Stops Plain (Run t d p options.entry.start options.entry.moves options.entry.limit w) files.now (W.contents out.old) (W.contents out.new) (W.failures out.old) (W.failures out.new)) }
     ensures quiet { OnErr result (F.failures faults.new ≡ F.failures faults.old) }
+    ensures silent { OnErr result (F.contents faults.new ≡ F.contents faults.old) }
 {
+    let (text, derivation, proofs) = three_files(files)?;
+    let (first, moving) = inputs(options.start, options.moves, files)?;
     let files = RunFiles {
-        text: text_of(files)?,
-        derivation: derivation_of(files)?,
-        proofs: proofs_of(files)?,
-        start: read_where_named(options.start, files.start, "device start\n")?,
-        moves: read_where_named(options.moves, files.moves, "device moves\n")?,
+        text,
+        derivation,
+        proofs,
+        start: first,
+        moves: moving,
         limit: options.limit,
         is_drawn: options.is_drawn,
         threads,
     };
-    print_run(rt, alloc, files, out, faults, picture)?;
+    // What is told of moves goes out only behind a run.
+    let mut passed = Taker::new(alloc, usize::MAX);
+    print_run(rt, alloc, files, out, &mut passed, picture)?;
+    let _ = write_all(faults, passed.bytes());
     Ok(())
 }
 
@@ -238,6 +249,7 @@ pub(crate) fn valid<R: Threads + Sync, W: Out>(
     requires { CanCount (W.failures out.old) }
     ensures done { (t p : Bor (List ℕ)) → OnOk result (IsDone (Valid t p) files.now (W.contents out.old) (W.contents out.new)) }
     ensures failures { OnOk result (W.failures out.new ≡ W.failures out.old) }
+    ensures stopped { (t p : Bor (List ℕ)) → IfErr result (Stops Plain (Valid t p) files.now (W.contents out.old) (W.contents out.new) (W.failures out.old) (W.failures out.new)) }
 {
     let text = text_of(files)?;
     let proofs = proofs_of(files)?;
@@ -255,6 +267,7 @@ pub(crate) fn clauses<W: Out>(
     requires { CanCount (W.failures out.old) }
     ensures done { (t : Bor (List ℕ)) → OnOk result (IsDone (Clauses t chosen.entry) files.now (W.contents out.old) (W.contents out.new)) }
     ensures failures { OnOk result (W.failures out.new ≡ W.failures out.old) }
+    ensures stopped { (t : Bor (List ℕ)) → IfErr result (Stops Plain (Clauses t chosen.entry) files.now (W.contents out.old) (W.contents out.new) (W.failures out.old) (W.failures out.new)) }
 {
     let text = text_of(files)?;
     match chosen {
@@ -279,6 +292,7 @@ pub(crate) fn find<W: Out, P: Watcher>(
     requires { CanCount (W.failures out.old) }
     ensures done { (t : Bor (List ℕ)) → OnOk result (IsDone (Find t steps chosen.entry) files.now (W.contents out.old) (W.contents out.new)) }
     ensures failures { OnOk result (W.failures out.new ≡ W.failures out.old) }
+    ensures stopped { (t : Bor (List ℕ)) → IfErr result (Stops Plain (Find t steps chosen.entry) files.now (W.contents out.old) (W.contents out.new) (W.failures out.old) (W.failures out.new)) }
 {
     let text = text_of(files)?;
     match chosen {
@@ -301,6 +315,7 @@ pub(crate) fn explain<W: Out>(
     requires { CanCount (W.failures out.old) }
     ensures done { OnOk result (IsDone (Explain number) files.now (W.contents out.old) (W.contents out.new)) }
     ensures failures { OnOk result (W.failures out.new ≡ W.failures out.old) }
+    ensures stopped { IfErr result (Stops Plain (Explain number) files.now (W.contents out.old) (W.contents out.new) (W.failures out.old) (W.failures out.new)) }
 {
     let _ = files;
     let Some(entry) = entry_of(number) else {

@@ -1,10 +1,12 @@
 //! One command over files in memory, with writers for its output and its faults.
 
-ghost use Rattle.std.specs.Prelude.{◌≡◌, ◌≤◌, OnOk, OnErr};
+ghost use Rattle.std.specs.Prelude.{◌≡◌, ◌≤◌, ◌++◌, string_bytes, IfOk, IfErr, OnOk, OnErr};
 ghost use Rattle.rg_words.specs.Written.{CanCount};
-ghost use Rattle.rgc_line.specs.declared.command.Format.TheVariants.{Json};
+ghost use Rattle.rgc_line.specs.declared.command.Format.TheVariants.{Plain, Json};
 ghost use Rattle.rgc_perform.specs.Done.{IsDone};
 ghost use Rattle.rgc_perform.specs.DoneAsJson.{IsDoneAs, IsLineDone};
+ghost use Rattle.rgc_perform.specs.Stopped.{IsBelow, Writes, TellsRefusal, refusal_status, told_line, IsRefused, HasToldMisfit, HasFailed};
+ghost use Rattle.rgc_perform.specs.Inner.Stops.{Stops, IsTold};
 
 use crate::commands::{
     RunOptions, check, clauses, conditions, emit, explain, find, number, prove, run, valid,
@@ -17,7 +19,7 @@ use crate::stops::Stop;
 use rg_find::Watcher;
 use rg_words::{Out, Refusal, RefusalNumber, write_all};
 use rgc_json::refusal_json;
-use rgc_line::{Command, Format, Line};
+use rgc_line::{Command, Format, Line, Settings};
 use std::alloc::{AllocError, Global};
 use std::sync::Wait;
 use std::thread::Threads;
@@ -38,7 +40,9 @@ fn carry_out<R: Threads + Wait + Sync, W: Out, F: Out, P: Watcher + Copy + Sync>
     requires faults { CanCount (F.failures faults.old) }
     ensures done { OnOk result (IsDone line.now.command files.now (W.contents out.old) (W.contents out.new)) }
     ensures failures { OnOk result (W.failures out.new ≡ W.failures out.old) }
+    ensures stopped { IfErr result (Stops Plain line.now.command files.now (W.contents out.old) (W.contents out.new) (W.failures out.old) (W.failures out.new)) }
     ensures quiet { OnErr result (F.failures faults.new ≡ F.failures faults.old) }
+    ensures silent { OnErr result (F.contents faults.new ≡ F.contents faults.old) }
 {
     match line.command {
         Command::Number { .. } => number(alloc, files, out),
@@ -140,7 +144,9 @@ fn carry_out_json<R: Threads + Wait + Sync, W: Out, F: Out, P: Watcher + Copy + 
     requires faults { CanCount (F.failures faults.old) }
     ensures done { OnOk result (IsDoneAs Json line.now.command files.now (W.contents out.old) (W.contents out.new)) }
     ensures failures { OnOk result (W.failures out.new ≡ W.failures out.old) }
+    ensures stopped { IfErr result (Stops Json line.now.command files.now (W.contents out.old) (W.contents out.new) (W.failures out.old) (W.failures out.new)) }
     ensures quiet { OnErr result (F.failures faults.new ≡ F.failures faults.old) }
+    ensures silent { OnErr result (F.contents faults.new ≡ F.contents faults.old) }
 {
     match line.command {
         Command::Number { .. } => number_json(alloc, files, out),
@@ -183,7 +189,9 @@ fn carry_out_as<R: Threads + Wait + Sync, W: Out, F: Out, P: Watcher + Copy + Sy
     requires faults { CanCount (F.failures faults.old) }
     ensures done { OnOk result (IsLineDone line.now files.now (W.contents out.old) (W.contents out.new)) }
     ensures failures { OnOk result (W.failures out.new ≡ W.failures out.old) }
+    ensures stopped { IfErr result (Stops line.now.settings.format line.now.command files.now (W.contents out.old) (W.contents out.new) (W.failures out.old) (W.failures out.new)) }
     ensures quiet { OnErr result (F.failures faults.new ≡ F.failures faults.old) }
+    ensures silent { OnErr result (F.contents faults.new ≡ F.contents faults.old) }
 {
     match line.settings.format {
         Format::Plain => carry_out(rt, alloc, threads, line, files, out, faults, watcher, sides),
@@ -193,27 +201,25 @@ fn carry_out_as<R: Threads + Wait + Sync, W: Out, F: Out, P: Watcher + Copy + Sy
     }
 }
 
-/// Tells a refusal as a JSON value in a line of its own; where there is no memory for it, as a plain line.
-fn tell_refusal_json<F: Out>(alloc: Global, refusal: Refusal, faults: &mut F)
-    requires { CanCount (F.failures faults.old) }
+/// The line that tells a refusal.
+fn line_of(alloc: Global, format: Format, refusal: Refusal) -> Result<String, AllocError>
+    ensures { IfOk result (λ line. string_bytes line ≡ told_line format refusal) }
 {
-    let _ = match refusal_line(alloc, refusal) {
-        Ok(line) => write_all(faults, line.as_bytes()),
-        Err(AllocError) => write_all(faults, b"refused 99\n"),
-    };
-}
-
-/// The line of JSON that tells a refusal.
-fn refusal_line(alloc: Global, refusal: Refusal) -> Result<String, AllocError> {
-    let mut line = refusal_json(alloc, &refusal)?;
-    line.push_str("\n")?;
-    Ok(line)
+    match format {
+        Format::Plain => format!(in alloc; "{refusal}\n"),
+        Format::Json => {
+            let mut line = refusal_json(alloc, &refusal)?;
+            line.push_str("\n")?;
+            Ok(line)
+        }
+    }
 }
 
 /// The status of a refusal.
 fn status_of(refusal: Refusal) -> u8
     ensures low { 1 ≤ result }
     ensures high { result ≤ 3 }
+    ensures number { result ≡ refusal_status refusal.number }
 {
     match refusal.number {
         RefusalNumber::Write | RefusalNumber::Memory => 3,
@@ -221,50 +227,59 @@ fn status_of(refusal: Refusal) -> u8
     }
 }
 
-/// Tells a refusal in a line of its own, and what explains it below; the status. A failing write is passed over.
-fn tell_refusal<F: Out>(alloc: Global, refusal: Refusal, explained: &[u8], faults: &mut F) -> u8
+/// Tells a text. A failing write is passed over.
+fn tell_text<F: Out>(text: &[u8], faults: &mut F)
     requires { CanCount (F.failures faults.old) }
+    ensures { Writes (F.contents faults.old) (F.contents faults.new) (F.failures faults.old) (F.failures faults.new) text.now }
+{
+    let _ = write_all(faults, text);
+}
+
+/// Tells a line, and what explains it below. A failing write is passed over.
+fn tell_both<F: Out>(line: &[u8], below: &[u8], faults: &mut F)
+    requires { CanCount (F.failures faults.old) }
+    ensures { Writes (F.contents faults.old) (F.contents faults.new) (F.failures faults.old) (F.failures faults.new) (line.now ++ below.now) }
+{
+    if write_all(faults, line).is_ok() {
+        let _ = write_all(faults, below);
+    }
+}
+
+/// Tells a refusal in a line of its own, and what explains it below; the status. Where there is no memory for the line, that is told.
+fn tell_refusal<F: Out>(
+    alloc: Global,
+    settings: &Settings<'_>,
+    refusal: Refusal,
+    below: &[u8],
+    faults: &mut F,
+) -> u8
+    requires count { CanCount (F.failures faults.old) }
+    requires below { IsBelow settings.now below.now }
     ensures low { 1 ≤ result }
     ensures high { result ≤ 3 }
+    ensures told { TellsRefusal settings.now refusal result (F.contents faults.old) (F.contents faults.new) (F.failures faults.old) (F.failures faults.new) }
 {
-    let Ok(text) = format!(in alloc; "{refusal}\n") else {
-        let _ = write_all(faults, b"refused 99\n");
+    let Ok(line) = line_of(alloc, settings.format, refusal) else {
+        tell_text(b"refused 99\n", faults);
         return 3;
     };
-    if write_all(faults, text.as_bytes()).is_ok() {
-        let _ = write_all(faults, explained);
-    }
+    tell_both(line.as_bytes(), below, faults);
     status_of(refusal)
 }
 
-/// Tells by this line that a file can't be read; the status. It takes no memory. A failing write is passed over.
-fn tell_device<F: Out>(line: &str, faults: &mut F) -> u8
-    requires { CanCount (F.failures faults.old) }
-    ensures { result ≡ 3 }
+/// What explains a refusal below its line.
+fn below_of(alloc: Global, line: &Line<'_>, files: &Files<'_>, refusal: Refusal) -> Vec<u8>
+    ensures { IsBelow line.now.settings result.items }
 {
-    let _ = write_all(faults, line.as_bytes());
-    3
+    match line.settings.format {
+        Format::Plain if line.settings.is_explained => {
+            explained(alloc, &line.command, files, refusal)
+        }
+        _ => Vec::new(alloc),
+    }
 }
 
-/// Tells by these lines why an outline is refused; the status. A failing write is passed over.
-fn tell_outline<F: Out>(lines: &[u8], faults: &mut F) -> u8
-    requires { CanCount (F.failures faults.old) }
-    ensures { result ≡ 1 }
-{
-    let _ = write_all(faults, lines);
-    1
-}
-
-/// Tells by this line that what the words say doesn't fit; the status. A failing write is passed over.
-fn tell_usage<F: Out>(line: &str, faults: &mut F) -> u8
-    requires { CanCount (F.failures faults.old) }
-    ensures { result ≡ 2 }
-{
-    let _ = write_all(faults, line.as_bytes());
-    2
-}
-
-/// Tells why a command isn't done; the status. A failing write is passed over.
+/// Tells why a command isn't done; the status.
 fn tell<F: Out>(
     alloc: Global,
     line: &Line<'_>,
@@ -275,21 +290,26 @@ fn tell<F: Out>(
     requires { CanCount (F.failures faults.old) }
     ensures low { 1 ≤ result }
     ensures high { result ≤ 3 }
+    ensures told { IsTold line.now.settings stop.now result (F.contents faults.old) (F.contents faults.new) (F.failures faults.old) (F.failures faults.new) }
 {
     match stop {
-        Stop::Device(line) => tell_device(line, faults),
+        Stop::Device(words) => {
+            tell_text(words.as_bytes(), faults);
+            3
+        }
         Stop::Told => 1,
-        Stop::Outline(lines) => tell_outline(lines, faults),
-        Stop::Usage(line) => tell_usage(line, faults),
-        Stop::Refused(refusal) if line.settings.format == Format::Json => {
-            tell_refusal_json(alloc, *refusal, faults);
-            status_of(*refusal)
+        Stop::Outline(lines) => {
+            tell_text(lines, faults);
+            1
         }
-        Stop::Refused(refusal) if line.settings.is_explained => {
-            let text = explained(alloc, &line.command, files, *refusal);
-            tell_refusal(alloc, *refusal, &text, faults)
+        Stop::Usage(words) => {
+            tell_text(words.as_bytes(), faults);
+            2
         }
-        Stop::Refused(refusal) => tell_refusal(alloc, *refusal, b"", faults),
+        Stop::Refused(refusal) => {
+            let below = below_of(alloc, line, files, *refusal);
+            tell_refusal(alloc, &line.settings, *refusal, &below, faults)
+        }
     }
 }
 
@@ -315,6 +335,15 @@ pub fn perform<R: Threads + Wait + Sync, W: Out, F: Out, P: Watcher + Copy + Syn
     ensures status { result ≤ 3 }
     ensures failures { result ≡ 0 → W.failures out.new ≡ W.failures out.old }
     ensures done { result ≡ 0 → IsLineDone line.now files.now (W.contents out.old) (W.contents out.new) }
+
+    // There is no proof, and the output tells why; or the files are refused, nothing went out, and the refusal is told; or an outline is refused.
+    ensures refused { result ≡ 1 → IsRefused line.now files.now (W.contents out.old) (W.contents out.new) (W.failures out.old) (W.failures out.new) (F.contents faults.old) (F.contents faults.new) (F.failures faults.old) (F.failures faults.new) }
+
+    // The words don't fit, nothing went out, and that is told.
+    ensures misfit { result ≡ 2 → HasToldMisfit line.now (W.contents out.old) (W.contents out.new) (W.failures out.old) (W.failures out.new) (F.contents faults.old) (F.contents faults.new) (F.failures faults.old) (F.failures faults.new) }
+
+    // A file can't be read; or the writer failed, or memory was refused; and that is told.
+    ensures failed { result ≡ 3 → HasFailed line.now files.now (W.contents out.old) (W.contents out.new) (W.failures out.old) (W.failures out.new) (F.contents faults.old) (F.contents faults.new) (F.failures faults.old) (F.failures faults.new) }
 {
     match carry_out_as(rt, alloc, threads, line, files, out, faults, watcher, sides) {
         Ok(()) => 0,

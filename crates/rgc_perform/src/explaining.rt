@@ -1,7 +1,8 @@
 //! What is printed of a refusal that is to be explained.
 
-ghost use Rattle.std.specs.Prelude.{◌≡◌, OnOk};
+ghost use Rattle.std.specs.Prelude.{◌≡◌, OnOk, IfErr};
 ghost use Rattle.rg_words.specs.Written.{CanCount};
+ghost use Rattle.rgc_print.specs.Stopped.{IsFailure};
 ghost use Rattle.rgc_perform.specs.Done.{HasPrintedExplanation};
 
 use rg_words::{Out, Refusal, write_all};
@@ -18,6 +19,7 @@ pub(crate) fn print_explanation<W: Out>(
     requires { CanCount (W.failures out.old) }
     ensures printed { OnOk result (HasPrintedExplanation number (W.contents out.old) (W.contents out.new)) }
     ensures failures { OnOk result (W.failures out.new ≡ W.failures out.old) }
+    ensures stopped { IfErr result (IsFailure (W.failures out.old) (W.failures out.new)) }
 {
     let text = explanation(alloc, number, entry)?;
     write_all(out, text.as_bytes())?;

@@ -1,13 +1,15 @@
 //! The commands whose output is one JSON value a line.
 
-ghost use Rattle.std.specs.Prelude.{◌≡◌, ℕ, List, Option, Some, None, OnOk, OnErr};
+ghost use Rattle.std.specs.Prelude.{◌≡◌, ℕ, List, Option, Some, None, OnOk, IfErr, is_some};
 ghost use Rattle.std.specs.Borrow.{Bor};
 ghost use Rattle.rg_words.specs.Written.{CanCount};
 ghost use Rattle.rgc_line.specs.declared.command.Command.TheVariants.{Number, Check, Conditions, Prove, Run};
+ghost use Rattle.rgc_line.specs.declared.command.Format.TheVariants.{Json};
 ghost use Rattle.rgc_perform.specs.DoneAsJson.{IsDoneAsJson};
+ghost use Rattle.rgc_perform.specs.Inner.Stops.{Stops};
 
 use crate::commands::{RunOptions, proved};
-use crate::files::{Files, derivation_of, proofs_of, read_where_named, text_of};
+use crate::files::{Files, inputs, text_of, three_files, two_files};
 use crate::ranges::{NO_RANGE, range_of};
 use crate::stops::Stop;
 use rg_find::Watcher;
@@ -26,8 +28,10 @@ pub(crate) fn number_json<W: Out>(alloc: Global, files: &Files<'_>, out: &mut W)
     requires { CanCount (W.failures out.old) }
     ensures done { (t : Bor (List ℕ)) → OnOk result (IsDoneAsJson (Number t) files.now (W.contents out.old) (W.contents out.new)) }
     ensures failures { OnOk result (W.failures out.new ≡ W.failures out.old) }
+    ensures stopped { (t : Bor (List ℕ)) → IfErr result (Stops Json (Number t) files.now (W.contents out.old) (W.contents out.new) (W.failures out.old) (W.failures out.new)) }
 {
-    print_numbers_json(alloc, text_of(files)?, out)?;
+    let text = text_of(files)?;
+    print_numbers_json(alloc, text, out)?;
     Ok(())
 }
 
@@ -42,10 +46,9 @@ pub(crate) fn check_json<R: Threads + Sync, W: Out>(
     requires { CanCount (W.failures out.old) }
     ensures done { (t d p : Bor (List ℕ)) → OnOk result (IsDoneAsJson (Check t d p) files.now (W.contents out.old) (W.contents out.new)) }
     ensures failures { OnOk result (W.failures out.new ≡ W.failures out.old) }
+    ensures stopped { (t d p : Bor (List ℕ)) → IfErr result (Stops Json (Check t d p) files.now (W.contents out.old) (W.contents out.new) (W.failures out.old) (W.failures out.new)) }
 {
-    let text = text_of(files)?;
-    let derivation = derivation_of(files)?;
-    let proofs = proofs_of(files)?;
+    let (text, derivation, proofs) = three_files(files)?;
     print_accepted_json(rt, alloc, threads, text, derivation, proofs, out)?;
     Ok(())
 }
@@ -60,12 +63,13 @@ pub(crate) fn conditions_json<W: Out>(
     requires { CanCount (W.failures out.old) }
     ensures done { (t d : Bor (List ℕ)) → OnOk result (IsDoneAsJson (Conditions t d has_formulas) files.now (W.contents out.old) (W.contents out.new)) }
     ensures failures { OnOk result (W.failures out.new ≡ W.failures out.old) }
+    ensures stopped { (t d : Bor (List ℕ)) → IfErr result (Stops Json (Conditions t d has_formulas) files.now (W.contents out.old) (W.contents out.new) (W.failures out.old) (W.failures out.new)) }
 {
     if has_formulas {
         return Err(Stop::Usage("error: --formulas and --format json don't go together\n"));
     }
-    let text = text_of(files)?;
-    print_conditions_json(alloc, text, derivation_of(files)?, out)?;
+    let (text, derivation) = two_files(files)?;
+    print_conditions_json(alloc, text, derivation, out)?;
     Ok(())
 }
 
@@ -82,9 +86,9 @@ fn prove_all_json<R: Threads + Sync, W: Out, P: Watcher + Copy + Sync>(
     requires { CanCount (W.failures out.old) }
     ensures done { (t d : Bor (List ℕ)) → OnOk result (IsDoneAsJson (Prove t d steps None) files.now (W.contents out.old) (W.contents out.new)) }
     ensures failures { OnOk result (W.failures out.new ≡ W.failures out.old) }
+    ensures stopped { (t d : Bor (List ℕ)) → IfErr result (Stops Json (Prove t d steps None) files.now (W.contents out.old) (W.contents out.new) (W.failures out.old) (W.failures out.new)) }
 {
-    let text = text_of(files)?;
-    let derivation = derivation_of(files)?;
+    let (text, derivation) = two_files(files)?;
     proved(print_proofs_json(rt, alloc, threads, text, derivation, steps, out, watcher)?)
 }
 
@@ -102,12 +106,12 @@ fn prove_part_json<R: Threads + Sync, W: Out, P: Watcher + Copy + Sync>(
     requires { CanCount (W.failures out.old) }
     ensures done { (t d : Bor (List ℕ)) → OnOk result (IsDoneAsJson (Prove t d steps (Some range.entry)) files.now (W.contents out.old) (W.contents out.new)) }
     ensures failures { OnOk result (W.failures out.new ≡ W.failures out.old) }
+    ensures stopped { (t d : Bor (List ℕ)) → IfErr result (Stops Json (Prove t d steps (Some range.entry)) files.now (W.contents out.old) (W.contents out.new) (W.failures out.old) (W.failures out.new)) }
 {
     let Some((first, last)) = range_of(range) else {
         return Err(Stop::Usage(NO_RANGE));
     };
-    let text = text_of(files)?;
-    let derivation = derivation_of(files)?;
+    let (text, derivation) = two_files(files)?;
     proved(print_proofs_part_json(
         rt, alloc, threads, text, derivation, first, last, steps, out, watcher,
     )?)
@@ -127,6 +131,7 @@ pub(crate) fn prove_json<R: Threads + Sync, W: Out, P: Watcher + Copy + Sync>(
     requires { CanCount (W.failures out.old) }
     ensures done { (t d : Bor (List ℕ)) → OnOk result (IsDoneAsJson (Prove t d steps range.entry) files.now (W.contents out.old) (W.contents out.new)) }
     ensures failures { OnOk result (W.failures out.new ≡ W.failures out.old) }
+    ensures stopped { (t d : Bor (List ℕ)) → IfErr result (Stops Json (Prove t d steps range.entry) files.now (W.contents out.old) (W.contents out.new) (W.failures out.old) (W.failures out.new)) }
 {
     match range {
         None => prove_all_json(rt, alloc, threads, steps, files, out, watcher),
@@ -146,16 +151,19 @@ pub(crate) fn run_json<R: Threads + Wait + Sync, W: Out>(
     requires { CanCount (W.failures out.old) }
     ensures done { (t d p : Bor (List ℕ)) → (w : Option (Bor (List ℕ))) → OnOk result (IsDoneAsJson (Run t d p options.entry.start options.entry.moves options.entry.limit w) files.now (W.contents out.old) (W.contents out.new)) }
     ensures failures { OnOk result (W.failures out.new ≡ W.failures out.old) }
+    ensures stopped { (t d p : Bor (List ℕ)) → (w : Option (Bor (List ℕ))) → is_some w ≡ options.entry.is_drawn → IfErr result (Stops Json (Run t d p options.entry.start options.entry.moves options.entry.limit w) files.now (W.contents out.old) (W.contents out.new) (W.failures out.old) (W.failures out.new)) }
 {
     if options.is_drawn {
         return Err(Stop::Usage("error: --draw and --format json don't go together\n"));
     }
+    let (text, derivation, proofs) = three_files(files)?;
+    let (first, moving) = inputs(options.start, options.moves, files)?;
     let files = RunFiles {
-        text: text_of(files)?,
-        derivation: derivation_of(files)?,
-        proofs: proofs_of(files)?,
-        start: read_where_named(options.start, files.start, "device start\n")?,
-        moves: read_where_named(options.moves, files.moves, "device moves\n")?,
+        text,
+        derivation,
+        proofs,
+        start: first,
+        moves: moving,
         limit: options.limit,
         is_drawn: false,
         threads,

@@ -1,13 +1,16 @@
 //! The commands over an outline.
 
-ghost use Rattle.std.specs.Prelude.{◌≡◌, ℕ, List, Option, Some, true, false, IfOk, OnOk, OnErr};
+ghost use Rattle.std.specs.Prelude.{◌≡◌, ℕ, List, Option, Some, true, false, IfOk, OnOk, OnErr, IfErr};
 ghost use Rattle.std.specs.Borrow.{Bor};
 ghost use Rattle.rg_words.specs.Written.{CanCount};
 ghost use Rattle.rgc_line.specs.declared.command.Command.TheVariants.{Challenge, Outline, RunOutline, Verify};
+ghost use Rattle.rgc_line.specs.declared.command.Format.TheVariants.{Plain};
 ghost use Rattle.rgc_perform.specs.Done.{IsDone, wanted_of};
+ghost use Rattle.rgc_perform.specs.Stopped.{outline_line};
+ghost use Rattle.rgc_perform.specs.Inner.Stops.{IsDevice, Stops};
 
 use crate::commands::{RunOptions, proved};
-use crate::files::{Files, Sides, needed, read_where_named};
+use crate::files::{Files, Sides, inputs, needed};
 use crate::stops::Stop;
 use rg_find::Watcher;
 use rg_outline_files::{Format, OutlineSource};
@@ -26,9 +29,13 @@ fn outline_source<'a>(
     format: rgc_line::Format,
     files: &Files<'a>,
 ) -> Result<OutlineSource<'a>, Stop>
-    ensures { IfOk result (λ o. files.now.text ≡ Some o.source) }
+    ensures source { IfOk result (λ o. files.now.text ≡ Some o.source) }
+    ensures unread { (rest : Option (List ℕ)) → IfErr result (IsDevice (outline_line files.now rest)) }
 {
-    let source = needed(files.text, "device outline\n")?;
+    let source = match needed(files.text, "device outline\n") {
+        Ok(source) => source,
+        Err(stop) => return Err(stop),
+    };
     let format = match format {
         rgc_line::Format::Plain => Format::Plain,
         rgc_line::Format::Json => Format::Json,
@@ -84,6 +91,7 @@ pub(crate) fn outline<R: Threads + Sync, W: Out, P: Watcher + Copy + Sync>(
     requires { CanCount (W.failures out.old) }
     ensures done { (o : Bor (List ℕ)) → OnOk result (IsDone (Outline o written.entry.text written.entry.derivation written.entry.proofs written.entry.map) files.now (W.contents out.old) (W.contents out.new)) }
     ensures failures { OnOk result (W.failures out.new ≡ W.failures out.old) }
+    ensures stopped { (o : Bor (List ℕ)) → IfErr result (Stops Plain (Outline o written.entry.text written.entry.derivation written.entry.proofs written.entry.map) files.now (W.contents out.old) (W.contents out.new) (W.failures out.old) (W.failures out.new)) }
 {
     let source = outline_source(name, rgc_line::Format::Plain, files)?;
     let side = &mut sides.outline;
@@ -110,12 +118,15 @@ pub(crate) fn run_outline_of<R: Threads + Wait + Sync, W: Out, F: Out, P: Watche
     requires faults { CanCount (F.failures faults.old) }
     ensures done { (o : Bor (List ℕ)) → (w : Option (Bor (List ℕ))) → OnOk result (IsDone (RunOutline o options.entry.start options.entry.moves options.entry.limit w) files.now (W.contents out.old) (W.contents out.new)) }
     ensures failures { OnOk result (W.failures out.new ≡ W.failures out.old) }
+    ensures stopped { (o : Bor (List ℕ)) → (w : Option (Bor (List ℕ))) → IfErr result (Stops Plain (RunOutline o options.entry.start options.entry.moves options.entry.limit w) files.now (W.contents out.old) (W.contents out.new) (W.failures out.old) (W.failures out.new)) }
     ensures quiet { OnErr result (F.failures faults.new ≡ F.failures faults.old) }
+    ensures silent { OnErr result (F.contents faults.new ≡ F.contents faults.old) }
 {
     let source = outline_source(name, rgc_line::Format::Plain, files)?;
+    let (first, moving) = inputs(options.start, options.moves, files)?;
     let how = OutlineRun {
-        start: read_where_named(options.start, files.start, "device start\n")?,
-        moves: read_where_named(options.moves, files.moves, "device moves\n")?,
+        start: first,
+        moves: moving,
         limit: options.limit,
         is_drawn: options.is_drawn,
         steps: MOST_STEPS,
@@ -156,7 +167,9 @@ fn prove_outline<R: Threads + Sync, W: Out, F: Out, P: Watcher + Copy + Sync>(
     requires faults { CanCount (F.failures faults.old) }
     ensures done { OnOk result (IsDone (Verify outlines.entry steps false) files.now (W.contents out.old) (W.contents out.new)) }
     ensures failures { OnOk result (W.failures out.new ≡ W.failures out.old) }
+    ensures stopped { IfErr result (Stops Plain (Verify outlines.entry steps false) files.now (W.contents out.old) (W.contents out.new) (W.failures out.old) (W.failures out.new)) }
     ensures quiet { OnErr result (F.failures faults.new ≡ F.failures faults.old) }
+    ensures silent { OnErr result (F.contents faults.new ≡ F.contents faults.old) }
 {
     let source = outline_source(outlines.outline, format, files)?;
     let form = form_of(outlines, format);
@@ -183,6 +196,7 @@ fn walk_outline<W: Out>(
     requires { CanCount (W.failures out.old) }
     ensures done { OnOk result (IsDone (Verify outlines.entry steps true) files.now (W.contents out.old) (W.contents out.new)) }
     ensures failures { OnOk result (W.failures out.new ≡ W.failures out.old) }
+    ensures stopped { IfErr result (Stops Plain (Verify outlines.entry steps true) files.now (W.contents out.old) (W.contents out.new) (W.failures out.old) (W.failures out.new)) }
 {
     let _ = steps;
     let source = outline_source(outlines.outline, format, files)?;
@@ -210,7 +224,9 @@ pub(crate) fn verify<R: Threads + Sync, W: Out, F: Out, P: Watcher + Copy + Sync
     requires faults { CanCount (F.failures faults.old) }
     ensures done { OnOk result (IsDone (Verify outlines.entry steps is_runs_only) files.now (W.contents out.old) (W.contents out.new)) }
     ensures failures { OnOk result (W.failures out.new ≡ W.failures out.old) }
+    ensures stopped { IfErr result (Stops Plain (Verify outlines.entry steps is_runs_only) files.now (W.contents out.old) (W.contents out.new) (W.failures out.old) (W.failures out.new)) }
     ensures quiet { OnErr result (F.failures faults.new ≡ F.failures faults.old) }
+    ensures silent { OnErr result (F.contents faults.new ≡ F.contents faults.old) }
 {
     if is_runs_only {
         return walk_outline(alloc, outlines, format, steps, files, out);
@@ -234,6 +250,7 @@ pub(crate) fn challenge_outline<R: Threads + Sync, W: Out, P: Watcher + Copy + S
     requires { CanCount (W.failures out.old) }
     ensures done { (o : Bor (List ℕ)) → OnOk result (IsDone (Challenge o has_refused) files.now (W.contents out.old) (W.contents out.new)) }
     ensures failures { OnOk result (W.failures out.new ≡ W.failures out.old) }
+    ensures stopped { (o : Bor (List ℕ)) → IfErr result (Stops Plain (Challenge o has_refused) files.now (W.contents out.old) (W.contents out.new) (W.failures out.old) (W.failures out.new)) }
 {
     let source = outline_source(name, rgc_line::Format::Plain, files)?;
     let mut told = Vec::new(alloc);

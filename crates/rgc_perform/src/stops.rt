@@ -21,6 +21,10 @@ pub(crate) enum Stop {
 }
 
 impl From<NoFiles> for Stop {
+    ghost use Rattle.rgc_perform.specs.Inner.Stops.{IsOfOutline};
+
+    ghost from_gives = { λ _ stop. IsOfOutline stop };
+
     fn from(none: NoFiles) -> Stop {
         match none {
             NoFiles::Told(lines) => Stop::Outline(lines),
@@ -30,6 +34,10 @@ impl From<NoFiles> for Stop {
 }
 
 impl From<NoVerdict> for Stop {
+    ghost use Rattle.rgc_perform.specs.Inner.Stops.{IsOfOutline};
+
+    ghost from_gives = { λ _ stop. IsOfOutline stop };
+
     fn from(none: NoVerdict) -> Stop {
         match none {
             NoVerdict::Outline(lines) => Stop::Outline(lines),
@@ -39,6 +47,10 @@ impl From<NoVerdict> for Stop {
 }
 
 impl From<NotDone> for Stop {
+    ghost use Rattle.rgc_perform.specs.Inner.Stops.{IsOfOutline};
+
+    ghost from_gives = { λ _ stop. IsOfOutline stop };
+
     fn from(none: NotDone) -> Stop {
         match none {
             NotDone::Outline(lines) => Stop::Outline(lines),
@@ -60,6 +72,11 @@ impl From<AllocError> for Stop {
 }
 
 impl From<Refusal> for Stop {
+    ghost use Rattle.std.specs.Prelude.{◌≡◌};
+    ghost use Rattle.rgc_perform.specs.declared.stops.Stop.TheVariants.{Refused};
+
+    ghost from_gives = { λ refusal stop. stop ≡ Refused refusal };
+
     fn from(refusal: Refusal) -> Stop {
         Stop::Refused(refusal)
     }

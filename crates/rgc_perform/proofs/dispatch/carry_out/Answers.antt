@@ -39,3 +39,43 @@ returns-in-Outline-clause-done g c = rw c.in-Outline.is (c.outline.ensures.done 
 
 pub returns-in-Challenge-clause-done : goal.returns-in-Challenge-clause-done
 returns-in-Challenge-clause-done g c = rw c.in-Challenge.is (c.challenge_outline.ensures.done c.in-Challenge.name)
+
+pub returns-in-Number-clause-stopped : goal.returns-in-Number-clause-stopped
+returns-in-Number-clause-stopped g c = rw c.in-Number.is (c.number.ensures.stopped c.in-Number.text)
+
+pub returns-in-Check-clause-stopped : goal.returns-in-Check-clause-stopped
+returns-in-Check-clause-stopped g c = rw c.in-Check.is (c.check.ensures.stopped c.in-Check.text c.in-Check.derivation c.in-Check.proofs)
+
+pub returns-in-Conditions-clause-stopped : goal.returns-in-Conditions-clause-stopped
+returns-in-Conditions-clause-stopped g c = rw c.in-Conditions.is (c.conditions.ensures.stopped c.in-Conditions.text c.in-Conditions.derivation)
+
+pub returns-in-Prove-clause-stopped : goal.returns-in-Prove-clause-stopped
+returns-in-Prove-clause-stopped g c = rw c.in-Prove.is (c.prove.ensures.stopped c.in-Prove.text c.in-Prove.derivation)
+
+pub returns-in-Emit-clause-stopped : goal.returns-in-Emit-clause-stopped
+returns-in-Emit-clause-stopped g c = rw c.in-Emit.is (c.emit.ensures.stopped c.in-Emit.text c.in-Emit.derivation c.in-Emit.proofs)
+
+pub returns-in-Valid-clause-stopped : goal.returns-in-Valid-clause-stopped
+returns-in-Valid-clause-stopped g c = rw c.in-Valid.is (c.valid.ensures.stopped c.in-Valid.text c.in-Valid.proofs)
+
+pub returns-in-Clauses-clause-stopped : goal.returns-in-Clauses-clause-stopped
+returns-in-Clauses-clause-stopped g c = rw c.in-Clauses.is (c.clauses.ensures.stopped c.in-Clauses.text)
+
+pub returns-in-Find-clause-stopped : goal.returns-in-Find-clause-stopped
+returns-in-Find-clause-stopped g c = rw c.in-Find.is (c.find.ensures.stopped c.in-Find.text)
+
+pub returns-in-Outline-clause-stopped : goal.returns-in-Outline-clause-stopped
+returns-in-Outline-clause-stopped g c = rw c.in-Outline.is (c.outline.ensures.stopped c.in-Outline.name)
+
+pub returns-in-Challenge-clause-stopped : goal.returns-in-Challenge-clause-stopped
+returns-in-Challenge-clause-stopped g c = rw c.in-Challenge.is (c.challenge_outline.ensures.stopped c.in-Challenge.name)
+
+pub returns-in-Run-clause-stopped : goal.returns-in-Run-clause-stopped
+returns-in-Run-clause-stopped g c =
+    let stopped = rw c.new-options.ensures at c.run.ensures.stopped in
+    rw c.in-Run.is (stopped c.in-Run.text c.in-Run.derivation c.in-Run.proofs c.in-Run.draw)
+
+pub returns-in-RunOutline-clause-stopped : goal.returns-in-RunOutline-clause-stopped
+returns-in-RunOutline-clause-stopped g c =
+    let stopped = rw c.new-options-in-RunOutline.ensures at c.run_outline_of.ensures.stopped in
+    rw c.in-RunOutline.is (stopped c.in-RunOutline.name c.in-RunOutline.draw)

@@ -1,0 +1,36 @@
+-- Why a command isn't done, before it is told.
+use Rattle.std.specs.Prelude.{◌≡◌, ℕ, List, Option, Some}
+use Rattle.rgc_line.specs.declared.command.Command.{Command}
+use Rattle.rgc_line.specs.declared.command.Format.{Format}
+use Rattle.rgc_line.specs.declared.command.Settings.{Settings}
+use Rattle.rgc_perform.specs.declared.files.Files.{Files}
+use Rattle.rgc_perform.specs.declared.stops.Stop.{Stop}
+use Rattle.rgc_perform.specs.declared.stops.Stop.TheVariants.{Device, Refused, Outline, Usage, Told}
+use Rattle.rgc_perform.specs.Stopped.{IsUntouched, Writes, unread_line, IsStoppedBy, TellsWhy, IsOverOutline, IsMisfit, TellsRefusal}
+
+-- a file can't be read, and this line tells it
+abbrev pub IsDevice : Option (List ℕ) → Stop → Type 0
+IsDevice line (Device told) = line ≡ Some told.now
+IsDevice line _ = ⊥
+
+-- an outline is refused, or not verified; or it has a refusal
+abbrev pub IsOfOutline : Stop → Type 0
+IsOfOutline (Outline lines) = Unit {0}
+IsOfOutline (Refused e) = Unit {0}
+IsOfOutline _ = ⊥
+
+-- what is so of the files and of what went out, where a command in a format isn't done
+abbrev pub Stops : Format → Command → Files → Option (List ℕ) → Option (List ℕ) → ℕ → ℕ → Stop → Type 0
+Stops format command files old new failed after (Device line) = (unread_line command files ≡ Some line.now) × IsUntouched old new failed after
+Stops format command files old new failed after (Refused e) = IsStoppedBy format command files old new failed after e
+Stops format command files old new failed after (Outline lines) = IsOverOutline command
+Stops format command files old new failed after (Usage line) = IsMisfit format command × IsUntouched old new failed after
+Stops format command files old new failed after Told = TellsWhy format command files old new × (after ≡ failed)
+
+-- how it is told on the faults, and the status
+abbrev pub IsTold : Settings → Stop → ℕ → Option (List ℕ) → Option (List ℕ) → ℕ → ℕ → Type 0
+IsTold settings (Device line) status old new failed after = (status ≡ 3) × Writes old new failed after line.now
+IsTold settings (Refused e) status old new failed after = TellsRefusal settings e status old new failed after
+IsTold settings (Outline lines) status old new failed after = (status ≡ 1) × Writes old new failed after lines.items
+IsTold settings (Usage line) status old new failed after = (status ≡ 2) × Writes old new failed after line.now
+IsTold settings Told status old new failed after = (status ≡ 1) × (new ≡ old) × (after ≡ failed)

@@ -1,0 +1,244 @@
+-- What a command says where its status isn't 0: why it isn't done, and what is told of that.
+use Rattle.std.specs.Prelude.{◌≡◌, ◌⊎◌, ◌+◌, ℕ, List, [], ◌++◌, Option, Some, None, Bool, true, false, IsTrue, if◌then◌else◌, codes}
+use Rattle.std.specs.Borrow.{Bor}
+use Rattle.std.specs.Io.KnownBytes.{Appends}
+use Rattle.rg_words.specs.declared.refusal.Refusal.{Refusal}
+use Rattle.rg_words.specs.declared.refusal.RefusalNumber.{RefusalNumber}
+use Rattle.rg_words.specs.declared.refusal.RefusalNumber.TheVariants.{Write, Memory}
+use Rattle.rg_words.specs.Refusals.{refusal_text}
+use Rattle.rg_words.specs.Written.{AppendsBeginning}
+use Rattle.rg_parse.specs.Programs.{IsProgramRefusal}
+use Rattle.rgc.specs.Accepted.{IsAcceptTextRefusal}
+use Rattle.rgc.specs.Chosen.{IsDeriveRefusal, IsChosenClausesRefusal, IsChosenFindRefusal}
+use Rattle.rgc.specs.Valid.{IsClausesRefusal, IsFindRefusal, IsValidRefusal}
+use Rattle.rgc_line.specs.declared.command.Command.{Command}
+use Rattle.rgc_line.specs.declared.command.Command.TheVariants.{Number, Check, Conditions, Prove, Emit, Run, RunOutline, Valid, Clauses, Find, Outline, Verify, Challenge, Explain}
+use Rattle.rgc_line.specs.declared.command.Format.{Format}
+use Rattle.rgc_line.specs.declared.command.Format.TheVariants.{Plain, Json}
+use Rattle.rgc_line.specs.declared.command.Settings.{Settings}
+use Rattle.rgc_line.specs.declared.line.Line.{Line}
+use Rattle.rgc_json.specs.Lines.{json_line}
+use Rattle.rgc_json.specs.Refusals.{refusal_data}
+use Rattle.rgc_json.specs.Printed.{HasToldUnprovedJson}
+use Rattle.rgc_print.specs.Stopped.{IsStopped}
+use Rattle.rgc_print.specs.Told.{HasToldFormula, HasToldCondition, HasToldUnproved}
+use Rattle.rgc_verify.specs.Verified.{HasBreakingRun, HasPrintedRuns}
+use Rattle.rgc_perform.specs.declared.files.Files.{Files}
+
+-- a writer is as it was
+abbrev pub IsUntouched : Option (List ℕ) → Option (List ℕ) → ℕ → ℕ → Type 0
+IsUntouched old new failed after = Appends old new [] × (after ≡ failed)
+
+-- a text went out; or a beginning of it, and then the writer failed, once more than before
+abbrev pub Writes : Option (List ℕ) → Option (List ℕ) → ℕ → ℕ → List ℕ → Type 0
+Writes old new failed after text = (Appends old new text × (after ≡ failed)) ⊎ (AppendsBeginning old new text × (after ≡ failed + 1))
+
+-- the line that tells that there are no bytes of a file, where there are none; else what is told of the rest
+abbrev pub unless_read : Option (Bor (List ℕ)) → List ℕ → Option (List ℕ) → Option (List ℕ)
+unless_read None line rest = Some line
+unless_read (Some bytes) line rest = rest
+
+-- the same of a file that need not be named
+abbrev pub where_named : {A : Type 0} → Option A → Option (Bor (List ℕ)) → List ℕ → Option (List ℕ) → Option (List ℕ)
+where_named None bytes line rest = rest
+where_named (Some name) bytes line rest = unless_read bytes line rest
+
+-- the line that tells of a file of each kind
+abbrev pub text_line : Files → Option (List ℕ) → Option (List ℕ)
+text_line files rest = unless_read files.text (codes "device text\n") rest
+
+abbrev pub outline_line : Files → Option (List ℕ) → Option (List ℕ)
+outline_line files rest = unless_read files.text (codes "device outline\n") rest
+
+abbrev pub derivation_line : Files → Option (List ℕ) → Option (List ℕ)
+derivation_line files rest = unless_read files.derivation (codes "device derivation\n") rest
+
+abbrev pub proofs_line : Files → Option (List ℕ) → Option (List ℕ)
+proofs_line files rest = unless_read files.proofs (codes "device proofs\n") rest
+
+abbrev pub input_lines : {A : Type 0} → Option A → Option A → Files → Option (List ℕ)
+input_lines start moves files = where_named start files.start (codes "device start\n") (where_named moves files.moves (codes "device moves\n") None)
+
+-- the line that tells of the first file that a command names and that can't be read; none where all can
+abbrev pub unread_line : Command → Files → Option (List ℕ)
+unread_line (Number _) files = text_line files None
+unread_line (Check _ _ _) files = text_line files (derivation_line files (proofs_line files None))
+unread_line (Conditions _ _ _) files = text_line files (derivation_line files None)
+unread_line (Prove _ _ _ _) files = text_line files (derivation_line files None)
+unread_line (Emit _ _ _) files = text_line files (derivation_line files (proofs_line files None))
+unread_line (Run _ _ _ start moves _ _) files = text_line files (derivation_line files (proofs_line files (input_lines start moves files)))
+unread_line (RunOutline _ start moves _ _) files = outline_line files (input_lines start moves files)
+unread_line (Valid _ _) files = text_line files (proofs_line files None)
+unread_line (Clauses _ None) files = text_line files None
+unread_line (Clauses _ (Some _)) files = text_line files (derivation_line files None)
+unread_line (Find _ _ None) files = text_line files None
+unread_line (Find _ _ (Some _)) files = text_line files (derivation_line files None)
+unread_line (Outline _ _ _ _ _) files = outline_line files None
+unread_line (Verify _ _ _) files = outline_line files None
+unread_line (Challenge _ _) files = outline_line files None
+unread_line (Explain _) files = None
+
+-- why a text, a derivation and proofs are refused, by the command over them
+abbrev pub RefusesTexts : Command → Option (Bor (List ℕ)) → Option (Bor (List ℕ)) → Option (Bor (List ℕ)) → Refusal → Type 0
+RefusesTexts (Number _) (Some text) _ _ e = IsProgramRefusal text.now e
+RefusesTexts (Check _ _ _) (Some text) (Some derivation) (Some proofs) e = IsAcceptTextRefusal text.now derivation.now proofs.now e
+RefusesTexts (Conditions _ _ _) (Some text) (Some derivation) _ e = IsDeriveRefusal text.now derivation.now e
+RefusesTexts (Prove _ _ _ _) (Some text) (Some derivation) _ e = Unit {0}
+RefusesTexts (Emit _ _ _) (Some text) (Some derivation) (Some proofs) e = IsAcceptTextRefusal text.now derivation.now proofs.now e
+RefusesTexts (Valid _ _) (Some text) _ (Some proofs) e = IsValidRefusal text.now proofs.now e
+RefusesTexts (Clauses _ None) (Some text) _ _ e = IsClausesRefusal text.now e
+RefusesTexts (Clauses _ (Some chosen)) (Some text) (Some derivation) _ e = IsChosenClausesRefusal text.now derivation.now chosen.condition e
+RefusesTexts (Find _ steps None) (Some text) _ _ e = IsFindRefusal text.now steps e
+RefusesTexts (Find _ steps (Some chosen)) (Some text) (Some derivation) _ e = IsChosenFindRefusal text.now derivation.now chosen.condition steps e
+RefusesTexts _ _ _ _ e = ⊥
+
+-- the files of a command are refused so; of `prove` no more is said than that it has its files, and an explanation has none that could be refused
+abbrev pub RefusesFiles : Command → Files → Refusal → Type 0
+RefusesFiles command files e = RefusesTexts command files.text files.derivation files.proofs e
+
+-- a format is that of lines
+abbrev pub is_plain : Format → Bool
+is_plain Plain = true
+is_plain Json = false
+
+-- whether it is said of a command, in a format, why it is refused and what went out until then: of the commands over a text, a derivation and proofs
+-- that print lines, but not of conditions as formulas, of runs and of outlines
+abbrev pub says_why : Format → Command → Bool
+says_why format (Number _) = is_plain format
+says_why format (Check _ _ _) = is_plain format
+says_why format (Conditions _ _ false) = is_plain format
+says_why format (Conditions _ _ true) = false
+says_why format (Prove _ _ _ _) = is_plain format
+says_why format (Emit _ _ _) = true
+says_why format (Valid _ _) = true
+says_why format (Clauses _ _) = true
+says_why format (Find _ _ _) = true
+says_why format (Explain _) = true
+says_why format (Run _ _ _ _ _ _ _) = false
+says_why format (RunOutline _ _ _ _ _) = false
+says_why format (Outline _ _ _ _ _) = false
+says_why format (Verify _ _ _) = false
+says_why format (Challenge _ _) = false
+
+-- the command prints nothing, since its files are refused so; or what it printed was cut, since the writer failed or memory was refused
+abbrev pub IsStoppedBy : Format → Command → Files → Option (List ℕ) → Option (List ℕ) → ℕ → ℕ → Refusal → Type 0
+IsStoppedBy format command files old new failed after e =
+    IsTrue (says_why format command) → IsStopped (RefusesFiles command files) old new failed after e
+
+-- the command prints nothing, since its files are refused so
+abbrev pub IsRefusedFor : Format → Command → Files → Option (List ℕ) → Option (List ℕ) → ℕ → ℕ → Refusal → Type 0
+IsRefusedFor format command files old new failed after e =
+    IsTrue (says_why format command) → RefusesFiles command files e × IsUntouched old new failed after
+
+-- why there are no proofs went out, in the format, and what it tells is so
+abbrev pub HasToldProofs : Format → List ℕ → List ℕ → Option (List ℕ) → Option (List ℕ) → Type 0
+HasToldProofs Plain text derivation old new = HasToldUnproved text derivation old new
+HasToldProofs Json text derivation old new = HasToldUnprovedJson text derivation old new
+
+-- of a text and a derivation: what went out tells why there are no proofs, and is so
+abbrev pub TellsOf : Format → Command → Option (Bor (List ℕ)) → Option (Bor (List ℕ)) → Option (List ℕ) → Option (List ℕ) → Type 0
+TellsOf format (Prove _ _ _ _) (Some text) (Some derivation) old new = HasToldProofs format text.now derivation.now old new
+TellsOf format (Find _ _ None) (Some text) _ old new = HasToldFormula text.now old new
+TellsOf format (Find _ _ (Some chosen)) (Some text) (Some derivation) old new = HasToldCondition text.now derivation.now chosen.condition old new
+TellsOf format (Verify _ _ true) (Some outline) _ old new = HasBreakingRun × HasPrintedRuns old new
+TellsOf format (RunOutline _ _ _ _ _) (Some outline) _ old new = Unit {0}
+TellsOf format (Outline _ _ _ _ _) (Some outline) _ old new = Unit {0}
+TellsOf format _ _ _ old new = ⊥
+
+-- the output tells why there is no proof, and what it tells is so; of outlines that are run or written that isn't said
+abbrev pub TellsWhy : Format → Command → Files → Option (List ℕ) → Option (List ℕ) → Type 0
+TellsWhy format command files old new = TellsOf format command files.text files.derivation old new
+
+-- the command is over an outline
+abbrev pub IsOverOutline : Command → Type 0
+IsOverOutline (RunOutline _ _ _ _ _) = Unit {0}
+IsOverOutline (Outline _ _ _ _ _) = Unit {0}
+IsOverOutline (Verify _ _ _) = Unit {0}
+IsOverOutline (Challenge _ _) = Unit {0}
+IsOverOutline _ = ⊥
+
+-- the words don't fit: what stands for a range may be none, the number may be that of no refusal, or formulas or a picture are asked for as JSON
+abbrev pub IsMisfit : Format → Command → Type 0
+IsMisfit format (Prove _ _ _ (Some range)) = Unit {0}
+IsMisfit format (Explain number) = Unit {0}
+IsMisfit format (Conditions _ _ true) = is_plain format ≡ false
+IsMisfit format (Run _ _ _ _ _ _ (Some picture)) = is_plain format ≡ false
+IsMisfit format _ = ⊥
+
+-- the refusals of writers that fail and of memory, which aren't of files
+abbrev pub is_failure : RefusalNumber → Bool
+is_failure Write = true
+is_failure Memory = true
+is_failure _ = false
+
+-- the status of a refusal
+abbrev pub refusal_status : RefusalNumber → ℕ
+refusal_status number = if is_failure number then 3 else 1
+
+-- the line that tells a refusal
+abbrev pub told_line : Format → Refusal → List ℕ
+told_line Plain e = refusal_text e ++ codes "\n"
+told_line Json e = json_line (refusal_data e)
+
+-- what explains a refusal below its line: nothing, where that isn't asked, or where the refusal is told as JSON
+pub record IsBelow (settings : Settings) (text : List ℕ) : Type 0 where
+  pub unasked : settings.is_explained ≡ false → text ≡ []
+  pub as_json : settings.format ≡ Json → text ≡ []
+
+-- a refusal is told by its line, and has its own status; or there was no memory for the line, and that is told
+abbrev pub TellsRefusal : Settings → Refusal → ℕ → Option (List ℕ) → Option (List ℕ) → ℕ → ℕ → Type 0
+TellsRefusal settings e status old new failed after =
+    ((below : List ℕ) × IsBelow settings below × (status ≡ refusal_status e.number) × Writes old new failed after (told_line settings.format e ++ below))
+    ⊎ ((status ≡ 3) × Writes old new failed after (codes "refused 99\n"))
+
+-- the output tells why there is no proof, and nothing is told on the faults
+pub record HasToldWhy (line : Line) (files : Files) (old new : Option (List ℕ)) (failed after : ℕ) (quiet told : Option (List ℕ)) (quiet_failed told_failed : ℕ) : Type 0 where
+  pub why : TellsWhy line.settings.format line.command files old new
+  pub failures : after ≡ failed
+  pub silent : told ≡ quiet
+  pub faults : told_failed ≡ quiet_failed
+
+-- the files are refused, nothing went out, and the refusal is told on the faults
+pub record HasToldRefusal (line : Line) (files : Files) (old new : Option (List ℕ)) (failed after : ℕ) (quiet told : Option (List ℕ)) (quiet_failed told_failed : ℕ) : Type 0 where
+  pub refusal : Refusal
+  pub why : IsRefusedFor line.settings.format line.command files old new failed after refusal
+  pub tells : TellsRefusal line.settings refusal 1 quiet told quiet_failed told_failed
+
+-- an outline is refused or not verified, and lines on the faults tell it
+pub record HasToldOutline (line : Line) (quiet told : Option (List ℕ)) (quiet_failed told_failed : ℕ) : Type 0 where
+  pub over : IsOverOutline line.command
+  pub lines : List ℕ
+  pub tells : Writes quiet told quiet_failed told_failed lines
+
+-- status 1: there is no proof, or the files are refused, or an outline
+abbrev pub IsRefused : Line → Files → Option (List ℕ) → Option (List ℕ) → ℕ → ℕ → Option (List ℕ) → Option (List ℕ) → ℕ → ℕ → Type 0
+IsRefused line files old new failed after quiet told quiet_failed told_failed =
+    HasToldWhy line files old new failed after quiet told quiet_failed told_failed
+    ⊎ HasToldRefusal line files old new failed after quiet told quiet_failed told_failed
+    ⊎ HasToldOutline line quiet told quiet_failed told_failed
+
+-- status 2: the words don't fit, nothing went out, and a line on the faults tells it
+pub record HasToldMisfit (line : Line) (old new : Option (List ℕ)) (failed after : ℕ) (quiet told : Option (List ℕ)) (quiet_failed told_failed : ℕ) : Type 0 where
+  pub misfit : IsMisfit line.settings.format line.command
+  pub untouched : IsUntouched old new failed after
+  pub words : List ℕ
+  pub tells : Writes quiet told quiet_failed told_failed words
+
+-- a file that the command names can't be read, nothing went out, and the line on the faults tells which is the first
+pub record HasToldUnread (line : Line) (files : Files) (old new : Option (List ℕ)) (failed after : ℕ) (quiet told : Option (List ℕ)) (quiet_failed told_failed : ℕ) : Type 0 where
+  pub words : List ℕ
+  pub unread : unread_line line.command files ≡ Some words
+  pub untouched : IsUntouched old new failed after
+  pub tells : Writes quiet told quiet_failed told_failed words
+
+-- the output was cut, since the writer failed or memory was refused, or there was no memory before it began; and that is told on the faults
+pub record HasToldCut (line : Line) (files : Files) (old new : Option (List ℕ)) (failed after : ℕ) (quiet told : Option (List ℕ)) (quiet_failed told_failed : ℕ) : Type 0 where
+  pub refusal : Refusal
+  pub why : IsStoppedBy line.settings.format line.command files old new failed after refusal
+  pub tells : TellsRefusal line.settings refusal 3 quiet told quiet_failed told_failed
+
+-- status 3: a file can't be read, or the writer failed or memory was refused
+abbrev pub HasFailed : Line → Files → Option (List ℕ) → Option (List ℕ) → ℕ → ℕ → Option (List ℕ) → Option (List ℕ) → ℕ → ℕ → Type 0
+HasFailed line files old new failed after quiet told quiet_failed told_failed =
+    HasToldUnread line files old new failed after quiet told quiet_failed told_failed
+    ⊎ HasToldCut line files old new failed after quiet told quiet_failed told_failed
