@@ -9,7 +9,7 @@ ghost use Rattle.rg_words.specs.Refusals.{refused_in};
 ghost use Rattle.rg_tree.specs.Conditions.{condition_tree};
 ghost use Rattle.rg_tree.specs.Programs.{nth};
 ghost use Rattle.rg_clauses.specs.Conditions.{clauses_of_condition};
-ghost use Rattle.rg_find.specs.Judged.{IsJudged, JudgedFits};
+ghost use Rattle.rg_find.specs.Judged.{IsJudged, JudgedFits, JudgedInOrder};
 ghost use Rattle.rgc.specs.Chosen.{AreDerived, IsDeriveRefusal, IsChosen, IsChoiceRefusal, IsChosenClausesRefusal, IsChosenFindRefusal};
 ghost use Rattle.rgc.specs.Stages.{derived_program, derived_lines};
 
@@ -124,6 +124,8 @@ pub fn find_condition<W: Watcher>(
     ensures chosen { IfOk result (λ r. IsChosen text.now derivation.now number (condition_tree r.0)) }
     ensures judged { IfOk result (λ r. IsJudged (condition_tree r.0) r.1) }
     ensures fits { IfOk result (λ r. JudgedFits r.1) }
+    // The numbers of lines follow those of the clauses and have no gaps.
+    ensures order { IfOk result (λ r. JudgedInOrder r.1) }
     ensures steps { OnOk result (steps ≤ MOST_DECISIONS) }
     ensures refused { IfErr result (IsChosenFindRefusal text.now derivation.now number steps) }
 {

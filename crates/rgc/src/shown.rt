@@ -9,7 +9,7 @@ ghost use Rattle.rg_clauses.specs.ClauseLists.{IsUnsatisfiable};
 ghost use Rattle.rg_parse.specs.Shown.{SpellsShow};
 ghost use Rattle.rg_tree.specs.Conditions.{condition_tree, ConditionHolds};
 ghost use Rattle.rg_clauses.specs.Conditions.{clauses_of_condition};
-ghost use Rattle.rg_find.specs.Judged.{IsJudged, JudgedFits};
+ghost use Rattle.rg_find.specs.Judged.{IsJudged, JudgedFits, JudgedInOrder};
 ghost use Rattle.rgc.specs.Valid.{clauses_shown, HasClauses, ShownHolds, IsShown, IsClausesRefusal, IsFindRefusal, IsProved, IsValidRefusal};
 
 use rg_clauses::Clauses;
@@ -65,6 +65,8 @@ pub fn find<W: Watcher>(
     ensures formula { IfOk result (λ r. IsShown text.now (condition_tree r.0)) }
     ensures judged { IfOk result (λ r. IsJudged (condition_tree r.0) r.1) }
     ensures fits { IfOk result (λ r. JudgedFits r.1) }
+    // The numbers of lines follow those of the clauses and have no gaps.
+    ensures order { IfOk result (λ r. JudgedInOrder r.1) }
     ensures clauses { IfOk result (λ r. HasClauses text.now (clauses_of_condition (condition_tree r.0))) }
     ensures holds { IfOk result (λ r. ConditionHolds (condition_tree r.0) → ShownHolds text.now) }
     ensures steps { OnOk result (steps ≤ MOST_DECISIONS) }

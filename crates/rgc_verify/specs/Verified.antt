@@ -1,12 +1,15 @@
 -- What is printed of an outline.
-use Rattle.std.specs.Prelude.{ℕ, List, ◌++◌, length, Option, codes, decimal}
+use Rattle.std.specs.Prelude.{◌≡◌, ℕ, ◌≤◌, List, [], ◌∷◌, ◌++◌, length, Option, codes, decimal}
+use Rattle.std.specs.List.{concat}
 use Rattle.std.specs.Io.KnownBytes.{Appends}
 use Rattle.serde_json.specs.Data.{Data, object, member, no_members, number, string, unsigned}
 use Rattle.serde_json.specs.Written.{compact_text}
+use Rattle.rg_words.specs.declared.limits.TheConstants.{MOST_TEXT_BYTES}
 use Rattle.rg_tree.specs.Lines.{LineTree}
 use Rattle.rg_tree.specs.Statements.{ProgramTree}
 use Rattle.rg_tree.specs.Programs.{IsSatisfied}
 use Rattle.rgc.specs.Accepted.{conditions_of, AreAccepted}
+use Rattle.rgc.specs.Pieces.{AreAcceptedInPieces}
 use Rattle.rgc.specs.Chosen.{AreDerived}
 use Rattle.rgc_walked.specs.Refuted.{IsRefuted}
 use Rattle.rgc_verify.specs.declared.verdict.Form.{Form}
@@ -45,21 +48,33 @@ verdict_text Alone conditions found = verified_text conditions found
 verdict_text (Named name) conditions found = name.now ++ (codes ": " ++ verified_text conditions found)
 verdict_text (Json name) conditions found = compact_text (verdict_data name.now conditions found) ++ codes "\n"
 
--- some text, derivation and proofs are accepted for a program, which therefore satisfies its specification, and the count of its conditions went out
--- in this form
+-- one behind another these pieces are the derivation, and it is one piece where it is no longer than a file may be
+pub record ArePiecesOf (derivation : List ℕ) (pieces : List (List ℕ)) : Type 0 where
+  pub joined : concat pieces ≡ derivation
+  pub alone : length derivation ≤ MOST_TEXT_BYTES → pieces ≡ derivation ∷ []
+
+-- some text, the pieces of some derivation, and some proofs are accepted for a program, which therefore satisfies its specification, and the count of
+-- its conditions went out in this form
 pub record HasPrintedVerdict (form : Form) (old new : Option (List ℕ)) : Type 0 where
   pub text : List ℕ
   pub derivation : List ℕ
+  pub pieces : List (List ℕ)
   pub proofs : List ℕ
   pub program : ProgramTree
-  pub accepted : AreAccepted text derivation proofs program
+  pub cut : ArePiecesOf derivation pieces
+  pub accepted : AreAcceptedInPieces text pieces proofs program
   pub satisfied : IsSatisfied program
   pub found : ℕ
-  pub printed : Appends old new (verdict_text form (length (conditions_of program accepted.accepted.lines)) found)
+  pub printed : Appends old new (verdict_text form (length (conditions_of program accepted.lines)) found)
 
 -- the same as a line to be read
 abbrev pub HasPrintedVerified : Option (List ℕ) → Option (List ℕ) → Type 0
 HasPrintedVerified old new = HasPrintedVerdict Alone old new
+
+-- where the derivation is no longer than a file may be, it is accepted with the text and the proofs
+abbrev pub ShortDerivationsAreAccepted : Type 0
+ShortDerivationsAreAccepted =
+    (form : Form) (old new : Option (List ℕ)) (v : HasPrintedVerdict form old new) → length v.derivation ≤ MOST_TEXT_BYTES → AreAccepted v.text v.derivation v.proofs v.program
 
 -- some text spells a program that doesn't satisfy its specification
 abbrev pub HasBreakingRun : Type 0

@@ -3,12 +3,14 @@
 
 mod outline;
 mod outlines;
+mod pieces;
 mod runs;
 mod verdict;
 mod verify;
 
 pub use outline::{print_map, print_outline};
 pub use outlines::verify_outline;
+pub use pieces::short_derivations_are_accepted;
 pub use rgc_walked::NoVerdict;
 pub use runs::runs_only;
 pub use verdict::Form;
