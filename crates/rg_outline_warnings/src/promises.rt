@@ -4,6 +4,7 @@ use crate::warnings::{clause_span, warn};
 use rg_outline::Expansion;
 use rg_outline_reports::{Reports, Warning};
 use rg_outline_scope::bit_of;
+use rg_outline_text::Span;
 use rg_outline_tree::{Clause, Standing};
 use std::alloc::AllocError;
 
@@ -24,23 +25,53 @@ pub(crate) fn tell_unmet(
     }
 }
 
-/// Tells that the program's post is `false`.
+/// The first part that never ends, by what holds behind it.
+fn endless_part(expansion: &Expansion<'_>) -> Option<usize> {
+    for (index, part) in expansion.parts.iter().enumerate() {
+        if expansion.scope.forest.is_truth(part.post.full, false) {
+            return Some(index);
+        }
+    }
+    None
+}
+
+/// Tells that a part never ends, so that the program's post isn't asked of any run.
+fn tell_unasked(
+    expansion: &Expansion<'_>,
+    reports: &mut Reports,
+    place: Span,
+    part: usize,
+) -> Result<(), AllocError> {
+    let mut sentence = Vec::new(expansion.scope.alloc);
+    sentence.extend_from_slice(b"part ")?;
+    sentence.extend_from_slice(expansion.part_names.at(part))?;
+    sentence.extend_from_slice(
+        b" never ends, so no run of the program does: the post, which is asked where all parts have ended, promises nothing",
+    )?;
+    warn(reports, Warning::PostFalse, place, None, &sentence)
+}
+
+/// Tells that the program's post promises nothing of what a run does: it is `false`, or it is never asked, since a part never ends.
 pub(crate) fn tell_post(
     expansion: &Expansion<'_>,
     reports: &mut Reports,
 ) -> Result<(), AllocError> {
-    let is_false = expansion
-        .scope
-        .forest
-        .is_truth(expansion.specification.post, false);
-    match clause_span(expansion, Clause::Post) {
-        Some(place) if is_false => warn(
+    let Some(place) = clause_span(expansion, Clause::Post) else {
+        return Ok(());
+    };
+    let forest = &expansion.scope.forest;
+    let post = expansion.specification.post;
+    if forest.is_truth(post, false) {
+        return warn(
             reports,
             Warning::PostFalse,
             place,
             None,
             b"the post is false: it says that no run of the program ends, and nothing of what a run does",
-        ),
+        );
+    }
+    match endless_part(expansion) {
+        Some(part) if !forest.is_truth(post, true) => tell_unasked(expansion, reports, place, part),
         _ => Ok(()),
     }
 }
