@@ -1,13 +1,17 @@
 //! What is known of a changed program.
 
-ghost use Rattle.std.specs.Prelude.{IfOk, IfSome, OnOk, All};
+ghost use Rattle.std.specs.Prelude.{◌<◌, IfOk, IfSome, OnOk, All, length};
 ghost use Rattle.rgc_challenge.specs.Changed.{IsAnswered};
+ghost use Rattle.rgc_challenge.specs.Inner.Answers.{AreAnswered};
 
 use crate::asked::{is_proved, walk_text};
+use crate::candidates::{Candidate, files_with};
+use crate::known::Known;
 use crate::told::run_told;
 use rg_find::Watcher;
 use rg_outline_challenge::{Between, Change, changed_outline};
-use rg_outline_files::{Format, NoFiles, OutlineFiles, OutlineSource};
+use rg_outline_files::OutlineFiles;
+use rg_pool::deal;
 use rg_walk::Walked;
 use rgc_walked::NoVerdict;
 use std::alloc::{AllocError, Global};
@@ -37,75 +41,20 @@ pub struct Answered {
     pub told: Vec<u8>,
 }
 
-/// The outline that is changed.
+/// The outline that is changed, and how its changes are asked.
 #[derive(Clone, Copy)]
-pub(crate) struct Subject<'a> {
-    pub(crate) source: &'a [u8],
-    /// The text that it stands for.
-    pub(crate) text: &'a [u8],
-    pub(crate) threads: usize,
+pub(crate) struct Subject<'s, 'k, 'p> {
+    pub(crate) source: &'s [u8],
+    /// What is proved of the outline as it is written.
+    pub(crate) known: &'k Known<'p>,
+    /// The most decisions of each search.
     pub(crate) steps: u64,
 }
 
-/// The files of an outline; nothing where it is refused.
-pub(crate) fn files_of(alloc: Global, source: &[u8]) -> Result<Option<OutlineFiles>, NoVerdict> {
-    let outline = OutlineSource {
-        name: "",
-        source,
-        format: Format::Plain,
-    };
-    match OutlineFiles::of(alloc, outline) {
-        Ok(files) => Ok(Some(files)),
-        Err(NoFiles::Told(_)) => Ok(None),
-        Err(none) => Err(NoVerdict::from(none)),
-    }
-}
-
-/// The files of a changed outline; nothing where there is no such one, or where it is refused.
-fn files_with(
-    alloc: Global,
-    subject: Subject<'_>,
-    change: &Change,
-    between: Between,
-) -> Result<Option<OutlineFiles>, NoVerdict> {
-    if !change.may_have(between) {
-        return Ok(None);
-    }
-    let source = changed_outline(alloc, subject.source, change, between)?;
-    files_of(alloc, &source)
-}
-
-/// Whether a text is the one of the outline, or was asked already.
-fn is_known(subject: Subject<'_>, answers: &[Answered], text: &[u8]) -> bool {
-    subject.text == text
-        || answers
-            .iter()
-            .any(|answered| answered.text.as_slice() == text)
-}
-
-/// The first assertion with which a changed outline can be read; nothing where it can't, or where the changed program isn't a new one.
-fn first_readable(
-    alloc: Global,
-    subject: Subject<'_>,
-    change: &Change,
-    answers: &[Answered],
-) -> Result<Option<Between>, NoVerdict> {
-    for between in Between::ALL {
-        if let Some(files) = files_with(alloc, subject, change, between)? {
-            if is_known(subject, answers, &files.text) {
-                return Ok(None);
-            }
-            return Ok(Some(between));
-        }
-    }
-    Ok(None)
-}
-
 /// A change that survives with these files, if it does.
-fn proved_with<R: Threads + Sync, P: Watcher + Copy + Sync>(
-    rt: &R,
+fn proved_with<P: Watcher + Copy>(
     alloc: Global,
-    subject: Subject<'_>,
+    subject: Subject<'_, '_, '_>,
     change: &Change,
     files: OutlineFiles,
     watcher: &P,
@@ -113,13 +62,12 @@ fn proved_with<R: Threads + Sync, P: Watcher + Copy + Sync>(
 ) -> Result<Option<Answered>, NoVerdict>
     ensures { IfOk result (λ found. IfSome found IsAnswered) }
 {
-    let (threads, steps) = (subject.threads, subject.steps);
+    let (known, steps) = (subject.known, subject.steps);
     if !is_proved(
-        rt,
         alloc,
-        threads,
         &files.text,
         &files.derivation,
+        known,
         steps,
         watcher,
         is_open,
@@ -135,10 +83,9 @@ fn proved_with<R: Threads + Sync, P: Watcher + Copy + Sync>(
 }
 
 /// A change that survives with one of the assertions, if it does.
-fn proved<R: Threads + Sync, P: Watcher + Copy + Sync>(
-    rt: &R,
+fn proved<P: Watcher + Copy>(
     alloc: Global,
-    subject: Subject<'_>,
+    subject: Subject<'_, '_, '_>,
     change: &Change,
     watcher: &P,
     is_open: &mut bool,
@@ -146,8 +93,8 @@ fn proved<R: Threads + Sync, P: Watcher + Copy + Sync>(
     ensures { IfOk result (λ found. IfSome found IsAnswered) }
 {
     for between in Between::ALL {
-        if let Some(files) = files_with(alloc, subject, change, between)? {
-            let found = proved_with(rt, alloc, subject, change, files, watcher, is_open)?;
+        if let Some(files) = files_with(alloc, subject.source, change, between)? {
+            let found = proved_with(alloc, subject, change, files, watcher, is_open)?;
             if found.is_some() {
                 return Ok(found);
             }
@@ -160,71 +107,97 @@ fn proved<R: Threads + Sync, P: Watcher + Copy + Sync>(
 fn walked(
     alloc: Global,
     source: &[u8],
-    change: &Change,
-    files: OutlineFiles,
+    candidate: &Candidate,
     is_open: bool,
 ) -> Result<Answered, NoVerdict>
     ensures { IfOk result IsAnswered }
 {
-    match walk_text(alloc, &files.text)? {
+    let change = candidate.change;
+    let text = Vec::from_slice(alloc, &candidate.text)?;
+    match walk_text(alloc, &text)? {
         Walked::Breaks(run) => {
-            let told = run_told(alloc, source, &run)?;
+            let changed = changed_outline(alloc, source, &change, candidate.between)?;
+            let told = run_told(alloc, &changed, &run)?;
             Ok(Answered {
-                change: *change,
+                change,
                 answer: Answer::Breaks,
-                text: files.text,
+                text,
                 told,
             })
         }
         Walked::NotFound(_) => Ok(Answered {
-            change: *change,
+            change,
             answer: if is_open {
                 Answer::Undecided
             } else {
                 Answer::Unfit
             },
-            text: files.text,
+            text,
             told: Vec::new(alloc),
         }),
     }
 }
 
-/// The same, of the outline that was readable with this assertion.
-fn refused(
+/// What is known of a changed program.
+fn answer_of<P: Watcher + Copy>(
     alloc: Global,
-    subject: Subject<'_>,
-    change: &Change,
-    between: Between,
-    is_open: bool,
-) -> Result<Option<Answered>, NoVerdict>
-    ensures { IfOk result (λ found. IfSome found IsAnswered) }
+    subject: Subject<'_, '_, '_>,
+    candidate: &Candidate,
+    watcher: &P,
+) -> Result<Answered, NoVerdict>
+    ensures { IfOk result IsAnswered }
 {
-    let source = changed_outline(alloc, subject.source, change, between)?;
-    match files_of(alloc, &source)? {
-        Some(files) => Ok(Some(walked(alloc, &source, change, files, is_open)?)),
-        None => Ok(None),
+    let mut is_open = false;
+    let change = &candidate.change;
+    match proved(alloc, subject, change, watcher, &mut is_open)? {
+        Some(answered) => Ok(answered),
+        None => walked(alloc, subject.source, candidate, is_open),
     }
 }
 
-/// What is known of a changed program; nothing where the outline can't be changed so, or where the changed program isn't a new one.
-fn answer_of<R: Threads + Sync, P: Watcher + Copy + Sync>(
+/// What is known of each changed program, at its place, in at most so many threads.
+fn answer_all<R: Threads + Sync, P: Watcher + Copy + Sync>(
     rt: &R,
     alloc: Global,
-    subject: Subject<'_>,
-    change: &Change,
-    answers: &[Answered],
+    threads: usize,
+    subject: Subject<'_, '_, '_>,
+    candidates: &[Candidate],
     watcher: &P,
-) -> Result<Option<Answered>, NoVerdict>
-    ensures { IfOk result (λ found. IfSome found IsAnswered) }
+) -> Result<Vec<Option<Result<Answered, NoVerdict>>>, AllocError>
+    ensures { IfOk result (λ found. AreAnswered found.items) }
 {
-    let Some(between) = first_readable(alloc, subject, change, answers)? else {
-        return Ok(None);
-    };
-    let mut is_open = false;
-    match proved(rt, alloc, subject, change, watcher, &mut is_open)? {
-        Some(answered) => Ok(Some(answered)),
-        None => refused(alloc, subject, change, between, is_open),
+    deal(
+        rt,
+        alloc,
+        threads,
+        candidates.len(),
+        &|index: usize| -> Option<Result<Answered, NoVerdict>>
+            requires { index < length candidates.now }
+            ensures { IfSome result (λ r. IfOk r IsAnswered) }
+        { Some(answer_of(alloc, subject, &candidates[index], watcher)) },
+    )
+}
+
+/// What is known of the changed program at a place: what was found of it before, which is taken, or what is found now.
+fn answer_at<P: Watcher + Copy>(
+    alloc: Global,
+    subject: Subject<'_, '_, '_>,
+    candidates: &[Candidate],
+    found: &mut [Option<Result<Answered, NoVerdict>>],
+    index: usize,
+    watcher: &P,
+) -> Result<Answered, NoVerdict>
+    requires place { index < length candidates.now }
+    requires found { AreAnswered found.old }
+    ensures answered { IfOk result IsAnswered }
+    ensures found { AreAnswered found.new }
+{
+    if index < found.len() {
+        if let Some(answered) = found[index].take() {
+            return answered;
+        }
     }
+    answer_of(alloc, subject, &candidates[index], watcher)
 }
 
 /// Adds what is known of a changed program.
@@ -237,21 +210,24 @@ fn keep(answers: &mut Vec<Answered>, answered: Answered) -> Result<(), AllocErro
     Ok(())
 }
 
-/// What is known of each changed program that is a new one, in the order of the changes.
+/// What is known of each changed program, in the order of the candidates. They are asked side by side, in at most so many threads; the answers are
+/// the same for any count of threads.
 pub(crate) fn answers_of<R: Threads + Sync, P: Watcher + Copy + Sync>(
     rt: &R,
     alloc: Global,
-    subject: Subject<'_>,
-    changes: &[Change],
+    threads: usize,
+    subject: Subject<'_, '_, '_>,
+    candidates: &[Candidate],
     watcher: &P,
 ) -> Result<Vec<Answered>, NoVerdict>
     ensures { IfOk result (λ answers. All IsAnswered answers.items) }
 {
+    let mut found = answer_all(rt, alloc, threads, subject, candidates, watcher)?;
+    let places = found.as_mut_slice();
     let mut answers = Vec::new(alloc);
-    for change in changes {
-        if let Some(answered) = answer_of(rt, alloc, subject, change, &answers, watcher)? {
-            keep(&mut answers, answered)?;
-        }
+    for index in 0..candidates.len() {
+        let answered = answer_at(alloc, subject, candidates, places, index, watcher)?;
+        keep(&mut answers, answered)?;
     }
     Ok(answers)
 }

@@ -6,13 +6,14 @@ ghost use Rattle.rgc.specs.Stages.{derived_program, derived_lines};
 ghost use Rattle.rgc_challenge.specs.Changed.{IsProvedText, IsRefutedText};
 ghost use Rattle.rgc_challenge.specs.Inner.Proved.{HasProofs};
 
-use rg_find::{Judged, Watcher};
+use crate::known::Known;
+use rg_find::{Judged, Watcher, judge};
 use rg_parse::program;
+use rg_tree::condition::Condition;
 use rg_walk::{Bounds, Walked, walk};
-use rg_words::Refusal;
-use rgc::{Derived, ProofsFound, Unproved, derive_program, find_proofs_all};
-use std::alloc::Global;
-use std::thread::Threads;
+use rg_words::{Refusal, RefusalNumber, SourceFile};
+use rgc::{Derived, derive_program};
+use std::alloc::{AllocError, Global};
 
 /// How far each walk goes.
 const BOUNDS: Bounds = Bounds {
@@ -21,49 +22,131 @@ const BOUNDS: Bounds = Bounds {
     with_parts: false,
 };
 
-/// Whether one of these conditions fails.
-fn fails(unproved: &[Unproved]) -> bool {
-    unproved
-        .iter()
-        .any(|one| matches!(one.judged, Judged::Fails(..)))
+/// What searches say of conditions.
+#[derive(Clone, Copy, PartialEq, Eq)]
+enum Judgement {
+    /// All of them are true, by the lines that are known or were found.
+    True,
+    /// One of them fails.
+    Fails,
+    /// For some of them there are no lines, and none fails.
+    Open,
 }
 
-/// Whether proofs are found of all conditions of a program; where they aren't, and none fails, `is_open` becomes true.
-fn has_proofs<R: Threads + Sync, P: Watcher + Copy + Sync>(
-    rt: &R,
+/// Adds the section of a condition of this number, where it has lines.
+fn push_section(
     alloc: Global,
-    threads: usize,
-    derived: Derived,
+    proofs: &mut Vec<u8>,
+    number: u64,
+    lines: &[u8],
+) -> Result<(), AllocError> {
+    if lines.is_empty() {
+        return Ok(());
+    }
+    let head = format!(in alloc; "section {number}\n")?;
+    proofs.extend_from_slice(head.as_bytes())?;
+    proofs.extend_from_slice(lines)?;
+    Ok(())
+}
+
+/// What a search says of a condition of this number; where it is true, its section is added.
+fn search<P: Watcher + Copy>(
+    alloc: Global,
+    condition: &Condition,
+    number: u64,
     steps: u64,
     watcher: &P,
-    is_open: &mut bool,
-) -> Result<bool, Refusal>
-    ensures { IfOk result (λ b. IsTrue b → HasProofs (derived_program derived) (derived_lines derived)) }
-{
-    match find_proofs_all(rt, alloc, threads, &derived, steps, watcher)? {
-        ProofsFound::Proofs(proofs) => {
-            derived.prove_all(rt, alloc, threads, proofs.as_bytes())?;
-            Ok(true)
+    proofs: &mut Vec<u8>,
+) -> Result<Judgement, Refusal> {
+    let mut own = *watcher;
+    let file = SourceFile::Derivation;
+    match judge(alloc, condition, file, number, steps, &mut own)? {
+        Judged::Holds(lines) => {
+            let text = lines.text(alloc)?;
+            push_section(alloc, proofs, number, text.as_bytes())?;
+            Ok(Judgement::True)
         }
-        ProofsFound::Failures(unproved) => {
-            *is_open = *is_open || !fails(&unproved);
-            Ok(false)
-        }
+        Judged::Fails(..) => Ok(Judgement::Fails),
+        Judged::GaveUp | Judged::TooLarge => Ok(Judgement::Open),
     }
 }
 
-/// Whether all conditions of a text's program with this derivation are proved. Each search makes so many decisions at most. Where they aren't
-/// all proved, and none of them is found to fail, `is_open` becomes true.
+/// What is known of a condition of this number, or else what a search says of it; where it is true, its section is added.
+fn judge_one<P: Watcher + Copy>(
+    alloc: Global,
+    condition: &Condition,
+    number: u64,
+    known: &Known<'_>,
+    steps: u64,
+    watcher: &P,
+    proofs: &mut Vec<u8>,
+) -> Result<Judgement, Refusal> {
+    match known.lines_of(condition) {
+        Some(lines) => {
+            push_section(alloc, proofs, number, lines)?;
+            Ok(Judgement::True)
+        }
+        None => search(alloc, condition, number, steps, watcher, proofs),
+    }
+}
+
+/// What is known of conditions, or else what searches say of them, up to the first that fails; the sections of those that are true are added.
+fn judge_all<P: Watcher + Copy>(
+    alloc: Global,
+    conditions: &[Condition],
+    known: &Known<'_>,
+    steps: u64,
+    watcher: &P,
+    proofs: &mut Vec<u8>,
+) -> Result<Judgement, Refusal> {
+    let mut all = Judgement::True;
+    for (index, condition) in conditions.iter().enumerate() {
+        let number = (index as u64).saturating_add(1);
+        match judge_one(alloc, condition, number, known, steps, watcher, proofs)? {
+            Judgement::True => {}
+            Judgement::Fails => return Ok(Judgement::Fails),
+            Judgement::Open => all = Judgement::Open,
+        }
+    }
+    Ok(all)
+}
+
+/// The same of the conditions of a program's derivation.
+fn judge_derived<P: Watcher + Copy>(
+    alloc: Global,
+    derived: &Derived,
+    known: &Known<'_>,
+    steps: u64,
+    watcher: &P,
+    proofs: &mut Vec<u8>,
+) -> Result<Judgement, Refusal> {
+    let conditions = derived.conditions(alloc)?;
+    judge_all(alloc, &conditions, known, steps, watcher, proofs)
+}
+
+/// Whether these proofs prove all conditions of a program.
+fn has_proofs(alloc: Global, derived: Derived, proofs: &[u8]) -> Result<bool, Refusal>
+    ensures { IfOk result (λ b. IsTrue b → HasProofs (derived_program derived) (derived_lines derived)) }
+{
+    match derived.prove(alloc, proofs) {
+        Ok(_) => Ok(true),
+        Err(refusal) if refusal.number == RefusalNumber::Memory => Err(Refusal::from(AllocError)),
+        Err(_) => Ok(false),
+    }
+}
+
+/// Whether all conditions of a text's program with this derivation are proved: by lines that are known, or that a search finds, which makes so many
+/// decisions at most; all lines are checked. Where they aren't all proved, and none of them is found to fail, `is_open` becomes true. The
+/// conditions are looked at in their order up to the first that fails.
 ///
 /// # Errors
 ///
-/// As `rgc::derive_program`; then as `rgc::find_proofs_all`.
-pub fn is_proved<R: Threads + Sync, P: Watcher + Copy + Sync>(
-    rt: &R,
+/// As `rgc::derive_program`; then as `rg_find::judge` of the conditions that are looked at.
+pub fn is_proved<P: Watcher + Copy>(
     alloc: Global,
-    threads: usize,
     text: &[u8],
     derivation: &[u8],
+    known: &Known<'_>,
     steps: u64,
     watcher: &P,
     is_open: &mut bool,
@@ -72,7 +155,13 @@ pub fn is_proved<R: Threads + Sync, P: Watcher + Copy + Sync>(
     ensures { IfOk result (λ b. IsTrue b → IsProvedText text.now) }
 {
     let derived = derive_program(alloc, text, derivation)?;
-    has_proofs(rt, alloc, threads, derived, steps, watcher, is_open)
+    let mut proofs = Vec::new(alloc);
+    let judgement = judge_derived(alloc, &derived, known, steps, watcher, &mut proofs)?;
+    if judgement == Judgement::True && has_proofs(alloc, derived, &proofs)? {
+        return Ok(true);
+    }
+    *is_open = *is_open || judgement != Judgement::Fails;
+    Ok(false)
 }
 
 /// Walks the program that a text spells, for a short while.

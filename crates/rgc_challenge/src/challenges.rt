@@ -5,13 +5,16 @@ ghost use Rattle.rg_words.specs.Written.{CanCount};
 ghost use Rattle.rgc_challenge.specs.Changed.{IsAnswered};
 
 use crate::answers::{Answer, Answered, Subject, answers_of};
+use crate::candidates::{Original, candidates_of};
+use crate::known::Known;
 use rg_find::Watcher;
 use rg_outline_challenge::{
     Change, Changes, Counts, changes_of, push_change, push_counts, push_survivors, push_unspoken,
 };
 use rg_outline_files::{Format, OutlineFiles, OutlineSource};
 use rg_outline_text::Span;
-use rg_words::{Out, write_all};
+use rg_words::{Out, Refusal, write_all};
+use rgc::{ProofsFound, derive_program, find_proofs_all};
 use rgc_walked::NoVerdict;
 use std::alloc::{AllocError, Global};
 use std::thread::Threads;
@@ -126,6 +129,36 @@ fn lines_of(
     Ok(lines)
 }
 
+/// Proofs of all conditions of an outline's program, if they are found.
+fn proofs_of<R: Threads + Sync, P: Watcher + Copy + Sync>(
+    rt: &R,
+    alloc: Global,
+    threads: usize,
+    files: &OutlineFiles,
+    steps: u64,
+    watcher: &P,
+) -> Result<Option<String>, Refusal> {
+    let derived = derive_program(alloc, &files.text, &files.derivation)?;
+    match find_proofs_all(rt, alloc, threads, &derived, steps, watcher)? {
+        ProofsFound::Proofs(proofs) => Ok(Some(proofs)),
+        ProofsFound::Failures(_) => Ok(None),
+    }
+}
+
+/// What these proofs prove of an outline's program.
+fn known_by<'p>(
+    alloc: Global,
+    files: &OutlineFiles,
+    proofs: Option<&'p String>,
+) -> Result<Known<'p>, Refusal> {
+    let Some(proofs) = proofs else {
+        return Ok(Known::nothing(alloc));
+    };
+    let derived = derive_program(alloc, &files.text, &files.derivation)?;
+    let conditions = derived.conditions(alloc)?;
+    Known::of(alloc, &conditions, proofs.as_bytes())
+}
+
 /// Asks of each small change of an outline's program whether its specification still holds.
 fn answers_in<R: Threads + Sync, P: Watcher + Copy + Sync>(
     rt: &R,
@@ -139,25 +172,32 @@ fn answers_in<R: Threads + Sync, P: Watcher + Copy + Sync>(
     ensures { IfOk result (λ answers. All IsAnswered answers.items) }
 {
     let files = OutlineFiles::of(alloc, outline)?;
-    let subject = Subject {
+    let proofs = proofs_of(rt, alloc, threads, &files, steps, watcher)?;
+    let known = known_by(alloc, &files, proofs.as_ref())?;
+    let original = Original {
         source: outline.source,
         text: &files.text,
-        threads,
+    };
+    let candidates = candidates_of(rt, alloc, threads, original, changes)?;
+    let subject = Subject {
+        source: outline.source,
+        known: &known,
         steps,
     };
-    answers_of(rt, alloc, subject, changes, watcher)
+    answers_of(rt, alloc, threads, subject, &candidates, watcher)
 }
 
 /// Changes the program of an outline in each small way, asks of each changed program whether the same specification still holds, and prints
 /// what it found: where it is wanted, the changes that don't survive; then how many changes there are of each kind; then those that survive,
 /// with their lines, first those that touch words of the specification. Whether the outline itself is verified isn't asked: whoever calls has
-/// `rgc_verify::verify_outline` say so before.
+/// `rgc_verify::verify_outline` say so before. The changed programs are asked side by side, in at most so many threads; what is printed is the same
+/// for any count of threads.
 ///
 /// # Errors
 ///
 /// - `NoVerdict::Outline` where the outline is refused, with what tells its first fault.
-/// - `NoVerdict::Refused` where a changed outline's files are too large, where more decisions are asked than a search may make, where the writer
-///   failed, or where memory is refused.
+/// - `NoVerdict::Refused` where the files of the outline or of a changed one are too large, where more decisions are asked than a search may make,
+///   where the writer failed, or where memory is refused.
 pub fn challenge<R: Threads + Sync, W: Out, P: Watcher + Copy + Sync>(
     rt: &R,
     alloc: Global,

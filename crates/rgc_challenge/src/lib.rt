@@ -3,9 +3,12 @@
 
 mod answers;
 mod asked;
+mod candidates;
 mod challenges;
+mod known;
 mod told;
 
 pub use answers::{Answer, Answered};
 pub use asked::{is_proved, walk_text};
 pub use challenges::{Options, challenge};
+pub use known::Known;

@@ -1,0 +1,156 @@
+//! Conditions that are proved: those of the outline as it is written. A changed outline has most of them, too.
+
+use rg_hints::{SectionBytes, place_sections, proof_sections};
+use rg_tree::condition::{Assign, Condition, Second};
+use rg_tree::tree::{Expr, Formula};
+use rg_words::Refusal;
+use std::alloc::{AllocError, Global};
+
+/// An odd number with many bits, by which prints are multiplied.
+const MULTIPLIER: u64 = 0x9E37_79B9_7F4A_7C15;
+
+/// A condition with a proof.
+#[derive(Clone, Copy)]
+struct Proved<'p> {
+    /// Equal conditions have equal prints. Two others could have equal ones, too, so the lines are checked wherever they are used.
+    print: u64,
+    /// The lines of its section; none where it needs none.
+    lines: &'p [u8],
+}
+
+/// Conditions with their proofs.
+#[derive(Drop)]
+pub struct Known<'p> {
+    proved: Vec<Proved<'p>>,
+}
+
+/// A print with a number more.
+fn mixed(print: u64, number: u64) -> u64 {
+    let mixed = (print ^ number).wrapping_mul(MULTIPLIER);
+    mixed ^ (mixed >> 29)
+}
+
+/// A print with an expression more.
+#[cycle(prints)]
+fn with_value(print: u64, e: &Expr) -> u64 {
+    match e {
+        Expr::Number(width, n) => mixed(mixed(mixed(print, 1), u64::from(*width)), *n),
+        Expr::Word(k) => mixed(mixed(print, 2), *k as u64),
+        Expr::NextWord(k) => mixed(mixed(print, 3), *k as u64),
+        Expr::Inverse(width, a) => with_value(mixed(mixed(print, 4), u64::from(*width)), a),
+        Expr::Binary(operator, width, a, b) => {
+            let begun = mixed(mixed(mixed(print, 5), *operator as u64), u64::from(*width));
+            with_value(with_value(begun, a), b)
+        }
+        Expr::Shifted(shift, width, a, count) => {
+            let begun = mixed(mixed(mixed(print, 6), *shift as u64), u64::from(*width));
+            with_value(mixed(begun, u64::from(*count)), a)
+        }
+        Expr::If(f, a, b) => with_value(with_value(with_formula(mixed(print, 7), f), a), b),
+    }
+}
+
+/// A print with a formula more.
+#[cycle(prints)]
+fn with_formula(print: u64, f: &Formula) -> u64 {
+    match f {
+        Formula::Truth(is_true) => mixed(mixed(print, 8), u64::from(*is_true)),
+        Formula::Not(f) => with_formula(mixed(print, 9), f),
+        Formula::Connect(connective, f, g) => {
+            let begun = mixed(mixed(print, 10), *connective as u64);
+            with_formula(with_formula(begun, f), g)
+        }
+        Formula::Compare(comparison, a, b) => {
+            let begun = mixed(mixed(print, 11), *comparison as u64);
+            with_value(with_value(begun, a), b)
+        }
+    }
+}
+
+/// A print with assignments more.
+fn with_assignments(print: u64, assignments: &[Assign]) -> u64 {
+    let mut now = mixed(print, assignments.len() as u64);
+    for assign in assignments {
+        now = with_value(mixed(now, assign.word as u64), &assign.value);
+    }
+    now
+}
+
+/// A print with hypotheses more.
+fn with_hypotheses(print: u64, hypotheses: &[Formula]) -> u64 {
+    let mut now = mixed(print, hypotheses.len() as u64);
+    for hypothesis in hypotheses {
+        now = with_formula(now, hypothesis);
+    }
+    now
+}
+
+/// The print of a condition over the words of the outline, which no change touches.
+fn print_of(condition: &Condition) -> u64 {
+    let begun = with_hypotheses(0, &condition.hypotheses);
+    let second = match &condition.second {
+        Second::Same => mixed(begun, 12),
+        Second::Free => mixed(begun, 13),
+        Second::After(assignments) => with_assignments(mixed(begun, 14), assignments),
+    };
+    let flags = mixed(
+        mixed(second, u64::from(condition.alone)),
+        u64::from(condition.or_no_change),
+    );
+    with_formula(flags, &condition.goal)
+}
+
+/// Conditions, each with the lines of its section.
+fn proved_by<'p>(
+    alloc: Global,
+    conditions: &[Condition],
+    placed: &[Option<SectionBytes<'p>>],
+) -> Result<Vec<Proved<'p>>, AllocError> {
+    let mut proved = Vec::new(alloc);
+    for (condition, section) in conditions.iter().zip(placed) {
+        let print = print_of(condition);
+        let lines: &[u8] = match section {
+            Some(section) => section.bytes,
+            None => &[],
+        };
+        proved.push(Proved { print, lines })?;
+    }
+    Ok(proved)
+}
+
+impl<'p> Known<'p> {
+    /// Nothing is known.
+    pub fn nothing(alloc: Global) -> Known<'p> {
+        Known {
+            proved: Vec::new(alloc),
+        }
+    }
+
+    /// These conditions, which this proofs file proves.
+    ///
+    /// # Errors
+    ///
+    /// As `rg_hints::proof_sections`.
+    pub fn of(
+        alloc: Global,
+        conditions: &[Condition],
+        proofs: &'p [u8],
+    ) -> Result<Known<'p>, Refusal> {
+        let count = conditions.len();
+        let sections = proof_sections(alloc, proofs, count)?;
+        let placed = place_sections(alloc, &sections, count)?;
+        let proved = proved_by(alloc, conditions, &placed)?;
+        Ok(Known { proved })
+    }
+
+    /// The lines that prove a condition, as far as its print tells; nothing where it isn't known.
+    pub(crate) fn lines_of(&self, condition: &Condition) -> Option<&'p [u8]> {
+        let print = print_of(condition);
+        for one in &self.proved {
+            if one.print == print {
+                return Some(one.lines);
+            }
+        }
+        None
+    }
+}
