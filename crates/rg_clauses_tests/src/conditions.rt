@@ -1,8 +1,8 @@
 //! Conditions have the same clauses by both tables of gates.
 
+use crate::scan::scanning;
 use rg_bits::{formula as gates_of, inputs};
 use rg_clauses::Clauses;
-use rg_gates::Gates;
 use rg_parse::{program, show};
 use rg_rules::Derivation;
 use rg_tree::condition::Condition;
@@ -19,7 +19,7 @@ fn same(left: &Clauses, right: &Clauses) -> bool {
 
 /// The clauses of a condition by the table that is searched from its front.
 fn scanned(alloc: Global, condition: &Condition) -> Option<Clauses> {
-    let mut gates = Gates::scanning(alloc, inputs(condition));
+    let mut gates = scanning(alloc, inputs(condition));
     let literal = gates_of(alloc, &mut gates, condition).ok()?;
     Clauses::of_gates(alloc, &gates, literal.negated()).ok()
 }

@@ -4,6 +4,7 @@ ghost use Rattle.std.specs.Prelude.{◌≡◌, ◌≤◌};
 ghost use Rattle.rg_gates.specs.declared.Lit.TheVariants.{Variable};
 ghost use Rattle.rg_gates.specs.Circuit.{variable_count};
 
+use crate::scan::scanning;
 use rg_gates::{Gate, GateError, Gates, Lit, Table, values_are_one};
 use rg_words::limits::MOST_VARIABLES;
 use std::alloc::Global;
@@ -107,7 +108,7 @@ fn answers_agree<S: Table, T: Table>(
 #[test]
 fn both_tables_agree(rt: HostRuntime) -> Result<(), Fail> {
     let mut mapped = Gates::input(rt.alloc(), 3);
-    let mut scanned = Gates::scanning(rt.alloc(), 3);
+    let mut scanned = scanning(rt.alloc(), 3);
     let answers = answers_agree(rt.alloc(), &mut mapped, &mut scanned)?;
     let gates = mapped.gates() == scanned.gates();
     assert!(rt; answers && gates && mapped.table().as_slice() == scanned.gates());
@@ -130,7 +131,7 @@ fn stops_after_one_more<T: Table>(gates: &mut Gates<T>) -> bool
 #[test]
 fn stops_at_the_limit(rt: HostRuntime) {
     let mut mapped = Gates::input(rt.alloc(), MOST_VARIABLES - 1);
-    let mut scanned = Gates::scanning(rt.alloc(), MOST_VARIABLES - 1);
+    let mut scanned = scanning(rt.alloc(), MOST_VARIABLES - 1);
     let stopped = stops_after_one_more(&mut mapped) && stops_after_one_more(&mut scanned);
     let full = mapped.variables() == MOST_VARIABLES && scanned.gates() == mapped.gates();
     assert!(rt; stopped && full);

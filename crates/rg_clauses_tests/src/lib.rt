@@ -7,3 +7,5 @@ mod clauses;
 mod conditions;
 #[cfg(test)]
 mod gates;
+#[cfg(test)]
+mod scan;

@@ -6,3 +6,5 @@ pub mod NumberSteps
 pub mod HeadNumbers
 pub mod LineCuts
 pub mod SectionSteps
+pub mod FieldFronts
+pub mod LineFeeds

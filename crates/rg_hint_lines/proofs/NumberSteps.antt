@@ -5,6 +5,7 @@ use Rattle.std.specs.Str.{all_ascii_digits}
 use Rattle.std.specs.Str.Parse.{digits_value}
 use Rattle.std.proofs.lemmas.Bool.{cond-false, and_left, and_right, and_parts, and_from}
 use Rattle.std.proofs.lemmas.Bool.Decides.{nat_tests}
+use Rattle.std.specs.List.{prefix_len}
 use Rattle.rg_hint_lines.specs.Text.{is_filled, in_range, number_in}
 
 -- a byte that is no digit
@@ -29,3 +30,12 @@ digit_is b e =
     let low : 48 ≤ b = grind (arith, nat_tests) in
     let high : b ≤ 57 = grind (arith, nat_tests) in
     (low, high, grind (arith, nat_tests))
+
+-- digits that end where no digit stands
+pub digits_end : (xs : List ℕ) (i : ℕ) → i ≤ length xs → all_ascii_digits (take i xs) ≡ true → (i < length xs → is_ascii_digit (get_or xs i 0) ≡ false) → i ≡ prefix_len is_ascii_digit xs
+digits_end [] i h all stops = omega (arith, h)
+digits_end (x ∷ xs) zero h all stops = let e : is_ascii_digit x ≡ false = stops (omega arith) in rw e refl
+digits_end (x ∷ xs) (suc i) h all stops =
+    let parts = and_parts (is_ascii_digit x) (all_ascii_digits (take i xs)) all in
+    let rest = digits_end xs i (omega (arith, h)) parts.1 (λ l. stops (omega (arith, l))) in
+    rw parts.0 (omega (arith, rest))

@@ -8,6 +8,12 @@ use rg_clauses::Rows;
 use std::alloc::{AllocError, Global};
 use std::marker::Model;
 
+/// Few lines of a text are shorter.
+const BYTES_OF_A_LINE: usize = 24;
+
+/// Lines of a text have seldom more literals than one in so many bytes, or more hints.
+const BYTES_OF_AN_ITEM: usize = 12;
+
 /// A hint line's number, and its line in the text, which counts from 1.
 #[derive(Clone, Copy)]
 pub struct Head {
@@ -92,6 +98,20 @@ impl Lines {
             literals: Rows::new(alloc),
             hints: Rows::new(alloc),
         }
+    }
+
+    /// No lines, over so many given clauses, with room for about those that so many bytes of a text spell.
+    pub(crate) fn with_room(alloc: Global, clauses: usize, bytes: usize) -> Result<Self, AllocError>
+        ensures { IfOk result (λ lines. lines ≡ record { given = clauses; lines = [] }) }
+    {
+        let rows = bytes / BYTES_OF_A_LINE;
+        let items = bytes / BYTES_OF_AN_ITEM;
+        Ok(Lines {
+            given: clauses,
+            heads: Vec::with_capacity(alloc, rows)?,
+            literals: Rows::with_capacity(alloc, rows, items)?,
+            hints: Rows::with_capacity(alloc, rows, items)?,
+        })
     }
 
     /// The count of lines.

@@ -3,12 +3,12 @@
 ghost use Rattle.std.specs.Prelude.{◌≡◌, ℕ, ◌+◌, ◌^◌, ◌<◌, [], length, IfOk, OnOk, OnSome, MatchOption, MatchResult, All};
 ghost use Rattle.rg_hint_lines.specs.Lines.{IsHintLiteral};
 ghost use Rattle.rg_hint_lines.specs.Text.{fields_of};
-ghost use Rattle.rg_hint_lines.specs.Reading.{literals_of, hints_of, hint_line, hint_line_of, reading_of};
-ghost use Rattle.rg_hint_lines.specs.Inner.LineForms.{reading_as};
+ghost use Rattle.rg_hint_lines.specs.Reading.{literals_of, hints_of, hint_line, reading_of};
+ghost use Rattle.rg_hint_lines.specs.Inner.LineForms.{reading_as, hint_line_in};
 
 use crate::lines::{Head, Lines};
 use crate::refusal::refusal_at;
-use crate::text::{is_passed_over, literal_in, next_field, number_in, positive_in, split_line};
+use crate::text::{is_passed_over, next_field, next_literal, next_number, split_line};
 use rg_words::{Refusal, RefusalNumber};
 use std::alloc::{AllocError, Global};
 
@@ -25,11 +25,8 @@ fn read_literals<'a>(
 {
     literals.clear();
     let mut rest = line;
-    while let Some((field, behind)) = next_field(rest) {
+    while let Some((literal, behind)) = next_literal(rest) {
         rest = behind;
-        let Some(literal) = literal_in(field) else {
-            return Ok(None);
-        };
         if literal == 0 {
             return Ok(Some(rest));
         }
@@ -47,11 +44,8 @@ fn read_hints<'a>(line: &'a [u8], hints: &mut Vec<u32>) -> Result<Option<&'a [u8
 {
     hints.clear();
     let mut rest = line;
-    while let Some((field, behind)) = next_field(rest) {
+    while let Some((hint, behind)) = next_number(rest) {
         rest = behind;
-        let Some(hint) = number_in(field) else {
-            return Ok(None);
-        };
         if hint == 0 {
             return Ok(Some(rest));
         }
@@ -60,22 +54,23 @@ fn read_hints<'a>(line: &'a [u8], hints: &mut Vec<u32>) -> Result<Option<&'a [u8
     Ok(None)
 }
 
-/// Reads what stands behind the first field of a hint line, into the lists. Gives the line's number, and
-/// none where the line is no hint line.
+/// Reads a hint line, into the lists. Gives the line's number, and none where the line is no hint line.
 fn read_hint_line(
-    first: &[u8],
-    rest: &[u8],
+    line: &[u8],
     literals: &mut Vec<i32>,
     hints: &mut Vec<u32>,
 ) -> Result<Option<u32>, AllocError>
     ensures value { IfOk result (λ id. MatchOption id
-        (hint_line_of first.now (fields_of rest.now) ≡ None)
-        (λ n. hint_line_of first.now (fields_of rest.now) ≡ Some (hint_line n literals.new.items hints.new.items))) }
+        (hint_line_in (fields_of line.now) ≡ None)
+        (λ n. hint_line_in (fields_of line.now) ≡ Some (hint_line n literals.new.items hints.new.items))) }
     ensures fit { IfOk result (λ id. OnSome id (All IsHintLiteral literals.new.items)) }
 {
-    let Some(id) = positive_in(first) else {
+    let Some((id, rest)) = next_number(line) else {
         return Ok(None);
     };
+    if id == 0 {
+        return Ok(None);
+    }
     let Some(rest) = read_literals(rest, literals)? else {
         return Ok(None);
     };
@@ -103,16 +98,13 @@ fn read_line(
     ensures value { IfOk result (λ form. reading_of (fields_of line.now) ≡ reading_as form literals.new.items hints.new.items) }
     ensures fit { IfOk result (λ form. (id : ℕ) → form ≡ LineForm.HintLine id → All IsHintLiteral literals.new.items) }
 {
-    let Some((first, rest)) = next_field(line) else {
-        return Ok(LineForm::PassedOver);
-    };
+    if let Some(id) = read_hint_line(line, literals, hints)? {
+        return Ok(LineForm::HintLine(id));
+    }
     if is_passed_over(line) {
         return Ok(LineForm::PassedOver);
     }
-    match read_hint_line(first, rest, literals, hints)? {
-        Some(id) => Ok(LineForm::HintLine(id)),
-        None => Ok(LineForm::Unreadable),
-    }
+    Ok(LineForm::Unreadable)
 }
 
 impl Lines {
@@ -139,7 +131,7 @@ impl Lines {
             (IsReadingRefusal (section_of first_line given bytes.now)) }
         ensures given { IfOk result (λ lines. lines.given ≡ given) }
     {
-        let mut lines = Lines::new(alloc, given);
+        let mut lines = Lines::with_room(alloc, given, bytes.len())?;
         let mut literals = Vec::new(alloc);
         let mut hints = Vec::new(alloc);
         let mut rest = bytes;

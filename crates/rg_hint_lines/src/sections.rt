@@ -1,6 +1,6 @@
 //! The sections of a proofs file.
 
-ghost use Rattle.std.specs.Prelude.{◌≡◌, ◌⊎◌, ◌+◌, ◌^◌, ◌<◌, ◌≤◌, length, map, IfOk, IfSome, MatchOption, MatchResult, Ok, Err};
+ghost use Rattle.std.specs.Prelude.{◌≡◌, ◌⊎◌, ◌+◌, ◌^◌, ◌<◌, ◌≤◌, length, map, IfOk, IfSome, MatchOption, MatchResult, Ok, Err, IsTrue, false};
 ghost use Rattle.rg_words.specs.Refusals.{no_memory};
 ghost use Rattle.rg_hint_lines.specs.Text.{fields_of};
 ghost use Rattle.rg_hint_lines.specs.Sections.{is_head, whole_number, head_number, named_condition, sections_of};
@@ -8,7 +8,7 @@ ghost use Rattle.rg_hint_lines.specs.Located.{text_of, AreRising};
 ghost use Rattle.rg_hint_lines.specs.Inner.SectionForms.{IsUpTo, IsPlainLine, BeginsWithHead, AreLinesBeforeHead, IsFront, IsFaultyFront, AreNamed, sections_behind, HaveRoom};
 
 use crate::refusal::refusal_at;
-use crate::text::{is_passed_over, next_field, skip, split_line};
+use crate::text::{is_blank, is_passed_over, next_field, skip, split_line};
 use rg_words::{Refusal, RefusalNumber};
 use std::alloc::Global;
 
@@ -20,10 +20,24 @@ pub struct SectionBytes<'a> {
     pub bytes: &'a [u8],
 }
 
+/// Whether the first byte of a line shows that it is no head: it begins another field.
+fn begins_otherwise(line: &[u8]) -> bool
+    ensures { IsTrue result → is_head (fields_of line.now) ≡ false }
+{
+    match line {
+        [] => true,
+        [b's', ..] => false,
+        [byte, ..] => !is_blank(*byte),
+    }
+}
+
 /// Whether a line is meant as a head: its first field is `section`.
 fn is_head(line: &[u8]) -> bool
     ensures { result ≡ is_head (fields_of line.now) }
 {
+    if begins_otherwise(line) {
+        return false;
+    }
     let Some((first, _)) = next_field(line) else {
         return false;
     };

@@ -1,15 +1,11 @@
 //! Reports as JSON, one value a line.
 
+use crate::made::{JsonList, JsonObject, push_json_line, text_value};
 use crate::reports::{Cause, Moved, Report, Reports, Said, Valued};
 use crate::subject::Subject;
 use rg_outline_text::Span;
-use serde_json::{Value, json};
+use serde_json::Value;
 use std::alloc::{AllocError, Global};
-
-/// A text, with what is no UTF-8 replaced.
-fn text_value(alloc: Global, text: &[u8]) -> Result<Value, AllocError> {
-    Ok(Value::String(String::from_utf8_lossy(alloc, text)?))
-}
 
 /// What kind of report it is.
 fn kind_of(cause: Cause) -> &'static str {
@@ -32,8 +28,10 @@ fn values_kind(moved: Moved) -> &'static str {
 
 /// A name within which a conjunct stands.
 fn name_value(alloc: Global, name: &[u8], line: u64) -> Result<Value, AllocError> {
-    let name = text_value(alloc, name)?;
-    json!(in alloc; {"name": name, "line": line})
+    let mut object = JsonObject::new(alloc);
+    object.put_text("name", name);
+    object.put_count("line", line);
+    object.value()
 }
 
 /// The text of a place, as a value.
@@ -60,14 +58,14 @@ fn texts_value(
     index: usize,
     said: Said,
 ) -> Result<Value, AllocError> {
-    let mut values = Vec::new(alloc);
+    let mut list = JsonList::new(alloc);
     let (start, end) = reports.texts_of(index);
     for place in start..end {
         if is_alike(reports.said_at(place), said) {
-            values.push(value_at(alloc, reports, place)?)?;
+            list.put(value_at(alloc, reports, place));
         }
     }
-    Ok(Value::Array(values))
+    list.value()
 }
 
 /// The text of a report that says this; null where there is none.
@@ -93,19 +91,22 @@ fn parts_value(
     subject: Subject<'_>,
     index: usize,
 ) -> Result<Value, AllocError> {
-    let mut values = Vec::new(alloc);
+    let mut list = JsonList::new(alloc);
     for (of, part) in &reports.parts {
         if *of == index {
-            values.push(text_value(alloc, subject.parts.at(*part))?)?;
+            list.put(text_value(alloc, subject.parts.at(*part)));
         }
     }
-    Ok(Value::Array(values))
+    list.value()
 }
 
 /// A word with its values.
 fn word_value(alloc: Global, subject: Subject<'_>, valued: Valued) -> Result<Value, AllocError> {
-    let name = text_value(alloc, subject.words.at(valued.word))?;
-    json!(in alloc; {"word": name, "before": valued.before, "after": valued.after})
+    let mut object = JsonObject::new(alloc);
+    object.put_text("word", subject.words.at(valued.word));
+    object.put_count("before", valued.before);
+    object.put_count("after", valued.after);
+    object.value()
 }
 
 /// The words of a report with their values, as a list.
@@ -115,74 +116,53 @@ fn words_value(
     subject: Subject<'_>,
     index: usize,
 ) -> Result<Value, AllocError> {
-    let mut values = Vec::new(alloc);
+    let mut list = JsonList::new(alloc);
     for valued in reports.values_of(index) {
-        values.push(word_value(alloc, subject, *valued)?)?;
+        list.put(word_value(alloc, subject, *valued));
     }
-    Ok(Value::Array(values))
+    list.value()
 }
 
-/// Where a report is, and what is wrong.
-fn head_value(
+/// Puts where something is: the file, the line and the column.
+fn put_place(object: &mut JsonObject, subject: Subject<'_>, place: Span) {
+    let position = place.position(subject.source);
+    object.put_text("file", subject.file);
+    object.put_count("line", position.line as u64);
+    object.put_count("column", position.column as u64);
+}
+
+/// Puts where a report is, and what is wrong.
+fn put_head(
+    object: &mut JsonObject,
     alloc: Global,
     reports: &Reports,
     subject: Subject<'_>,
     index: usize,
     report: Report,
-) -> Result<Value, AllocError> {
-    let position = report.place.position(subject.source);
-    let file = text_value(alloc, subject.file)?;
-    let parts = parts_value(alloc, reports, subject, index)?;
-    let sentence = one_value(alloc, reports, index, Said::Sentence)?;
-    json!(in alloc; {
-        "kind": kind_of(report.key.cause),
-        "file": file,
-        "line": position.line,
-        "column": position.column,
-        "parts": parts,
-        "sentence": sentence
-    })
+) {
+    object.put_text("kind", kind_of(report.key.cause).as_bytes());
+    put_place(object, subject, report.place);
+    object.put("parts", parts_value(alloc, reports, subject, index));
+    object.put("sentence", one_value(alloc, reports, index, Said::Sentence));
+    object.put_text("values", values_kind(report.moved).as_bytes());
 }
 
-/// Adds members to an object.
-fn put_member(
-    object: &mut Value,
-    alloc: Global,
-    key: &str,
-    value: Value,
-) -> Result<(), AllocError> {
-    if let Value::Object(map) = object {
-        map.insert(String::from_str(alloc, key)?, value)?;
-    }
-    Ok(())
-}
-
-/// Adds to a report what is told besides.
+/// Puts what is told of a report besides.
 fn put_details(
-    value: &mut Value,
+    object: &mut JsonObject,
     alloc: Global,
     reports: &Reports,
     subject: Subject<'_>,
     index: usize,
-) -> Result<(), AllocError> {
-    let conjunct = one_value(alloc, reports, index, Said::Conjunct)?;
-    put_member(value, alloc, "conjunct", conjunct)?;
-    let premises = texts_value(alloc, reports, index, Said::Premise)?;
-    put_member(value, alloc, "premises", premises)?;
-    let names = texts_value(alloc, reports, index, Said::Name(0))?;
-    put_member(value, alloc, "within", names)?;
-    let words = words_value(alloc, reports, subject, index)?;
-    put_member(value, alloc, "words", words)?;
-    let hints = texts_value(alloc, reports, index, Said::Hint)?;
-    put_member(value, alloc, "hints", hints)
-}
-
-/// Adds a value as a line.
-fn push_value(text: &mut Vec<u8>, alloc: Global, value: &Value) -> Result<(), AllocError> {
-    let line = value.to_string(alloc)?;
-    text.extend_from_slice(line.as_bytes())?;
-    text.push(b'\n')?;
-    Ok(())
+) {
+    object.put("conjunct", one_value(alloc, reports, index, Said::Conjunct));
+    object.put(
+        "premises",
+        texts_value(alloc, reports, index, Said::Premise),
+    );
+    object.put("within", texts_value(alloc, reports, index, Said::Name(0)));
+    object.put("words", words_value(alloc, reports, subject, index));
+    object.put("hints", texts_value(alloc, reports, index, Said::Hint));
 }
 
 /// Adds a report as a line.
@@ -196,11 +176,10 @@ fn push_report(
     let Some(report) = reports.report(index) else {
         return Ok(());
     };
-    let mut value = head_value(alloc, reports, subject, index, report)?;
-    let moved = text_value(alloc, values_kind(report.moved).as_bytes())?;
-    put_member(&mut value, alloc, "values", moved)?;
-    put_details(&mut value, alloc, reports, subject, index)?;
-    push_value(text, alloc, &value)
+    let mut object = JsonObject::new(alloc);
+    put_head(&mut object, alloc, reports, subject, index, report);
+    put_details(&mut object, alloc, reports, subject, index);
+    push_json_line(text, alloc, object.value())
 }
 
 /// Adds all reports, in the order of their places, each as one JSON value in a line of its own.
@@ -237,17 +216,11 @@ pub fn push_json_of_fault(
     place: Span,
     sentence: &[u8],
 ) -> Result<(), AllocError> {
-    let position = place.position(subject.source);
-    let file = text_value(alloc, subject.file)?;
-    let sentence = text_value(alloc, sentence)?;
-    let value = json!(in alloc; {
-        "kind": "refused",
-        "file": file,
-        "line": position.line,
-        "column": position.column,
-        "sentence": sentence
-    })?;
-    push_value(text, alloc, &value)
+    let mut object = JsonObject::new(alloc);
+    object.put_text("kind", b"refused");
+    put_place(&mut object, subject, place);
+    object.put_text("sentence", sentence);
+    push_json_line(text, alloc, object.value())
 }
 
 /// Adds how many conditions aren't true and how many have no proof, as one JSON value in a line of its own.
@@ -262,12 +235,10 @@ pub fn push_json_of_verdict(
     untrue: usize,
     unproved: usize,
 ) -> Result<(), AllocError> {
-    let file = text_value(alloc, file)?;
-    let value = json!(in alloc; {
-        "kind": "not verified",
-        "file": file,
-        "untrue": untrue,
-        "unproved": unproved
-    })?;
-    push_value(text, alloc, &value)
+    let mut object = JsonObject::new(alloc);
+    object.put_text("kind", b"not verified");
+    object.put_text("file", file);
+    object.put_count("untrue", untrue as u64);
+    object.put_count("unproved", unproved as u64);
+    push_json_line(text, alloc, object.value())
 }

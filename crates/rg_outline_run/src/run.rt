@@ -201,6 +201,14 @@ pub fn push_run(
     push_falsity(expansion, text, &falsity)
 }
 
+/// Adds how many steps were followed.
+fn push_followed(text: &mut Vec<u8>, steps: u64) -> Result<(), AllocError> {
+    push_count(text, steps)?;
+    let what: &[u8] = if steps == 1 { b" step" } else { b" steps" };
+    text.extend_from_slice(what)?;
+    Ok(())
+}
+
 /// Adds that no run was found that breaks the specification, and how far was looked.
 ///
 /// # Errors
@@ -209,13 +217,12 @@ pub fn push_run(
 pub fn push_not_found(text: &mut Vec<u8>, unbroken: Unbroken) -> Result<(), AllocError> {
     if unbroken.is_all {
         text.extend_from_slice(b"no run breaks it: all were followed, ")?;
-        push_count(text, unbroken.steps)?;
-        text.extend_from_slice(b" steps\n")?;
+        push_followed(text, unbroken.steps)?;
+        text.push(b'\n')?;
         return Ok(());
     }
     text.extend_from_slice(b"no run that breaks it was found within ")?;
-    push_count(text, unbroken.steps)?;
-    text.extend_from_slice(b" steps")?;
+    push_followed(text, unbroken.steps)?;
     if unbroken.is_without_others {
         text.extend_from_slice(b"; steps of the environment were not tried")?;
     }

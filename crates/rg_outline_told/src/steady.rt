@@ -1,11 +1,12 @@
 //! What is told of an assertion that a step of others can make false.
 
 use crate::says::push_with_part;
+use crate::step::is_true;
 use rg_outline::{Expansion, Line, Origin};
 use rg_outline_reports::{Cause, Key, Moved, Reports, Said};
 use rg_outline_scope::bit_of;
 use rg_outline_values::{Falsity, Moment, Words};
-use std::alloc::AllocError;
+use std::alloc::{AllocError, Global};
 
 /// Whether a part assigns a word.
 fn assigns(expansion: &Expansion<'_>, part: usize, word: usize) -> bool {
@@ -34,17 +35,101 @@ fn push_writers(
     Ok(is_any)
 }
 
-/// Tells who assigns a word that moved: others, or nobody, and then the part may own it.
+/// A state with another value of one word.
+fn with_value(
+    alloc: Global,
+    state: &[u64],
+    word: usize,
+    value: u64,
+) -> Result<Vec<u64>, AllocError> {
+    let mut values = Vec::new(alloc);
+    values.extend_from_slice(state)?;
+    if let Some(slot) = values.get_mut(word) {
+        *slot = value;
+    }
+    Ok(values)
+}
+
+/// Whether the program's rely allows a step in a state that changes this word alone, from the one value to the other.
+fn allows(
+    expansion: &Expansion<'_>,
+    state: &[u64],
+    word: usize,
+    from: u64,
+    to: u64,
+) -> Result<bool, AllocError> {
+    let before = with_value(expansion.scope.alloc, state, word, from)?;
+    let after = with_value(expansion.scope.alloc, state, word, to)?;
+    let moment = Moment {
+        before: &before,
+        after: &after,
+    };
+    is_true(expansion, expansion.specification.rely, moment)
+}
+
+/// The same there or back, between the values of a word that moved.
+fn allows_either(
+    expansion: &Expansion<'_>,
+    state: &[u64],
+    word: usize,
+    moment: Moment<'_>,
+) -> Result<bool, AllocError> {
+    let first = moment.before.get(word).copied().unwrap_or(0);
+    let second = moment.after.get(word).copied().unwrap_or(0);
+    Ok(
+        allows(expansion, state, word, first, second)?
+            || allows(expansion, state, word, second, first)?,
+    )
+}
+
+/// Whether the environment may change a word that moved, as the program's rely shows in these states or where all words are 0.
+fn is_left_to_environment(
+    expansion: &Expansion<'_>,
+    word: usize,
+    moment: Moment<'_>,
+) -> Result<bool, AllocError> {
+    if allows_either(expansion, moment.before, word, moment)?
+        || allows_either(expansion, moment.after, word, moment)?
+    {
+        return Ok(true);
+    }
+    let mut zero = Vec::new(expansion.scope.alloc);
+    for _ in moment.before {
+        zero.push(0u64)?;
+    }
+    allows_either(expansion, &zero, word, moment)
+}
+
+/// Adds who changes a word that moved: the other parts that assign it, or else the environment; whether there is anybody.
+fn push_changers(
+    expansion: &Expansion<'_>,
+    text: &mut Vec<u8>,
+    part: usize,
+    word: usize,
+    moment: Moment<'_>,
+) -> Result<bool, AllocError> {
+    if push_writers(expansion, text, part, word)? {
+        return Ok(true);
+    }
+    let is_changed = is_left_to_environment(expansion, word, moment)?;
+    if is_changed {
+        text.extend_from_slice(b" may be changed by the environment")?;
+    }
+    Ok(is_changed)
+}
+
+/// Tells who changes a word that moved: others, or nobody, and then the part may own it.
 fn tell_cause(
     expansion: &Expansion<'_>,
     reports: &mut Reports,
     part: usize,
     word: usize,
+    moment: Moment<'_>,
 ) -> Result<(), AllocError> {
     let shown = expansion.scope.shown.at(word);
     let mut hint = Vec::new(expansion.scope.alloc);
     hint.extend_from_slice(shown)?;
-    if push_writers(expansion, &mut hint, part, word)? {
+    if push_changers(expansion, &mut hint, part, word, moment)? {
         push_with_part(expansion, &mut hint, b"; ", part)?;
         hint.extend_from_slice(b"'s rely doesn't exclude this")?;
         reports.say(Said::Hint, &hint)?;
@@ -71,7 +156,7 @@ fn is_moved(moment: Moment<'_>, word: usize) -> bool {
     moment.before.get(word) != moment.after.get(word)
 }
 
-/// Tells who assigns the words that moved, in the order in which they are told.
+/// Tells who changes the words that moved, in the order in which they are told.
 fn tell_causes(
     expansion: &Expansion<'_>,
     reports: &mut Reports,
@@ -81,7 +166,7 @@ fn tell_causes(
 ) -> Result<(), AllocError> {
     for word in &words.listed {
         if is_moved(moment, *word) {
-            tell_cause(expansion, reports, part, *word)?;
+            tell_cause(expansion, reports, part, *word, moment)?;
         }
     }
     Ok(())

@@ -40,7 +40,7 @@ fn after(
 }
 
 /// Whether a formula is true in two states.
-fn is_true(
+pub(crate) fn is_true(
     expansion: &Expansion<'_>,
     formula: usize,
     moment: Moment<'_>,

@@ -5,8 +5,8 @@ use Rattle.rg_hint_lines.proofs.ReadSteps.{behind}
 use Rattle.rg_hint_lines.proofs.read.read_hints.Given as goal
 
 -- the hints so far and those of the rest are those of the line
-abbrev pub invariant-loop-field : goal.invariant-loop-field
-invariant-loop-field l = behind l.hints.items (hints_of (fields_of l.rest)) ≡ hints_of (fields_of l.line)
+abbrev pub invariant-loop-hint : goal.invariant-loop-hint
+invariant-loop-hint l = behind l.hints.items (hints_of (fields_of l.rest)) ≡ hints_of (fields_of l.line)
 
-abbrev pub decreases-loop-field : goal.decreases-loop-field
-decreases-loop-field l = length l.rest
+abbrev pub decreases-loop-hint : goal.decreases-loop-hint
+decreases-loop-hint l = length l.rest

@@ -7,11 +7,11 @@ use Rattle.rg_hint_lines.proofs.ReadSteps.{behind}
 use Rattle.rg_hint_lines.proofs.read.read_literals.Given as goal
 
 -- the literals so far and those of the rest are those of the line
-abbrev pub invariant-loop-field : goal.invariant-loop-field
-invariant-loop-field l = record {
+abbrev pub invariant-loop-literal : goal.invariant-loop-literal
+invariant-loop-literal l = record {
   value : behind l.literals.items (literals_of (fields_of l.rest)) ≡ literals_of (fields_of l.line);
   fit : All IsHintLiteral l.literals.items;
 }
 
-abbrev pub decreases-loop-field : goal.decreases-loop-field
-decreases-loop-field l = length l.rest
+abbrev pub decreases-loop-literal : goal.decreases-loop-literal
+decreases-loop-literal l = length l.rest

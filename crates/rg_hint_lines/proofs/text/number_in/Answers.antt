@@ -1,38 +1,16 @@
-use Rattle.std.proofs.Common.{◌≡◌, ◌+◌, get_or, take, arith, sym, ◌∙◌}
-use Rattle.std.specs.Str.Parse.{digits_value}
-use Rattle.std.proofs.lemmas.Int.Digits.{digits_value_more}
-use Rattle.rg_hint_lines.proofs.NumberSteps.{not_digits, no_number, digits_more, digit_is}
+use Rattle.std.proofs.Common.{sym, arith, ◌<◌, length}
+use Rattle.rg_hint_lines.proofs.NumberSteps.{no_number}
+use Rattle.rg_hint_lines.proofs.FieldFronts.{more_than_digits, field_number_is}
+use Rattle.rg_hint_lines.proofs.TextSteps.{some_left}
 use Rattle.rg_hint_lines.proofs.text.number_in.Goals as goal
-use Rattle.rg_hint_lines.proofs.text.number_in.Goals.{then-number-le-MOST, else-number-le-MOST}
 
-pub returns-then-not-is_ascii_digit-clause-value :
-    goal.returns-then-not-is_ascii_digit-clause-value
-returns-then-not-is_ascii_digit-clause-value c =
-    no_number c.args.field.now (not_digits c.args.field.now c.loop-byte.byte-index c.loop-byte-test.true (sym c.is_ascii_digit.ensures.value ∙ c.if-not-is_ascii_digit.true))
+pub returns-then-count-field-clause-value : goal.returns-then-count-field-clause-value
+returns-then-count-field-clause-value c =
+    no_number c.args.field.now (more_than_digits c.args.field.now (omega (arith, c.leading_number-number.ensures.count, c.if-count-field.true)))
 
-pub loop-byte-preserved : goal.loop-byte-preserved
-loop-byte-preserved c =
+pub returns-clause-value : goal.returns-clause-value
+returns-clause-value c =
+    let n = c.leading_number-number in
     let field = c.args.field.now in
-    let i = c.loop-byte.byte-index in
-    let is = sym c.is_ascii_digit.ensures.value ∙ c.if-not-is_ascii_digit.false in
-    let digit = digit_is (get_or field i 0) is in
-    let value = digits_value_more 10 field i c.loop-byte-test.true in
-    elim c.if-number-le-MOST.branch [
-      | then-number-le-MOST w ↦
-          let small = c.loop-byte.invariant.small w.if-number-le-MOST.true in
-          let now : c.if-number-le-MOST.number ≡ digits_value 10 (take (i + 1) field) = omega (arith, value, digit.2, digit.0, small, w.number-is, w.from.ensures) in
-          record {
-            digits = digits_more field i c.loop-byte-test.true c.loop-byte.invariant.digits is;
-            bound = omega (arith, w.number-is, w.from.ensures, w.if-number-le-MOST.true, digit.1);
-            small = λ _. now;
-            large = λ h. omega (arith, now, h);
-          }
-      | else-number-le-MOST w ↦
-          let large = c.loop-byte.invariant.large w.if-number-le-MOST.false in
-          record {
-            digits = digits_more field i c.loop-byte-test.true c.loop-byte.invariant.digits is;
-            bound = rw w.number-is c.loop-byte.invariant.bound;
-            small = λ h. absurd (omega (arith, w.if-number-le-MOST.false, w.number-is, h));
-            large = λ h. omega (arith, value, large);
-          }
-    ]
+    let some : 0 < length field = some_left field c.is_empty.result c.is_empty.ensures c.if-is_empty.false in
+    sym (field_number_is field n.result.1 n.result.0 n.ensures.count (λ h. omega (arith, h, c.if-count-field.false)) n.ensures.bound n.ensures.number some (omega (arith, c.if-number-gt-MOST.false)))

@@ -12,6 +12,9 @@ use Rattle.rg_hint_lines.proofs.lines.Lines.read.Goals.{in-PassedOver, in-HintLi
 pub with_line-requires-clause-literals : goal.with_line-requires-clause-literals
 with_line-requires-clause-literals c = rw c.deref.ensures.value (c.in_ok-read_line.ensures.fit c.in-HintLine.id c.in-HintLine.is)
 
+pub with_line-requires-clause-rises : goal.with_line-requires-clause-rises
+with_line-requires-clause-rises c = λ k d l. omega (arith, c.loop-rest.invariant.below k d l, c.if-id-last.false)
+
 pub loop-rest-preserved : goal.loop-rest-preserved
 loop-rest-preserved c =
     let old = c.loop-rest.lines.lines in
@@ -19,7 +22,7 @@ loop-rest-preserved c =
     let rest = lines c.split_line.result.1.now in
     let literals = c.read_line.new.literals.items in
     let hints = c.read_line.new.hints.items in
-    elim c.match-branch-2.branch [
+    elim c.match-branch-3.branch [
       | in-PassedOver w ↦
           let reading : reading_of (fields_of line) ≡ passed_over = c.in_ok-read_line.ensures.value ∙ ap (λ (f : LineForm). reading_as f literals hints) w.in-PassedOver.is in
           rw (w.lines-is, w.last-is) (record {

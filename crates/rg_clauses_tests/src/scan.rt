@@ -1,15 +1,15 @@
-//! The table as a plain list, which is searched from its front. Tests compare the other table with it.
+//! A table of gates as a plain list, which is searched from its front, to compare the library's table with.
 
 ghost use Rattle.std.specs.Prelude.{◌≡◌, ◌≤◌, [], ℕ, ◌<◌, MatchOption};
 ghost use Rattle.rg_gates.specs.Table.{IsMissing, IsFirst};
 
-use crate::{Gate, Gates, Table};
+use rg_gates::{Gate, Gates, Table};
 use rg_words::limits::MOST_VARIABLES;
 use std::alloc::{AllocError, Global};
 
 /// A list of gates.
 #[derive(Drop)]
-pub struct Scan {
+pub(crate) struct Scan {
     gates: Vec<Gate>,
 }
 
@@ -45,17 +45,13 @@ impl Table for Scan {
     }
 }
 
-impl Gates<Scan> {
-    /// So many inputs, and no gate, over the list.
-    pub fn scanning(alloc: Global, inputs: u32) -> Self
-        requires { inputs ≤ MOST_VARIABLES }
-        ensures { result ≡ record { inputs = inputs; gates = [] } }
-    {
-        Gates {
-            inputs,
-            table: Scan {
-                gates: Vec::new(alloc),
-            },
-        }
-    }
+/// So many inputs, and no gate, over the list.
+pub(crate) fn scanning(alloc: Global, inputs: u32) -> Gates<Scan>
+    requires { inputs ≤ MOST_VARIABLES }
+    ensures { result ≡ record { inputs = inputs; gates = [] } }
+{
+    let table = Scan {
+        gates: Vec::new(alloc),
+    };
+    Gates::over(table, inputs)
 }
