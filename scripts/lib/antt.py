@@ -69,7 +69,7 @@ BEGIN = re.compile(r"\s*(?:(?:abbrev|unfoldable|pub|mutual) )*(?:data |record )?
 def is_head(line, indent):
     """Returns the match where a line begins a definition at this indent: a signature, or a data or record."""
     found = HEAD.match(line)
-    if not found or len(found["indent"]) != indent or line.lstrip().startswith(("use ", "pub mod ", "mod ", "infix", "--", "pub use ")):
+    if not found or len(found["indent"]) != indent or line.lstrip().startswith(("use ", "pub mod ", "mod ", "infix", "--", "pub use ", "unfoldable pub use ")):
         return None
     rest = line[found.end() :].lstrip()
     return found if found["made"] or re.match(r"(?:\{[^}]*\} *)?:(?: |$)", rest) else None
@@ -88,7 +88,7 @@ def antt_definitions(crate, file, text):
             if not line.strip():
                 continue
             own = len(line) - len(line.lstrip())
-            if own < indent or own == indent and (line.lstrip().startswith(("--", "use ", "pub use ", "pub mod ", "mod ", "infix")) or starts(k, indent)):
+            if own < indent or own == indent and (line.lstrip().startswith(("--", "use ", "pub use ", "unfoldable pub use ", "pub mod ", "mod ", "infix")) or starts(k, indent)):
                 break
             last = k
         return last + 1
@@ -101,7 +101,7 @@ def antt_definitions(crate, file, text):
         if line.startswith("--"):
             comment.append(line.lstrip("- ").rstrip())
             at += 1
-        elif re.match(r"(?:pub )?use ", line):
+        elif re.match(r"(?:unfoldable )?(?:pub )?use ", line):
             whole = line
             while whole.count("{") > whole.count("}"):
                 at += 1

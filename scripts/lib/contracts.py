@@ -108,9 +108,16 @@ class Repository:
         return tuple(uses), tuple(given)
 
     def origin(self, at):
-        """Returns where an import's name is made, where its module hands on what it imports itself."""
-        while at.item and (at.crate, at.module, at.item) not in self.by_name and at.item in self.imports.get((at.crate, at.module), {}):
-            at = self.imports[at.crate, at.module][at.item]
+        """Returns where an import's name is made, where its module hands on what it imports itself, or its library a whole module of another."""
+        while at.item and (at.crate, at.module, at.item) not in self.by_name:
+            root, _, name = at.module.rpartition(".")
+            whole = self.imports.get((at.crate, f"{root}.Lib"), {}).get(name)
+            if at.item in self.imports.get((at.crate, at.module), {}):
+                at = self.imports[at.crate, at.module][at.item]
+            elif whole and not whole.item and (whole.crate, whole.module) != (at.crate, at.module):
+                at = whole._replace(item=at.item)
+            else:
+                break
         return at
 
     def is_made(self, at):

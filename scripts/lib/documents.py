@@ -91,9 +91,10 @@ def identifiers():
 
 @functools.lru_cache(maxsize=None)
 def items(crate):
-    """The names of what the sources of a crate declare."""
-    sources = [project.text_of(it) for it in project.files_of(project.named([crate])[0], ("src",))]
-    return {*re.findall(r"\b(?:fn|mod|const|static|trait|struct|enum|type)\s+(\w+)", "\n".join(sources))}
+    """The names of what the sources of a crate declare or hand on."""
+    text = "\n".join(project.text_of(it) for it in project.files_of(project.named([crate])[0], ("src",)))
+    handed_on = re.findall(r"\bpub use ([^;]+);", text)
+    return {*re.findall(r"\b(?:fn|mod|const|static|trait|struct|enum|type)\s+(\w+)", text), *re.findall(r"\w+", " ".join(handed_on))}
 
 
 def fault_of_name(page, name):

@@ -12,7 +12,7 @@ use Rattle.rg_tree.specs.Statements.{ProgramTree}
 use Rattle.rg_tree.specs.Programs.{nth}
 use Rattle.rg_clauses.specs.Conditions.{clauses_of_condition}
 use Rattle.rg_rules.specs.Reading.{FitsProgram, IsDerivationRefusal}
-use Rattle.rgc.specs.Accepted.{conditions_of}
+use Rattle.rg_accept.specs.Accepted.{conditions_of}
 use Rattle.rg_parse.specs.Programs.{SpellsProgram, IsProgramRefusal}
 
 -- the text spells a program, and the derivation lines that derive its parts

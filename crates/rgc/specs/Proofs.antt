@@ -7,7 +7,7 @@ use Rattle.rg_tree.specs.Programs.{nth}
 use Rattle.rg_find.specs.Judged.{IsJudged}
 use Rattle.rg_hints.specs.Proved.{AreProved}
 use Rattle.rg_pool.specs.Parts.{ArePartProved}
-use Rattle.rgc.specs.Accepted.{conditions_of}
+use Rattle.rg_accept.specs.Accepted.{conditions_of}
 use Rattle.rgc.specs.declared.proofs_found.Unproved.{Unproved}
 use Rattle.rgc.specs.declared.proofs_found.ProofsFound.{ProofsFound}
 use Rattle.rgc.specs.declared.proofs_found.ProofsFound.TheVariants.{Proofs, Failures}

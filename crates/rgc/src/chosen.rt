@@ -11,9 +11,9 @@ ghost use Rattle.rg_tree.specs.Programs.{nth};
 ghost use Rattle.rg_clauses.specs.Conditions.{clauses_of_condition};
 ghost use Rattle.rg_find.specs.Judged.{IsJudged, JudgedFits, JudgedInOrder};
 ghost use Rattle.rgc.specs.Chosen.{AreDerived, IsDeriveRefusal, IsChosen, IsChoiceRefusal, IsChosenClausesRefusal, IsChosenFindRefusal};
-ghost use Rattle.rgc.specs.Stages.{derived_program, derived_lines};
+ghost use Rattle.rg_accept.specs.Stages.{derived_program, derived_lines};
 
-use crate::stages::{Derived, Parsed};
+use rg_accept::{Derived, Parsed};
 use rg_clauses::Clauses;
 use rg_find::{Judged, Watcher, judge};
 use rg_tree::condition::Condition;

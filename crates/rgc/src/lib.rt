@@ -1,20 +1,20 @@
 //! The library of `rgc`: a formula and its hint lines, and a program's text or tree with its derivation and its proofs.
 #![tactic(auto)]
 
-mod acceptance;
 mod chosen;
 mod failures;
 mod pieces;
 mod proofs_found;
 mod shown;
-mod stages;
 
-pub use acceptance::{accept, accept_all, accept_program, build, build_all, build_program};
 pub use chosen::{chosen_condition, condition_clauses, derive_program, find_condition};
 pub use failures::failure_text;
 pub use pieces::{derive_in_pieces, one_piece_fits, one_piece_is_accepted};
 pub use proofs_found::{
     ProofsFound, Unproved, failures_text, find_part, find_proofs, find_proofs_all,
 };
+pub use rg_accept::{
+    Accepted, Derived, Emitted, Parsed, accept, accept_all, accept_program, build, build_all,
+    build_program,
+};
 pub use shown::{clauses, find, valid, valid_all};
-pub use stages::{Accepted, Derived, Emitted, Parsed};

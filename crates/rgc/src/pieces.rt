@@ -2,9 +2,9 @@
 
 ghost use Rattle.std.specs.Prelude.{map, IfOk, IfErr};
 ghost use Rattle.rgc.specs.Pieces.{AreDerivedInPieces, IsDeriveInPiecesRefusal, OnePieceFits, OnePieceIsAccepted};
-ghost use Rattle.rgc.specs.Stages.{derived_program, derived_lines};
+ghost use Rattle.rg_accept.specs.Stages.{derived_program, derived_lines};
 
-use crate::stages::{Derived, Parsed};
+use rg_accept::{Derived, Parsed};
 use rg_words::Refusal;
 use std::alloc::Global;
 

@@ -4,10 +4,10 @@ ghost use Rattle.std.specs.Prelude.{◌+◌, ◌<◌, ◌≤◌, ◌^◌, length
 ghost use Rattle.rg_tree.specs.Conditions.{condition_tree};
 ghost use Rattle.rgc.specs.Proofs.{AreFoundFor, ArePartFoundFor, IsRange, IsUnproved};
 ghost use Rattle.rgc.specs.Inner.Search.{Takes, IsJudgedAt, AreJudged};
-ghost use Rattle.rgc.specs.Stages.{derived_program, derived_lines};
+ghost use Rattle.rg_accept.specs.Stages.{derived_program, derived_lines};
 
 use crate::failures::failure_text;
-use crate::stages::Derived;
+use rg_accept::Derived;
 use rg_find::{Judged, Watcher, judge};
 use rg_hints::{Lines, prove};
 use rg_pool::{deal, prove_all, prove_part};

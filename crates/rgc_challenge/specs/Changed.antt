@@ -3,7 +3,7 @@ use Rattle.std.specs.Prelude.{ℕ, List}
 use Rattle.rg_tree.specs.Statements.{ProgramTree}
 use Rattle.rg_tree.specs.Programs.{IsSatisfied}
 use Rattle.rg_parse.specs.Programs.{SpellsProgram}
-use Rattle.rgc.specs.Accepted.{AreAccepted}
+use Rattle.rg_accept.specs.Accepted.{AreAccepted}
 use Rattle.rgc_challenge.specs.declared.answers.Answer.{Answer}
 use Rattle.rgc_challenge.specs.declared.answers.Answer.TheVariants.{Survives, Breaks, Unfit, Undecided}
 use Rattle.rgc_challenge.specs.declared.answers.Answered.{Answered}

@@ -2,7 +2,7 @@
 
 ghost use Rattle.std.specs.Prelude.{IsTrue, IfOk};
 ghost use Rattle.rg_walk.specs.Breaking.{OnBreaks};
-ghost use Rattle.rgc.specs.Stages.{derived_program, derived_lines};
+ghost use Rattle.rg_accept.specs.Stages.{derived_program, derived_lines};
 ghost use Rattle.rgc_challenge.specs.Changed.{IsProvedText, IsRefutedText};
 ghost use Rattle.rgc_challenge.specs.Inner.Proved.{HasProofs};
 

@@ -6,8 +6,8 @@ use Rattle.rg_tree.specs.ConditionTrees.{ConditionTree}
 use Rattle.rg_tree.specs.Lines.{LineTree}
 use Rattle.rg_tree.specs.Printed.{formula_text}
 use Rattle.rg_tree.specs.Statements.{ProgramTree}
-use Rattle.rgc.specs.Accepted.{conditions_of}
-use Rattle.rgc.specs.Names.{names_of_conditions}
+use Rattle.rg_accept.specs.Accepted.{conditions_of}
+use Rattle.rg_accept.specs.Names.{names_of_conditions}
 use Rattle.rgc_formulas.specs.Formulas.{formula_of}
 
 -- what stands before the name of a word

@@ -5,7 +5,7 @@ ghost use Rattle.std.specs.Io.KnownBytes.{Appends};
 ghost use Rattle.rg_words.specs.Layout.{names_of, widths_of, fixed_of};
 ghost use Rattle.rg_words.specs.Written.{CanCount};
 ghost use Rattle.rg_tree.specs.Conditions.{condition_tree};
-ghost use Rattle.rgc.specs.Stages.{derived_program, derived_lines};
+ghost use Rattle.rg_accept.specs.Stages.{derived_program, derived_lines};
 ghost use Rattle.rgc_formulas.specs.Blocks.{fixed_text, word_text, words_text, shown_text, block_text, blocks_text, formulas_text};
 ghost use Rattle.rgc_formulas.specs.Printed.{HasPrintedFormulas};
 

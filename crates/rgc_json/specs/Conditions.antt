@@ -4,7 +4,7 @@ use Rattle.serde_json.specs.Data.{Data, object, member, no_members, number, stri
 use Rattle.rg_tree.specs.Printed.{formula_text}
 use Rattle.rg_tree.specs.Statements.{ProgramTree}
 use Rattle.rg_tree.specs.Lines.{LineTree}
-use Rattle.rgc.specs.Names.{names_of_conditions}
+use Rattle.rg_accept.specs.Names.{names_of_conditions}
 use Rattle.rgc_json.specs.Lines.{json_line}
 
 -- a pre by its text

@@ -8,9 +8,9 @@ use Rattle.rg_tree.specs.Programs.{IsSatisfied}
 use Rattle.rg_hints.specs.Proved.{AreProved}
 use Rattle.rg_parse.specs.Programs.{SpellsProgram}
 use Rattle.rg_pool.specs.Parts.{ArePartProved}
-use Rattle.rgc.specs.Accepted.{conditions_of, AreAccepted}
+use Rattle.rg_accept.specs.Accepted.{conditions_of, AreAccepted}
 use Rattle.rgc.specs.Chosen.{AreDerived}
-use Rattle.rgc.specs.Names.{names_of_conditions}
+use Rattle.rg_accept.specs.Names.{names_of_conditions}
 use Rattle.rgc.specs.Proofs.{IsUnproved, IsRange, in_range}
 use Rattle.rgc.specs.declared.proofs_found.Unproved.{Unproved}
 use Rattle.rgc_json.specs.Lines.{json_line}

@@ -6,7 +6,7 @@ ghost use Rattle.rg_words.specs.Written.{CanCount};
 ghost use Rattle.rg_tree.specs.ProgramTrees.{program as program_tree};
 ghost use Rattle.rg_tree.specs.Printed.{formula_text};
 ghost use Rattle.serde_json.specs.View.{view};
-ghost use Rattle.rgc.specs.Stages.{derived_program, derived_lines};
+ghost use Rattle.rg_accept.specs.Stages.{derived_program, derived_lines};
 ghost use Rattle.rgc_json.specs.Lines.{json_line};
 ghost use Rattle.rgc_json.specs.Conditions.{pre_data, condition_data, condition_lines, conditions_json};
 

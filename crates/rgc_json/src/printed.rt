@@ -3,7 +3,7 @@
 ghost use Rattle.std.specs.Prelude.{◌≡◌, IsTrue, false, IfOk, OnOk};
 ghost use Rattle.std.specs.Io.KnownBytes.{Appends};
 ghost use Rattle.rg_words.specs.Written.{CanCount};
-ghost use Rattle.rgc.specs.Stages.{derived_program, derived_lines};
+ghost use Rattle.rg_accept.specs.Stages.{derived_program, derived_lines};
 ghost use Rattle.rgc_json.specs.Lines.{json_line};
 ghost use Rattle.serde_json.specs.View.{view};
 ghost use Rattle.rgc_json.specs.Inner.Told.{TellsProofs, TellsUnproved, GaveProofs, GavePart, GaveNone};

@@ -6,7 +6,7 @@ use Rattle.rg_tree.specs.Statements.{ProgramTree}
 use Rattle.rg_code.specs.Code.{BlockTree}
 use Rattle.rg_floor.specs.Turns.{ClosedView}
 use Rattle.rg_outline_records.specs.Told.{NamingView, told_lines}
-use Rattle.rgc.specs.Accepted.{IsBuiltText}
+use Rattle.rg_accept.specs.Accepted.{IsBuiltText}
 use Rattle.rgc_running.specs.Running.{IsRunLeft, why_text}
 
 -- the code was run, with this start and these moves and so many steps of parts at most; the lines of the history went out, by these names of words and

@@ -5,7 +5,7 @@ use Rattle.rg_tree.specs.Lines.{LineTree}
 use Rattle.rg_tree.specs.Statements.{ProgramTree}
 use Rattle.rg_hints.specs.Proved.{AreProved}
 use Rattle.rgc.specs.declared.proofs_found.ProofsFound.{ProofsFound}
-use Rattle.rgc.specs.Accepted.{conditions_of}
+use Rattle.rg_accept.specs.Accepted.{conditions_of}
 use Rattle.rgc.specs.Chosen.{AreDerived}
 use Rattle.rgc.specs.Proofs.{AreFoundFor}
 use Rattle.rgc_outlined.specs.declared.write.Wanted.{Wanted}

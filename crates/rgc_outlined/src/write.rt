@@ -2,7 +2,7 @@
 
 ghost use Rattle.std.specs.Prelude.{◌≡◌, IsTrue, IfOk, OnOk};
 ghost use Rattle.rg_words.specs.Written.{CanCount};
-ghost use Rattle.rgc.specs.Stages.{derived_program, derived_lines};
+ghost use Rattle.rg_accept.specs.Stages.{derived_program, derived_lines};
 ghost use Rattle.rgc_outlined.specs.Written.{IsPut, IsPrinted, HasPut, AreFoundWhere, HasWritten};
 
 use crate::stop::NotDone;

@@ -8,7 +8,7 @@ use Rattle.rg_words.specs.declared.refusal.RefusalNumber.TheVariants.{Write, Mem
 use Rattle.rg_words.specs.Refusals.{refusal_text}
 use Rattle.rg_words.specs.Written.{AppendsBeginning}
 use Rattle.rg_parse.specs.Programs.{IsProgramRefusal}
-use Rattle.rgc.specs.Accepted.{IsAcceptTextRefusal}
+use Rattle.rg_accept.specs.Accepted.{IsAcceptTextRefusal}
 use Rattle.rgc.specs.Chosen.{IsDeriveRefusal, IsChosenClausesRefusal, IsChosenFindRefusal}
 use Rattle.rgc.specs.Valid.{IsClausesRefusal, IsFindRefusal, IsValidRefusal}
 use Rattle.rgc_line.specs.declared.command.Command.{Command}

@@ -4,7 +4,7 @@ use Rattle.std.specs.Fmt.{decimal}
 use Rattle.rg_tree.specs.Printed.{formula_text}
 use Rattle.rg_tree.specs.Statements.{ProgramTree}
 use Rattle.rg_tree.specs.Lines.{LineTree}
-use Rattle.rgc.specs.Names.{names_of_conditions}
+use Rattle.rg_accept.specs.Names.{names_of_conditions}
 
 -- a condition's line of the text: its number and its name
 abbrev pub condition_line : ℕ → List ℕ → List ℕ

@@ -18,7 +18,7 @@ use Rattle.rg_pool.specs.Parts.{ArePartProved}
 use Rattle.rg_listing.specs.Listing.{listing_data}
 use Rattle.rg_code.specs.CodeTrees.{code_blocks, names_of_code}
 use Rattle.rg_code.specs.declared.code.Code.{Code}
-use Rattle.rgc.specs.Accepted.{conditions_of, AreAccepted, IsBuiltText}
+use Rattle.rg_accept.specs.Accepted.{conditions_of, AreAccepted, IsBuiltText}
 use Rattle.rg_parse.specs.Programs.{SpellsProgram}
 use Rattle.rgc.specs.Chosen.{AreDerived, IsChosen}
 use Rattle.rgc_print.specs.Conditions.{conditions_text}

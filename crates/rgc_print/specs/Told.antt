@@ -8,7 +8,7 @@ use Rattle.rg_tree.specs.Statements.{ProgramTree}
 use Rattle.rg_find.specs.Judged.{IsJudged}
 use Rattle.rg_find.specs.declared.judgement.Judged.{Judged}
 use Rattle.rg_find.specs.declared.judgement.Judged.TheVariants.{Holds, Fails, GaveUp, TooLarge}
-use Rattle.rgc.specs.Accepted.{conditions_of}
+use Rattle.rg_accept.specs.Accepted.{conditions_of}
 use Rattle.rgc.specs.Chosen.{AreDerived, IsChosen}
 use Rattle.rgc.specs.Failures.{failure_text}
 use Rattle.rgc.specs.Proofs.{IsUnproved}

@@ -9,7 +9,7 @@ ghost use Rattle.rg_tree.specs.Printed.{formula_text};
 ghost use Rattle.rg_listing.specs.Listing.{listing_data};
 ghost use Rattle.rgc_print.specs.Stopped.{IsCut};
 ghost use Rattle.rgc_print.specs.Conditions.{condition_line, condition_lines, conditions_text};
-ghost use Rattle.rgc.specs.Stages.{derived_program, derived_lines};
+ghost use Rattle.rg_accept.specs.Stages.{derived_program, derived_lines};
 
 use rg_code::code::Code;
 use rg_listing::listing::listing;

@@ -3,7 +3,7 @@
 ghost use Rattle.std.specs.Prelude.{◌≡◌, IsTrue, false, IfOk, IfErr, OnOk};
 ghost use Rattle.rg_words.specs.Written.{CanCount};
 ghost use Rattle.rg_parse.specs.Programs.{IsProgramRefusal};
-ghost use Rattle.rgc.specs.Accepted.{IsAcceptTextRefusal};
+ghost use Rattle.rg_accept.specs.Accepted.{IsAcceptTextRefusal};
 ghost use Rattle.rgc.specs.Chosen.{IsDeriveRefusal, IsChosenClausesRefusal, IsChosenFindRefusal};
 ghost use Rattle.rgc.specs.Valid.{IsClausesRefusal, IsFindRefusal, IsValidRefusal};
 ghost use Rattle.rgc_print.specs.Stopped.{IsStopped};

@@ -5,7 +5,7 @@ use Rattle.std.specs.Io.KnownBytes.{Appends}
 use Rattle.rg_tree.specs.Statements.{ProgramTree}
 use Rattle.rg_code.specs.Code.{BlockTree}
 use Rattle.rg_floor.specs.Turns.{ClosedView}
-use Rattle.rgc.specs.Accepted.{IsBuiltText}
+use Rattle.rg_accept.specs.Accepted.{IsBuiltText}
 use Rattle.rgc_run_json.specs.Records.{run_text}
 use Rattle.rgc_running.specs.Running.{IsRunLeft}
 

@@ -13,7 +13,7 @@ use Rattle.rg_floor.specs.Turns.{ClosedView}
 use Rattle.rg_floor.specs.declared.turn.Why.{Why}
 use Rattle.rg_floor.specs.declared.turn.Why.TheVariants.{Ended, Limit, Stuck, Stopped}
 use Rattle.rg_runner.specs.Running.{IsLeftOf}
-use Rattle.rgc.specs.Accepted.{IsBuiltText}
+use Rattle.rg_accept.specs.Accepted.{IsBuiltText}
 
 -- the state at the start: the one that the bytes spell; without any each word is 0
 abbrev pub StartsAt : List Word → Option (Bor (List ℕ)) → State → Type 0

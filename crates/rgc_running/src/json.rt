@@ -2,13 +2,13 @@
 
 ghost use Rattle.std.specs.Prelude.{◌≡◌, OnOk};
 ghost use Rattle.rg_words.specs.Written.{CanCount};
-ghost use Rattle.rgc.specs.Stages.{emitted_program, emitted_blocks};
+ghost use Rattle.rg_accept.specs.Stages.{emitted_program, emitted_blocks};
 ghost use Rattle.rgc_running.specs.RunJson.{HasPrintedRunJsonOf, HasPrintedRunJson};
 
 use crate::running::{RunFiles, play_files};
+use rg_accept::{Emitted, build_all};
 use rg_code::checked::Checked;
 use rg_words::{Device, Out, Refusal};
-use rgc::{Emitted, build_all};
 use rgc_run_json::write_closed;
 use std::alloc::Global;
 use std::io::sink;

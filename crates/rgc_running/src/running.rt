@@ -6,9 +6,10 @@ ghost use Rattle.rg_words.specs.Layout.{widths_of};
 ghost use Rattle.rg_words.specs.Written.{CanCount};
 ghost use Rattle.rg_tree.specs.Moves.{move as move_tree, AreMoves};
 ghost use Rattle.rg_monitor.specs.Lines.{lines_of};
-ghost use Rattle.rgc.specs.Stages.{emitted_program, emitted_blocks};
+ghost use Rattle.rg_accept.specs.Stages.{emitted_program, emitted_blocks};
 ghost use Rattle.rgc_running.specs.Running.{StartsAt, AreTheMoves, IsRunLeft, HasPrintedRunOf, HasPrintedRun, why_text};
 
+use rg_accept::{Emitted, build_all};
 use rg_code::checked::Checked;
 use rg_draw::{MOST_DRAWN, draw};
 use rg_floor::closed::{Closed, Passed};
@@ -18,7 +19,6 @@ use rg_runner::player::play;
 use rg_tree::moves::Move;
 use rg_tree::program::Program;
 use rg_words::{Layout, Out, Place, Refusal, RefusalNumber, SourceFile, State, write_all};
-use rgc::{Emitted, build_all};
 use std::alloc::{AllocError, Global};
 use std::sync::Wait;
 use std::thread::Threads;
@@ -193,7 +193,7 @@ fn print_emitted<R: Threads + Wait + Sync, W: Out, F: Out>(
 ///
 /// # Errors
 ///
-/// As `rgc::build_all`; then the first fault of the start, and that of the moves; then `Limit` for too many steps, and
+/// As `rg_accept::build_all`; then the first fault of the start, and that of the moves; then `Limit` for too many steps, and
 /// `StartOutsidePre`. `Write` where the writer failed, `Memory` where memory is refused, in any thread.
 pub fn print_run<R: Threads + Wait + Sync, W: Out, F: Out>(
     rt: &R,

@@ -8,7 +8,7 @@ use Rattle.rg_words.specs.declared.limits.TheConstants.{MOST_TEXT_BYTES}
 use Rattle.rg_tree.specs.Lines.{LineTree}
 use Rattle.rg_tree.specs.Statements.{ProgramTree}
 use Rattle.rg_tree.specs.Programs.{IsSatisfied}
-use Rattle.rgc.specs.Accepted.{conditions_of, AreAccepted}
+use Rattle.rg_accept.specs.Accepted.{conditions_of, AreAccepted}
 use Rattle.rgc.specs.Pieces.{AreAcceptedInPieces}
 use Rattle.rgc.specs.Chosen.{AreDerived}
 use Rattle.rgc_walked.specs.Refuted.{IsRefuted}

@@ -2,7 +2,7 @@
 
 ghost use Rattle.std.specs.Prelude.{◌≡◌, None, IfOk, OnOk};
 ghost use Rattle.rg_words.specs.Written.{CanCount};
-ghost use Rattle.rgc.specs.Stages.{derived_program, derived_lines};
+ghost use Rattle.rg_accept.specs.Stages.{derived_program, derived_lines};
 ghost use Rattle.rgc_verify.specs.Verified.{HasPrintedVerdict};
 ghost use Rattle.rgc_verify.specs.Inner.Counts.{IsOfPieces, HasPrintedCounts};
 

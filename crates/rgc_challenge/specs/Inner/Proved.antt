@@ -4,7 +4,7 @@ use Rattle.rg_tree.specs.Lines.{LineTree}
 use Rattle.rg_tree.specs.Statements.{ProgramTree}
 use Rattle.rg_tree.specs.Programs.{IsSatisfied}
 use Rattle.rg_hints.specs.Proved.{AreProved}
-use Rattle.rgc.specs.Accepted.{conditions_of}
+use Rattle.rg_accept.specs.Accepted.{conditions_of}
 
 -- some proofs prove all conditions of the program and these lines, so the program satisfies its specification
 pub record HasProofs (program : ProgramTree) (lines : List LineTree) : Type 0 where

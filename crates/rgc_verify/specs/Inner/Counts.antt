@@ -5,7 +5,7 @@ use Rattle.rg_tree.specs.Lines.{LineTree}
 use Rattle.rg_tree.specs.Statements.{ProgramTree}
 use Rattle.rg_tree.specs.Programs.{IsSatisfied}
 use Rattle.rg_hints.specs.Proved.{AreProved}
-use Rattle.rgc.specs.Accepted.{conditions_of}
+use Rattle.rg_accept.specs.Accepted.{conditions_of}
 use Rattle.rgc.specs.Pieces.{AreDerivedInPieces}
 use Rattle.rgc_verify.specs.Verified.{ArePiecesOf, verdict_text}
 use Rattle.rgc_verify.specs.declared.verdict.Form.{Form}

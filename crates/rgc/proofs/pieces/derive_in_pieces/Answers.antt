@@ -1,5 +1,5 @@
 use Rattle.std.proofs.Common.{inl, inr}
-use Rattle.rgc.specs.Stages.{parsed_program}
+use Rattle.rg_accept.specs.Stages.{parsed_program}
 use Rattle.rgc.proofs.pieces.derive_in_pieces.Goals as goal
 
 pub returns-in-Err-derive_in_pieces-clause-refused : goal.returns-in-Err-derive_in_pieces-clause-refused

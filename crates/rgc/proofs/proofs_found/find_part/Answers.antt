@@ -1,7 +1,7 @@
 use Rattle.std.proofs.Common.{arith}
 use Rattle.std.specs.Prelude.{string_bytes}
-use Rattle.rgc.specs.Accepted.{conditions_of}
-use Rattle.rgc.specs.Stages.{derived_program, derived_lines}
+use Rattle.rg_accept.specs.Accepted.{conditions_of}
+use Rattle.rg_accept.specs.Stages.{derived_program, derived_lines}
 use Rattle.rgc.proofs.Search.{part_found}
 use Rattle.rgc.proofs.proofs_found.find_part.Goals as goal
 

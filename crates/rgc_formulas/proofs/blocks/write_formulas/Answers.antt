@@ -3,9 +3,9 @@ use Rattle.std.specs.Prelude.{string_bytes, OnOk}
 use Rattle.std.specs.Io.KnownBytes.{Appends}
 use Rattle.rg_tree.specs.ConditionTrees.{ConditionTree}
 use Rattle.rg_tree.specs.Conditions.{condition_tree}
-use Rattle.rgc.specs.Accepted.{conditions_of}
-use Rattle.rgc.specs.Names.{names_of_conditions}
-use Rattle.rgc.specs.Stages.{derived_program, derived_lines}
+use Rattle.rg_accept.specs.Accepted.{conditions_of}
+use Rattle.rg_accept.specs.Names.{names_of_conditions}
+use Rattle.rg_accept.specs.Stages.{derived_program, derived_lines}
 use Rattle.rgc_formulas.specs.Blocks.{blocks_text}
 use Rattle.rgc_formulas.proofs.blocks.write_formulas.Goals as goal
 

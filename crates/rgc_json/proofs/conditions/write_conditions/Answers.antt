@@ -5,8 +5,8 @@ use Rattle.std.proofs.lemmas.Result.{on_ok_weaker}
 use Rattle.rg_words.proofs.Written.{appends_both}
 use Rattle.rg_tree.specs.Printed.{formula_text}
 use Rattle.rg_tree.specs.Statements.{ProgramTree}
-use Rattle.rgc.specs.Names.{names_of_conditions}
-use Rattle.rgc.specs.Stages.{derived_program, derived_lines}
+use Rattle.rg_accept.specs.Names.{names_of_conditions}
+use Rattle.rg_accept.specs.Stages.{derived_program, derived_lines}
 use Rattle.rgc_json.specs.Lines.{json_line}
 use Rattle.rgc_json.specs.Conditions.{pre_data, condition_lines}
 use Rattle.rgc_json.proofs.conditions.write_conditions.Goals as goal

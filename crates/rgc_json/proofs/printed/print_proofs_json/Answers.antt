@@ -1,5 +1,5 @@
 use Rattle.std.proofs.lemmas.Result.{IfOk-weaker}
-use Rattle.rgc.specs.Stages.{derived_program, derived_lines}
+use Rattle.rg_accept.specs.Stages.{derived_program, derived_lines}
 use Rattle.rgc_json.proofs.Found.{proofs_went}
 use Rattle.rgc_json.proofs.printed.print_proofs_json.Goals as goal
 

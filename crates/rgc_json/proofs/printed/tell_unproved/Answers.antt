@@ -3,8 +3,8 @@ use Rattle.std.specs.Prelude.{string_bytes}
 use Rattle.std.specs.Io.KnownBytes.{Appends}
 use Rattle.std.proofs.lemmas.Result.{on_ok_weaker}
 use Rattle.rg_tree.specs.Statements.{ProgramTree}
-use Rattle.rgc.specs.Names.{names_of_conditions}
-use Rattle.rgc.specs.Stages.{derived_program, derived_lines}
+use Rattle.rg_accept.specs.Names.{names_of_conditions}
+use Rattle.rg_accept.specs.Stages.{derived_program, derived_lines}
 use Rattle.rgc_json.specs.Proofs.{unproved_lines}
 use Rattle.rgc_json.proofs.printed.tell_unproved.Goals as goal
 

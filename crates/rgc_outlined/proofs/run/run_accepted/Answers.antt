@@ -1,4 +1,4 @@
-use Rattle.rgc.specs.Stages.{emitted_program, emitted_blocks}
+use Rattle.rg_accept.specs.Stages.{emitted_program, emitted_blocks}
 use Rattle.rgc_outlined.proofs.run.run_accepted.Goals as goal
 
 pub returns-clause-printed : goal.returns-clause-printed

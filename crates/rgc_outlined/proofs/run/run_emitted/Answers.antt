@@ -6,7 +6,7 @@ use Rattle.rg_tree.specs.ProgramTrees.{program as program_tree}
 use Rattle.rg_tree.specs.Statements.{ProgramTree}
 use Rattle.rg_tree.specs.declared.program.Program.{Program}
 use Rattle.rg_outline_records.specs.Told.{told_lines}
-use Rattle.rgc.specs.Stages.{emitted_program}
+use Rattle.rg_accept.specs.Stages.{emitted_program}
 use Rattle.rgc_running.specs.Running.{why_text}
 use Rattle.rgc_outlined.proofs.run.run_emitted.Goals as goal
 

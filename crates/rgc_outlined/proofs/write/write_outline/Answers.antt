@@ -1,4 +1,4 @@
-use Rattle.rgc.specs.Stages.{derived_program, derived_lines}
+use Rattle.rg_accept.specs.Stages.{derived_program, derived_lines}
 use Rattle.rgc_outlined.proofs.Proved.{derived_same, proved_where}
 use Rattle.rgc_outlined.proofs.write.write_outline.Goals as goal
 

@@ -5,8 +5,8 @@ use Rattle.std.proofs.lemmas.Result.{err_from_is_err_and, on_ok_weaker}
 use Rattle.rg_words.proofs.Written.{appends_none, appends_both}
 use Rattle.rg_tree.specs.Printed.{formula_text}
 use Rattle.rg_tree.specs.View.{formula}
-use Rattle.rgc.specs.Names.{names_of_conditions}
-use Rattle.rgc.specs.Stages.{derived_program, derived_lines}
+use Rattle.rg_accept.specs.Names.{names_of_conditions}
+use Rattle.rg_accept.specs.Stages.{derived_program, derived_lines}
 use Rattle.rgc_print.specs.Conditions.{condition_lines}
 use Rattle.rgc_print.specs.Stopped.{IsCut}
 use Rattle.rgc_print.proofs.Cuts.{cut_within, cut_by_writer, cut_behind}

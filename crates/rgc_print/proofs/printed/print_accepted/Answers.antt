@@ -1,6 +1,6 @@
 use Rattle.std.proofs.lemmas.Result.{err_from_is_err_and}
 use Rattle.rgc_print.proofs.Cuts.{refused_stops}
-use Rattle.rgc.specs.Accepted.{IsAcceptTextRefusal}
+use Rattle.rg_accept.specs.Accepted.{IsAcceptTextRefusal}
 use Rattle.rgc_print.proofs.printed.print_accepted.Goals as goal
 
 pub returns-in_err-accept_all-clause-stopped : goal.returns-in_err-accept_all-clause-stopped

@@ -7,9 +7,9 @@ use Rattle.std.specs.Io.KnownBytes.{Appends}
 use Rattle.serde_json.specs.Written.{compact_text}
 use Rattle.rg_code.specs.declared.code.Code.{Code}
 use Rattle.rg_listing.specs.Listing.{listing_data}
-use Rattle.rgc.specs.Stages.{emitted_program}
+use Rattle.rg_accept.specs.Stages.{emitted_program}
 use Rattle.rgc_print.proofs.Listings.{lawful_over}
-use Rattle.rgc.specs.Accepted.{IsAcceptTextRefusal}
+use Rattle.rg_accept.specs.Accepted.{IsAcceptTextRefusal}
 use Rattle.rgc_print.proofs.printed.print_listing.Goals as goal
 
 pub returns-clause-printed : goal.returns-clause-printed

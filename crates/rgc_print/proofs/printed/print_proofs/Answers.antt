@@ -1,5 +1,5 @@
 use Rattle.std.proofs.lemmas.Result.{IfOk-weaker}
-use Rattle.rgc.specs.Stages.{derived_program, derived_lines}
+use Rattle.rg_accept.specs.Stages.{derived_program, derived_lines}
 use Rattle.rgc_print.proofs.Found.{proofs_of_all, told_of_all}
 use Rattle.rgc_print.proofs.printed.print_proofs.Goals as goal
 

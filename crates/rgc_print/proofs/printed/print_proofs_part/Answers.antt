@@ -1,5 +1,5 @@
 use Rattle.std.proofs.lemmas.Result.{IfOk-weaker}
-use Rattle.rgc.specs.Stages.{derived_program, derived_lines}
+use Rattle.rg_accept.specs.Stages.{derived_program, derived_lines}
 use Rattle.rgc_print.proofs.Found.{proofs_of_part, told_of_part}
 use Rattle.rgc_print.proofs.printed.print_proofs_part.Goals as goal
 

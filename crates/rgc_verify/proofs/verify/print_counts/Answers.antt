@@ -5,8 +5,8 @@ use Rattle.std.specs.Io.KnownBytes.{Appends}
 use Rattle.rg_tree.specs.Conditions.{condition_tree}
 use Rattle.rg_tree.specs.Statements.{ProgramTree}
 use Rattle.rg_tree.specs.Programs.{IsSatisfied}
-use Rattle.rgc.specs.Accepted.{conditions_of}
-use Rattle.rgc.specs.Stages.{derived_program, derived_lines}
+use Rattle.rg_accept.specs.Accepted.{conditions_of}
+use Rattle.rg_accept.specs.Stages.{derived_program, derived_lines}
 use Rattle.rgc_verify.specs.Verified.{verdict_text}
 use Rattle.rgc_verify.proofs.verify.print_counts.Goals as goal
 

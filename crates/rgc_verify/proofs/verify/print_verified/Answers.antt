@@ -1,4 +1,4 @@
-use Rattle.rgc.specs.Stages.{derived_program, derived_lines}
+use Rattle.rg_accept.specs.Stages.{derived_program, derived_lines}
 use Rattle.rgc_verify.proofs.verify.print_verified.Goals as goal
 
 pub returns-in_ok-print_counts-in-Proofs-clause-printed : goal.returns-in_ok-print_counts-in-Proofs-clause-printed

@@ -1,0 +1,4 @@
+pub mod Asked
+pub mod Accepting
+pub mod Texts
+pub mod InPieces

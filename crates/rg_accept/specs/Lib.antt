@@ -1,0 +1,4 @@
+pub mod Accepted
+pub mod Pieces
+pub mod Stages
+pub mod Names
