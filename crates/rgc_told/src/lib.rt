@@ -9,6 +9,7 @@ mod derivations;
 mod expected;
 mod lines;
 mod meaning;
+mod outlines;
 mod slips;
 mod sources;
 mod spots;

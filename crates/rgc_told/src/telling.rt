@@ -6,6 +6,7 @@ ghost use Rattle.rgc_told.specs.Telling.{named_line, tells_more, said, IsToldAt,
 use crate::derivations::line_told;
 use crate::lines::{Span, line_of, line_start, push_marked, within};
 use crate::meaning::{bad_byte_told, meaning_told};
+use crate::outlines::{OUTLINE_TOLD, is_outline};
 use crate::slips::{unexpected, unfinished};
 use crate::sources::Sources;
 use crate::spots::{bad_byte, token_of, tokens_of};
@@ -151,8 +152,8 @@ fn note_at_line(alloc: Global, line: &[u8]) -> Note
     }
 }
 
-/// The note of a refusal of which more can be said than when it is given.
-fn telling_note(
+/// The note of a refusal by what stands at its place.
+fn found_note(
     alloc: Global,
     refusal: &Refusal,
     sources: &Sources<'_>,
@@ -167,6 +168,20 @@ fn telling_note(
         Some(note) => Ok(note),
         None => Ok(note_at_line(alloc, line.bytes)),
     }
+}
+
+/// The note of a refusal of which more can be said than when it is given.
+fn telling_note(
+    alloc: Global,
+    refusal: &Refusal,
+    sources: &Sources<'_>,
+    line: NamedLine<'_>,
+) -> Result<Note, AllocError> {
+    let mut note = found_note(alloc, refusal, sources, line)?;
+    if matches!(line.file, SourceFile::Text) && is_outline(line.source) {
+        note.sentence = String::from_str(alloc, OUTLINE_TOLD)?;
+    }
+    Ok(note)
 }
 
 /// Whether more can be said of a fault than when it is given: of those of texts and of derivations.
