@@ -59,7 +59,10 @@ pub fn derive_outline(alloc: Global, files: &OutlineFiles) -> Result<Derived, Re
     ensures refused { IfErr result (IsOfPiecesRefusal files.now.text.items files.now.derivation.items) }
 {
     let pieces = pieces_of(alloc, files)?;
-    derive_in_pieces(alloc, &files.text, &pieces)
+    match derive_in_pieces(alloc, &files.text, &pieces) {
+        Ok(derived) => Ok(derived),
+        Err(refusal) => Err(refusal),
+    }
 }
 
 /// Where a derivation is no longer than a file may be, what is accepted with its pieces is accepted with it, as `rgc::accept` accepts files.
