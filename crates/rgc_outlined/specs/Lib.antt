@@ -1,3 +1,2 @@
 pub mod Outlined
 pub mod Written
-pub mod Inner
