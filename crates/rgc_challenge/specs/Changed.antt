@@ -3,17 +3,20 @@ use Rattle.std.specs.Prelude.{ℕ, List}
 use Rattle.rg_tree.specs.Statements.{ProgramTree}
 use Rattle.rg_tree.specs.Programs.{IsSatisfied}
 use Rattle.rg_parse.specs.Programs.{SpellsProgram}
-use Rattle.rg_accept.specs.Accepted.{AreAccepted}
+use Rattle.rgc.specs.Pieces.{AreAcceptedInPieces}
+use Rattle.rgc_pieces.specs.Cut.{ArePiecesOf}
 use Rattle.rgc_challenge.specs.declared.answers.Answer.{Answer}
 use Rattle.rgc_challenge.specs.declared.answers.Answer.TheVariants.{Survives, Breaks, Unfit, Undecided}
 use Rattle.rgc_challenge.specs.declared.answers.Answered.{Answered}
 
--- the text, some derivation and some proofs are accepted for a program, which therefore satisfies its specification
+-- the text, the pieces of some derivation, and some proofs are accepted for a program, which therefore satisfies its specification
 pub record IsProvedText (text : List ℕ) : Type 0 where
   pub derivation : List ℕ
+  pub pieces : List (List ℕ)
   pub proofs : List ℕ
   pub program : ProgramTree
-  pub accepted : AreAccepted text derivation proofs program
+  pub cut : ArePiecesOf derivation pieces
+  pub accepted : AreAcceptedInPieces text pieces proofs program
   pub satisfied : IsSatisfied program
 
 -- the text spells a program that doesn't satisfy its specification

@@ -63,15 +63,7 @@ fn proved_with<P: Watcher + Copy>(
     ensures { IfOk result (λ found. IfSome found IsAnswered) }
 {
     let (known, steps) = (subject.known, subject.steps);
-    if !is_proved(
-        alloc,
-        &files.text,
-        &files.derivation,
-        known,
-        steps,
-        watcher,
-        is_open,
-    )? {
+    if !is_proved(alloc, &files, known, steps, watcher, is_open)? {
         return Ok(None);
     }
     Ok(Some(Answered {

@@ -8,11 +8,13 @@ ghost use Rattle.rgc_challenge.specs.Inner.Proved.{HasProofs};
 
 use crate::known::Known;
 use rg_find::{Judged, Watcher, judge};
+use rg_outline_files::OutlineFiles;
 use rg_parse::program;
 use rg_tree::condition::Condition;
 use rg_walk::{Bounds, Walked, walk};
 use rg_words::{Refusal, RefusalNumber, SourceFile};
-use rgc::{Derived, derive_program};
+use rgc::Derived;
+use rgc_pieces::derive_outline;
 use std::alloc::{AllocError, Global};
 
 /// How far each walk goes.
@@ -135,26 +137,25 @@ fn has_proofs(alloc: Global, derived: Derived, proofs: &[u8]) -> Result<bool, Re
     }
 }
 
-/// Whether all conditions of a text's program with this derivation are proved: by lines that are known, or that a search finds, which makes so many
-/// decisions at most; all lines are checked. Where they aren't all proved, and none of them is found to fail, `is_open` becomes true. The
-/// conditions are looked at in their order up to the first that fails.
+/// Whether all conditions of the program of an outline's text with its derivation, which may be longer than a file may be, are proved: by lines that
+/// are known, or that a search finds, which makes so many decisions at most; all lines are checked. Where they aren't all proved, and none of them is
+/// found to fail, `is_open` becomes true. The conditions are looked at in their order up to the first that fails.
 ///
 /// # Errors
 ///
-/// As `rgc::derive_program`; then as `rg_find::judge` of the conditions that are looked at.
+/// As `rgc_pieces::derive_outline`; then as `rg_find::judge` of the conditions that are looked at.
 pub fn is_proved<P: Watcher + Copy>(
     alloc: Global,
-    text: &[u8],
-    derivation: &[u8],
+    files: &OutlineFiles,
     known: &Known<'_>,
     steps: u64,
     watcher: &P,
     is_open: &mut bool,
 ) -> Result<bool, Refusal>
-    // It is said only where the text, the derivation and some proofs are accepted.
-    ensures { IfOk result (λ b. IsTrue b → IsProvedText text.now) }
+    // It is said only where the text, the pieces of a derivation and some proofs are accepted.
+    ensures { IfOk result (λ b. IsTrue b → IsProvedText files.now.text.items) }
 {
-    let derived = derive_program(alloc, text, derivation)?;
+    let derived = derive_outline(alloc, files)?;
     let mut proofs = Vec::new(alloc);
     let judgement = judge_derived(alloc, &derived, known, steps, watcher, &mut proofs)?;
     if judgement == Judgement::True && has_proofs(alloc, derived, &proofs)? {

@@ -14,7 +14,8 @@ use rg_outline_challenge::{
 use rg_outline_files::{Format, OutlineFiles, OutlineSource};
 use rg_outline_text::Span;
 use rg_words::{Out, Refusal, write_all};
-use rgc::{ProofsFound, derive_program, find_proofs_all};
+use rgc::{ProofsFound, find_proofs_all};
+use rgc_pieces::derive_outline;
 use rgc_walked::NoVerdict;
 use std::alloc::{AllocError, Global};
 use std::thread::Threads;
@@ -138,7 +139,7 @@ fn proofs_of<R: Threads + Sync, P: Watcher + Copy + Sync>(
     steps: u64,
     watcher: &P,
 ) -> Result<Option<String>, Refusal> {
-    let derived = derive_program(alloc, &files.text, &files.derivation)?;
+    let derived = derive_outline(alloc, files)?;
     match find_proofs_all(rt, alloc, threads, &derived, steps, watcher)? {
         ProofsFound::Proofs(proofs) => Ok(Some(proofs)),
         ProofsFound::Failures(_) => Ok(None),
@@ -154,7 +155,7 @@ fn known_by<'p>(
     let Some(proofs) = proofs else {
         return Ok(Known::nothing(alloc));
     };
-    let derived = derive_program(alloc, &files.text, &files.derivation)?;
+    let derived = derive_outline(alloc, files)?;
     let conditions = derived.conditions(alloc)?;
     Known::of(alloc, &conditions, proofs.as_bytes())
 }
@@ -196,7 +197,7 @@ fn answers_in<R: Threads + Sync, P: Watcher + Copy + Sync>(
 /// # Errors
 ///
 /// - `NoVerdict::Outline` where the outline is refused, with what tells its first fault.
-/// - `NoVerdict::Refused` where the files of the outline or of a changed one are too large, where more decisions are asked than a search may make,
+/// - `NoVerdict::Refused` where the files of the outline or of a changed one are too deep, where more decisions are asked than a search may make,
 ///   where the writer failed, or where memory is refused.
 pub fn challenge<R: Threads + Sync, W: Out, P: Watcher + Copy + Sync>(
     rt: &R,
@@ -209,8 +210,8 @@ pub fn challenge<R: Threads + Sync, W: Out, P: Watcher + Copy + Sync>(
     watcher: &P,
 ) -> Result<Vec<Answered>, NoVerdict>
     requires { CanCount (W.failures out.old) }
-    // A change is said to survive only where its text, a derivation and proofs are accepted; and to break the specification only where its text's
-    // program doesn't satisfy it.
+    // A change is said to survive only where its text, the pieces of a derivation and proofs are accepted; and to break the specification only where
+    // its text's program doesn't satisfy it.
     ensures answers { IfOk result (λ answers. All IsAnswered answers.items) }
     ensures failures { OnOk result (W.failures out.new ≡ W.failures out.old) }
 {

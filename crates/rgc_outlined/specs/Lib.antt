@@ -1,2 +1,3 @@
 pub mod Outlined
 pub mod Written
+pub mod Inner

@@ -6,7 +6,7 @@ use Rattle.rg_tree.specs.Statements.{ProgramTree}
 use Rattle.rg_code.specs.Code.{BlockTree}
 use Rattle.rg_floor.specs.Turns.{ClosedView}
 use Rattle.rg_outline_records.specs.Told.{NamingView, told_lines}
-use Rattle.rg_accept.specs.Accepted.{IsBuiltText}
+use Rattle.rgc_pieces.specs.Cut.{ArePiecesOf, IsBuiltInPieces}
 use Rattle.rgc_running.specs.Running.{IsRunLeft, why_text}
 
 -- the code was run, with this start and these moves and so many steps of parts at most; the lines of the history went out, by these names of words and
@@ -16,14 +16,16 @@ pub record HasToldRunOf (program : ProgramTree) (blocks : List (List BlockTree))
   pub left : IsRunLeft program blocks start moves limit closed
   pub printed : Appends old new (told_lines naming program closed.history ++ why_text closed.why)
 
--- some text, derivation and proofs are accepted for a program, whose code has exactly its runs; it was run, and what it did went out, by some names of
--- words and some lines of statements
+-- some text, the pieces of some derivation, and some proofs are accepted for a program, whose code has exactly its runs; it was run, and what it did went
+-- out, by some names of words and some lines of statements
 pub record HasToldRun (start moves : Option (Bor (List ℕ))) (limit : ℕ) (old new : Option (List ℕ)) : Type 0 where
   pub text : List ℕ
   pub derivation : List ℕ
+  pub pieces : List (List ℕ)
   pub proofs : List ℕ
   pub program : ProgramTree
   pub blocks : List (List BlockTree)
-  pub built : IsBuiltText text derivation proofs program blocks
+  pub cut : ArePiecesOf derivation pieces
+  pub built : IsBuiltInPieces text pieces proofs program blocks
   pub naming : NamingView
   pub run : HasToldRunOf program blocks naming start moves limit old new

@@ -4,9 +4,10 @@ ghost use Rattle.std.specs.Prelude.{◌≡◌, IsTrue, IfOk, OnOk, OnErr};
 ghost use Rattle.std.specs.Io.KnownBytes.{Appends};
 ghost use Rattle.rg_words.specs.Written.{CanCount};
 ghost use Rattle.rg_tree.specs.ProgramTrees.{program as program_tree};
-ghost use Rattle.rg_accept.specs.Stages.{emitted_program, emitted_blocks};
+ghost use Rattle.rg_accept.specs.Stages.{derived_program, derived_lines, emitted_program, emitted_blocks};
 ghost use Rattle.rg_outline_records.specs.Told.{told_lines};
 ghost use Rattle.rgc_outlined.specs.Outlined.{HasToldRunOf, HasToldRun};
+ghost use Rattle.rgc_outlined.specs.Inner.Proved.{IsEmittedBy, HasToldProved};
 
 use crate::naming::naming_of;
 use crate::stop::NotDone;
@@ -18,7 +19,8 @@ use rg_outline_files::{OutlineFiles, OutlineSource};
 use rg_outline_records::{Naming, push_told};
 use rg_tree::program::Program;
 use rg_words::{Out, Refusal, WriteFault, write_all};
-use rgc::{Emitted, ProofsFound, build_all, derive_program, find_proofs_all};
+use rgc::{Derived, Emitted, ProofsFound, find_proofs_all};
+use rgc_pieces::derive_outline;
 use rgc_running::{RunFiles, end_run, play_files};
 use std::alloc::Global;
 use std::sync::Wait;
@@ -101,11 +103,27 @@ fn run_emitted<R: Threads + Wait + Sync, W: Out, F: Out>(
     )
 }
 
-/// Runs what these files are accepted as, in the outline's words.
-fn run_accepted<R: Threads + Wait + Sync, W: Out, F: Out>(
+/// The code of a program, all of whose conditions these proofs prove.
+fn emitted_by<R: Threads + Sync>(
+    rt: &R,
+    alloc: Global,
+    threads: usize,
+    derived: Derived,
+    proofs: &[u8],
+) -> Result<Emitted, Refusal>
+    ensures { IfOk result (λ e. IsEmittedBy (derived_program derived) (derived_lines derived) proofs.now (emitted_program e) (emitted_blocks e)) }
+{
+    let accepted = derived.prove_all(rt, alloc, threads, proofs)?;
+    let emitted = accepted.emit(alloc)?;
+    Ok(emitted)
+}
+
+/// Runs an outline's program, all of whose conditions the proofs of these files prove, in the outline's words.
+fn run_proved<R: Threads + Wait + Sync, W: Out, F: Out>(
     rt: &R,
     alloc: Global,
     outline: OutlineSource<'_>,
+    derived: Derived,
     files: RunFiles<'_>,
     out: &mut W,
     faults: &mut F,
@@ -113,34 +131,14 @@ fn run_accepted<R: Threads + Wait + Sync, W: Out, F: Out>(
 ) -> Result<(), NotDone>
     requires out { CanCount (W.failures out.old) }
     requires faults { CanCount (F.failures faults.old) }
-    ensures printed { OnOk result (HasToldRun files.entry.start files.entry.moves files.entry.limit (W.contents out.old) (W.contents out.new)) }
+    ensures printed { OnOk result (HasToldProved (derived_program derived) (derived_lines derived) files.entry.proofs.now files.entry.start files.entry.moves files.entry.limit (W.contents out.old) (W.contents out.new)) }
     ensures failures { OnOk result (W.failures out.new ≡ W.failures out.old) }
     ensures quiet { OnErr result (F.failures faults.new ≡ F.failures faults.old) }
 {
-    let emitted = build_all(
-        rt,
-        alloc,
-        files.threads,
-        files.text,
-        files.derivation,
-        files.proofs,
-    )?;
+    let emitted = emitted_by(rt, alloc, files.threads, derived, files.proofs)?;
     let naming = naming_of(alloc, outline, emitted.program())?;
     run_emitted(rt, alloc, &naming, &emitted, files, out, faults, picture)?;
     Ok(())
-}
-
-/// Looks for proofs of the conditions of an outline's program.
-fn proofs_of<R: Threads + Sync, P: Watcher + Copy + Sync>(
-    rt: &R,
-    alloc: Global,
-    threads: usize,
-    files: &OutlineFiles,
-    steps: u64,
-    watcher: &P,
-) -> Result<ProofsFound, Refusal> {
-    let derived = derive_program(alloc, &files.text, &files.derivation)?;
-    find_proofs_all(rt, alloc, threads, &derived, steps, watcher)
 }
 
 /// Runs an outline's program where its conditions are proved: prints a line for each step, with the outline's line of the statement and the
@@ -151,7 +149,7 @@ fn proofs_of<R: Threads + Sync, P: Watcher + Copy + Sync>(
 /// # Errors
 ///
 /// - `NotDone::Outline` where the outline is refused, with what tells its first fault.
-/// - `NotDone::Refused` where its files are refused, as any files are; then as `rgc::find_proofs_all`; then as `rgc_running::print_run`.
+/// - `NotDone::Refused` as `rgc_pieces::derive_outline`; then as `rgc::find_proofs_all`; then as `rgc_running::print_run` from the start on.
 pub fn run_outline<R: Threads + Wait + Sync, W: Out, F: Out, P: Watcher + Copy + Sync>(
     rt: &R,
     alloc: Global,
@@ -165,13 +163,14 @@ pub fn run_outline<R: Threads + Wait + Sync, W: Out, F: Out, P: Watcher + Copy +
 ) -> Result<bool, NotDone>
     requires out { CanCount (W.failures out.old) }
     requires faults { CanCount (F.failures faults.old) }
-    // It is run only where some text, derivation and proofs are accepted.
+    // It is run only where some text, the pieces of some derivation and some proofs are accepted.
     ensures printed { IfOk result (λ b. IsTrue b → HasToldRun how.entry.start how.entry.moves how.entry.limit (W.contents out.old) (W.contents out.new)) }
     ensures failures { OnOk result (W.failures out.new ≡ W.failures out.old) }
     ensures quiet { OnErr result (F.failures faults.new ≡ F.failures faults.old) }
 {
     let files = OutlineFiles::of(alloc, outline)?;
-    match proofs_of(rt, alloc, threads, &files, how.steps, watcher)? {
+    let derived = derive_outline(alloc, &files)?;
+    match find_proofs_all(rt, alloc, threads, &derived, how.steps, watcher)? {
         ProofsFound::Proofs(proofs) => {
             let run = RunFiles {
                 text: &files.text,
@@ -183,7 +182,7 @@ pub fn run_outline<R: Threads + Wait + Sync, W: Out, F: Out, P: Watcher + Copy +
                 is_drawn: how.is_drawn,
                 threads,
             };
-            run_accepted(rt, alloc, outline, run, out, faults, picture)?;
+            run_proved(rt, alloc, outline, derived, run, out, faults, picture)?;
             Ok(true)
         }
         ProofsFound::Failures(unproved) => {

@@ -1,6 +1,5 @@
 -- What is printed of an outline.
-use Rattle.std.specs.Prelude.{◌≡◌, ℕ, ◌≤◌, List, [], ◌∷◌, ◌++◌, length, Option, codes, decimal}
-use Rattle.std.specs.List.{concat}
+use Rattle.std.specs.Prelude.{ℕ, ◌≤◌, List, ◌++◌, length, Option, codes, decimal}
 use Rattle.std.specs.Io.KnownBytes.{Appends}
 use Rattle.serde_json.specs.Data.{Data, object, member, no_members, number, string, unsigned}
 use Rattle.serde_json.specs.Written.{compact_text}
@@ -11,6 +10,7 @@ use Rattle.rg_tree.specs.Programs.{IsSatisfied}
 use Rattle.rg_accept.specs.Accepted.{conditions_of, AreAccepted}
 use Rattle.rgc.specs.Pieces.{AreAcceptedInPieces}
 use Rattle.rgc.specs.Chosen.{AreDerived}
+use Rattle.rgc_pieces.specs.Cut.{ArePiecesOf}
 use Rattle.rgc_walked.specs.Refuted.{IsRefuted}
 use Rattle.rgc_verify.specs.declared.verdict.Form.{Form}
 use Rattle.rgc_verify.specs.declared.verdict.Form.TheVariants.{Alone, Named, Json}
@@ -47,11 +47,6 @@ abbrev pub verdict_text : Form → ℕ → ℕ → List ℕ
 verdict_text Alone conditions found = verified_text conditions found
 verdict_text (Named name) conditions found = name.now ++ (codes ": " ++ verified_text conditions found)
 verdict_text (Json name) conditions found = compact_text (verdict_data name.now conditions found) ++ codes "\n"
-
--- one behind another these pieces are the derivation, and it is one piece where it is no longer than a file may be
-pub record ArePiecesOf (derivation : List ℕ) (pieces : List (List ℕ)) : Type 0 where
-  pub joined : concat pieces ≡ derivation
-  pub alone : length derivation ≤ MOST_TEXT_BYTES → pieces ≡ derivation ∷ []
 
 -- some text, the pieces of some derivation, and some proofs are accepted for a program, which therefore satisfies its specification, and the count of
 -- its conditions went out in this form

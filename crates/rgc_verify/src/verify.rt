@@ -4,14 +4,14 @@ ghost use Rattle.std.specs.Prelude.{◌≡◌, None, IfOk, OnOk};
 ghost use Rattle.rg_words.specs.Written.{CanCount};
 ghost use Rattle.rg_accept.specs.Stages.{derived_program, derived_lines};
 ghost use Rattle.rgc_verify.specs.Verified.{HasPrintedVerdict};
-ghost use Rattle.rgc_verify.specs.Inner.Counts.{IsOfPieces, HasPrintedCounts};
+ghost use Rattle.rgc_verify.specs.Inner.Counts.{HasPrintedCounts};
 
-use crate::pieces::pieces_of;
 use crate::verdict::{Form, verdict_line};
 use rg_find::Watcher;
 use rg_outline_files::OutlineFiles;
 use rg_words::{Out, Refusal, write_all};
-use rgc::{Derived, ProofsFound, Unproved, derive_in_pieces, find_proofs_all};
+use rgc::{Derived, ProofsFound, Unproved, find_proofs_all};
+use rgc_pieces::derive_outline;
 use std::alloc::Global;
 use std::thread::Threads;
 
@@ -41,21 +41,12 @@ fn print_counts<R: Threads + Sync, W: Out>(
     Ok(())
 }
 
-/// The program of an outline's text with the lines of its derivation, which may be longer than a file: it is read in pieces.
-fn derive_outline(alloc: Global, files: &OutlineFiles) -> Result<Derived, Refusal>
-    ensures { IfOk result (λ d. IsOfPieces files.now.text.items files.now.derivation.items (derived_program d) (derived_lines d)) }
-{
-    let pieces = pieces_of(alloc, files)?;
-    derive_in_pieces(alloc, &files.text, &pieces)
-}
-
 /// Prints how many conditions of an outline's program were proved; else the conditions for which there is no proof, and then nothing is printed.
 /// Proofs are looked for and checked in at most so many threads, each search with a copy of the watcher.
 ///
 /// # Errors
 ///
-/// As `rgc::derive_in_pieces`: an outline's text and its derivation are refused only where they are too deep; then as `rgc::find_proofs_all`. `Write`
-/// where the writer failed, `Memory` where memory is refused.
+/// As `rgc_pieces::derive_outline`; then as `rgc::find_proofs_all`. `Write` where the writer failed, `Memory` where memory is refused.
 pub fn print_verified<R: Threads + Sync, W: Out, P: Watcher + Copy + Sync>(
     rt: &R,
     alloc: Global,

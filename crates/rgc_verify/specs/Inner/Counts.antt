@@ -6,8 +6,7 @@ use Rattle.rg_tree.specs.Statements.{ProgramTree}
 use Rattle.rg_tree.specs.Programs.{IsSatisfied}
 use Rattle.rg_hints.specs.Proved.{AreProved}
 use Rattle.rg_accept.specs.Accepted.{conditions_of}
-use Rattle.rgc.specs.Pieces.{AreDerivedInPieces}
-use Rattle.rgc_verify.specs.Verified.{ArePiecesOf, verdict_text}
+use Rattle.rgc_verify.specs.Verified.{verdict_text}
 use Rattle.rgc_verify.specs.declared.verdict.Form.{Form}
 
 -- the proofs prove all conditions, so the program satisfies its specification, and their count went out
@@ -16,9 +15,3 @@ pub record HasPrintedCounts (program : ProgramTree) (lines : List LineTree) (pro
   pub satisfied : IsSatisfied program
   pub found : ℕ
   pub printed : Appends old new (verdict_text form (length (conditions_of program lines)) found)
-
--- the text spells this program, and the pieces of the derivation spell these lines, which derive its parts
-pub record IsOfPieces (text derivation : List ℕ) (program : ProgramTree) (lines : List LineTree) : Type 0 where
-  pub pieces : List (List ℕ)
-  pub cut : ArePiecesOf derivation pieces
-  pub derived : AreDerivedInPieces text pieces program lines

@@ -3,7 +3,7 @@ use Rattle.rgc_verify.proofs.verify.print_verified.Goals as goal
 
 pub returns-in_ok-print_counts-in-Proofs-clause-printed : goal.returns-in_ok-print_counts-in-Proofs-clause-printed
 returns-in_ok-print_counts-in-Proofs-clause-printed g c = λ _.
-    let of_pieces = c.in_ok-derived.ensures in
+    let of_pieces = c.in_ok-derived.ensures.derived in
     let counts = c.in_ok-print_counts-in-Proofs.ensures.printed in
     record {
       text = c.args.files.now.text.items;

@@ -1,6 +1,6 @@
 use Rattle.std.proofs.Common.{◌≡◌, ◌++◌, map}
 use Rattle.std.specs.List.{concat}
-use Rattle.rgc_verify.proofs.pieces.cut.Given as goal
+use Rattle.rgc_pieces.proofs.pieces.cut.Given as goal
 
 -- the pieces so far with what is left are the bytes
 abbrev pub invariant-loop-place : goal.invariant-loop-place
