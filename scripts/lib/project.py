@@ -212,7 +212,32 @@ def toolchain():
     loader = importlib.machinery.SourceFileLoader("rt", os.path.realpath(found))
     made = importlib.util.module_from_spec(importlib.util.spec_from_loader("rt", loader))
     loader.exec_module(made)
+    each_library_once(made.rtlib.Crate)
     return made
+
+
+# What the stamp that a thread asks for has found so far, by library.
+stamping = threading.local()
+
+
+def each_library_once(of):
+    """Has a crate's stamp, the sum of all that it is made from, ask each library below it once. The toolchain's own asks a library once for each
+    way down to it, of which there are 35,000 below `rgc_perform`. A stamp that is asked for reads all files anew, as before."""
+    plain = of.stamp
+
+    def stamp(crate):
+        known = getattr(stamping, "known", None)
+        if known is None:
+            stamping.known = {}
+            try:
+                return plain(crate)
+            finally:
+                stamping.known = None
+        if crate.name not in known:
+            known[crate.name] = plain(crate)
+        return known[crate.name]
+
+    of.stamp = stamp
 
 
 started, starting = set(), threading.Lock()

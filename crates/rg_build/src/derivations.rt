@@ -1,6 +1,6 @@
 //! The lines of a derivation, built token by token.
 
-ghost use Rattle.std.specs.Prelude.{◌≡◌, ℕ, List, [], ◌∷◌, map, option_map, IfOk};
+ghost use Rattle.std.specs.Prelude.{◌≡◌, false, ℕ, List, [], ◌∷◌, map, option_map, IsTrue, IfOk};
 ghost use Rattle.rg_text.specs.Text.{leaf_of};
 ghost use Rattle.rg_syntax.specs.Written.{claim, line_text};
 ghost use Rattle.rg_build.specs.Inner.Building.{whole_of};
@@ -288,6 +288,23 @@ fn take(alloc: Global, draft: DerivationDraft, token: Token) -> Result<Derivatio
     }
 }
 
+/// Takes a token in place where it is one of a formula's, and says whether it did; else nothing is changed.
+fn take_inside(alloc: Global, draft: &mut DerivationDraft, token: Token) -> Result<bool, AllocError>
+    ensures taken { IfOk result (λ b. IsTrue b → (src : List ℕ) → drafted src draft.new ≡ line_step (drafted src draft.old) (lexeme_of src token)) }
+    ensures same { IfOk result (λ b. b ≡ false → draft.new ≡ draft.old) }
+{
+    if let LineSign::Line(_) | LineSign::Next = sign_of(token) {
+        return Ok(false);
+    }
+    match &mut draft.place {
+        LinePlace::Head(_) => Ok(false),
+        LinePlace::Claim(_, _, frames) => {
+            take_token(alloc, frames, token)?;
+            Ok(true)
+        }
+    }
+}
+
 /// What is read of a derivation after all its tokens.
 fn read(alloc: Global, tokens: &[Token]) -> Result<DerivationDraft, AllocError>
     ensures { IfOk result (λ d. (src : List ℕ) → drafted src d ≡ line_steps nothing_read (map (lexeme_of src) tokens.now)) }
@@ -297,7 +314,10 @@ fn read(alloc: Global, tokens: &[Token]) -> Result<DerivationDraft, AllocError>
         place: LinePlace::Head(HeadSoFar::Unread),
     };
     for token in tokens {
-        draft = take(alloc, draft, *token)?;
+        // (most tokens are of formulas, and a draft is large to be moved)
+        if !take_inside(alloc, &mut draft, *token)? {
+            draft = take(alloc, draft, *token)?;
+        }
     }
     Ok(draft)
 }

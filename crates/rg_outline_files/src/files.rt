@@ -4,7 +4,7 @@ use crate::told::{printable, told_of_expansion, told_of_source};
 use crate::walked::push_walk;
 use rg_outline::{Expansion, work_out};
 use rg_outline_print::{push_derivation, push_map, push_text, push_unmet};
-use rg_outline_reports::{Reports, push_json, push_lines};
+use rg_outline_reports::{Claim, Reports, push_json, push_lines};
 use rg_outline_text::{Fault, Tokens};
 use rg_outline_told::{Failed, Told, push_conditions, subject_of};
 use rg_outline_tree::{Written, parse};
@@ -32,6 +32,15 @@ pub struct Places {
     pub words: Vec<u8>,
     /// The outline's line of each statement, by the statement's number in the text; 0 for a sequence, and as the first one, since numbers are from 1.
     pub lines: Vec<u64>,
+}
+
+/// What is told of conditions that aren't proved.
+#[derive(Drop)]
+pub struct Failures {
+    /// It as it is printed.
+    pub lines: Vec<u8>,
+    /// What it says to be false.
+    pub claims: Vec<Claim>,
 }
 
 /// Why an outline stands for no files.
@@ -79,7 +88,7 @@ enum Wanted<'w> {
     Map(&'w mut Vec<u8>),
     Places(&'w mut Places),
     /// What is told of conditions that aren't proved.
-    Failures(&'w [Failed<'w>], &'w mut Vec<u8>),
+    Failures(&'w [Failed<'w>], &'w mut Failures),
     /// The warnings; whether no state meets the program's pre.
     Warnings(bool, &'w mut Vec<u8>),
     /// What a walk of the text found.
@@ -134,14 +143,15 @@ fn print_failures(
     expansion: &Expansion<'_>,
     outline: OutlineSource<'_>,
     failed: &[Failed<'_>],
-    lines: &mut Vec<u8>,
+    failures: &mut Failures,
 ) -> Result<(), Fault> {
     let told = Told::of(expansion, failed)?;
     let subject = subject_of(expansion, outline.name.as_bytes());
     match outline.format {
-        Format::Plain => told.push_lines(subject, lines)?,
-        Format::Json => told.push_json(expansion.scope.alloc, subject, lines)?,
+        Format::Plain => told.push_lines(subject, &mut failures.lines)?,
+        Format::Json => told.push_json(expansion.scope.alloc, subject, &mut failures.lines)?,
     }
+    failures.claims = told.into_claims();
     Ok(())
 }
 
@@ -184,7 +194,9 @@ fn print_wanted(
         Wanted::Files(files) => print_files(expansion, files),
         Wanted::Map(map) => print_map(expansion, map),
         Wanted::Places(places) => find_places(expansion, places),
-        Wanted::Failures(failed, lines) => print_failures(expansion, outline, failed, lines),
+        Wanted::Failures(failed, failures) => {
+            print_failures(expansion, outline, failed, failures)
+        }
         Wanted::Warnings(is_unmet, lines) => print_warnings(expansion, outline, is_unmet, lines),
         Wanted::Walk(walked, lines) => print_walk(expansion, outline, walked, lines),
     }
@@ -257,7 +269,7 @@ fn shown(alloc: Global, format: Format, told: Vec<u8>) -> Result<Vec<u8>, NoFile
     }
 }
 
-/// What is told of conditions of an outline's derivation that aren't proved.
+/// What is told of conditions of an outline's derivation that aren't proved, and what that says to be false.
 ///
 /// # Errors
 ///
@@ -266,10 +278,15 @@ pub fn failures_told(
     alloc: Global,
     outline: OutlineSource<'_>,
     failed: &[Failed<'_>],
-) -> Result<Vec<u8>, NoFiles> {
-    let mut told = Vec::new(alloc);
-    print(alloc, outline, Wanted::Failures(failed, &mut told))?;
-    shown(alloc, outline.format, told)
+) -> Result<Failures, NoFiles> {
+    let mut failures = Failures {
+        lines: Vec::new(alloc),
+        claims: Vec::new(alloc),
+    };
+    print(alloc, outline, Wanted::Failures(failed, &mut failures))?;
+    let Failures { lines, claims } = failures;
+    let lines = shown(alloc, outline.format, lines)?;
+    Ok(Failures { lines, claims })
 }
 
 /// The warnings of an outline; nothing where there are none. Whether no state meets the program's pre is said by who calls, since it takes a

@@ -6,7 +6,8 @@ mod told;
 mod walked;
 
 pub use files::{
-    Format, NoFiles, OutlineFiles, OutlineSource, Places, failures_told, outline_map,
+    Failures, Format, NoFiles, OutlineFiles, OutlineSource, Places, failures_told, outline_map,
     outline_places, walk_told, warnings_told,
 };
+pub use rg_outline_reports::Claim;
 pub use rg_outline_told::{Failed, Failing};

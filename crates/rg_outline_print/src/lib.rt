@@ -6,5 +6,5 @@ mod print;
 mod text;
 
 pub use derivation::{push_clipped, push_derivation, push_map};
-pub use print::middle;
+pub use print::{middle, push_flat};
 pub use text::{push_text, push_unmet};

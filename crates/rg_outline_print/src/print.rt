@@ -268,12 +268,13 @@ fn push_flat_form(
     Ok(text.len() <= end)
 }
 
-/// Adds a tree in one row.
-pub(crate) fn push_flat(
-    expansion: &Expansion<'_>,
-    text: &mut Vec<u8>,
-    tree: usize,
-) -> Result<(), Fault> {
+/// Adds a tree in one row, as the text spells it.
+///
+/// # Errors
+///
+/// - `MeaningFault::TooLarge` where it has more than `MOST_TEXT_BYTES` bytes; some of them are added.
+/// - `FaultKind::Memory`.
+pub fn push_flat(expansion: &Expansion<'_>, text: &mut Vec<u8>, tree: usize) -> Result<(), Fault> {
     let form = expansion.scope.forest.tree(tree).form;
     if push_flat_form(expansion, text, form, MOST_TEXT_BYTES)? {
         Ok(())

@@ -91,6 +91,14 @@ pub(crate) struct Report {
     first_value: usize,
 }
 
+/// What a report says to be false: a formula as the text spells it, and the values of all words in the two states in which it is.
+#[derive(Drop)]
+pub struct Claim {
+    pub formula: Vec<u8>,
+    pub before: Vec<u64>,
+    pub after: Vec<u64>,
+}
+
 /// What is told so far.
 #[derive(Drop)]
 pub struct Reports {
@@ -100,6 +108,8 @@ pub struct Reports {
     values: Vec<Valued>,
     /// The parts that meet each cause, with the cause's index.
     pub(crate) parts: Vec<(usize, usize)>,
+    /// What the reports say to be false.
+    pub claims: Vec<Claim>,
 }
 
 fn is_same_span(first: Span, second: Span) -> bool {
@@ -127,6 +137,7 @@ impl Reports {
             said: Vec::new(alloc),
             values: Vec::new(alloc),
             parts: Vec::new(alloc),
+            claims: Vec::new(alloc),
         }
     }
 

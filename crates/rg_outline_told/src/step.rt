@@ -53,7 +53,7 @@ pub(crate) fn is_true(
 fn tell_values(
     expansion: &Expansion<'_>,
     reports: &mut Reports,
-    falsity: &Falsity,
+    falsity: &Falsity<'_>,
     step: &Step<'_>,
 ) -> Result<(), AllocError> {
     falsity.tell(expansion, reports)?;
@@ -142,7 +142,7 @@ fn put(
     expansion: &Expansion<'_>,
     reports: &mut Reports,
     step: &Step<'_>,
-    falsity: &Falsity,
+    falsity: &Falsity<'_>,
     what: (Cause, Span),
     sentence: &[u8],
 ) -> Result<(), AllocError> {

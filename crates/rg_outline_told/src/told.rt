@@ -6,7 +6,7 @@ use crate::steady::tell_unstable;
 use crate::step::tell_step;
 use rg_outline::{Expansion, Line, Origin};
 use rg_outline_reports::{
-    Cause, Key, Moved, Reports, Subject, push_json, push_json_of_verdict, push_lines,
+    Cause, Claim, Key, Moved, Reports, Subject, push_json, push_json_of_verdict, push_lines,
     push_rows_alone,
 };
 use rg_outline_text::{Span, push_count};
@@ -19,6 +19,8 @@ use std::alloc::{AllocError, Global};
 pub enum Failing<'s> {
     /// It is false in these states; there is a second one where it speaks of two.
     At(&'s State, Option<&'s State>),
+    /// It is false; in which states isn't told.
+    False,
     /// The search gave up.
     Unproved,
     /// Its proof doesn't fit into a proofs file.
@@ -104,7 +106,7 @@ fn tell_consequence(
 fn tell_falsity(
     expansion: &Expansion<'_>,
     reports: &mut Reports,
-    falsity: &Falsity,
+    falsity: &Falsity<'_>,
     moved: Moved,
     moment: Moment<'_>,
 ) -> Result<(), AllocError> {
@@ -313,6 +315,10 @@ impl Told {
                 let asked = asked_by(expansion, number);
                 tell_false(expansion, &mut self.untrue, asked, first, second)
             }
+            Failing::False => {
+                self.count = self.count.saturating_add(1);
+                tell_unproved(expansion, &mut self.untrue, number, b"not so: ")
+            }
             Failing::Unproved => {
                 let why = b"no proof found within the steps: ";
                 tell_unproved(expansion, &mut self.unproved, number, why)
@@ -322,6 +328,13 @@ impl Told {
                 tell_unproved(expansion, &mut self.unproved, number, why)
             }
         }
+    }
+
+    /// What it says to be false, and in which states.
+    pub fn into_claims(self) -> Vec<Claim> {
+        let Told { untrue, .. } = self;
+        let Reports { claims, .. } = untrue;
+        claims
     }
 
     /// Adds it as lines: what is false, in the order of the places; then the conditions for which there is no proof; and a line with the

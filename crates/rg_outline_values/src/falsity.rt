@@ -4,17 +4,20 @@ use crate::show::{push_name, push_shown};
 use crate::values::{Moment, Values};
 use crate::words::Words;
 use rg_outline::Expansion;
-use rg_outline_reports::{Reports, Said};
+use rg_outline_print::push_flat;
+use rg_outline_reports::{Claim, Reports, Said};
 use rg_outline_scope::Root;
-use rg_outline_text::Span;
+use rg_outline_text::{FaultKind, Span};
 use rg_outline_tree::{Conditional, Junction};
 use std::alloc::AllocError;
 
 /// Where a formula is false.
 #[derive(Drop)]
-pub struct Falsity {
+pub struct Falsity<'s> {
     /// The first conjunct that is false.
     pub conjunct: usize,
+    /// The states in which it is.
+    moment: Moment<'s>,
     /// The named formulas within which it stands, the outermost first.
     names: Vec<usize>,
     /// The premises of those implications whose right side it stands in.
@@ -39,6 +42,18 @@ pub fn line_of(expansion: &Expansion<'_>, span: Span) -> u64 {
     span.position(expansion.scope.source).line as u64
 }
 
+/// Adds a tree as the text spells it; of one that is too large for a text, some of it.
+fn push_spelled(
+    expansion: &Expansion<'_>,
+    text: &mut Vec<u8>,
+    tree: usize,
+) -> Result<(), AllocError> {
+    match push_flat(expansion, text, tree) {
+        Err(fault) if matches!(fault.kind, FaultKind::Memory) => Err(AllocError),
+        _ => Ok(()),
+    }
+}
+
 /// Where to go on below a formula that is false, and whether its first operand is then a premise.
 fn below(expansion: &Expansion<'_>, values: &Values, tree: usize) -> Option<(usize, bool)> {
     let forest = &expansion.scope.forest;
@@ -54,7 +69,7 @@ fn below(expansion: &Expansion<'_>, values: &Values, tree: usize) -> Option<(usi
     }
 }
 
-impl Falsity {
+impl<'s> Falsity<'s> {
     /// Where a formula is false in two states.
     ///
     /// # Errors
@@ -63,11 +78,12 @@ impl Falsity {
     pub fn of(
         expansion: &Expansion<'_>,
         formula: usize,
-        moment: Moment<'_>,
-    ) -> Result<Falsity, AllocError> {
+        moment: Moment<'s>,
+    ) -> Result<Falsity<'s>, AllocError> {
         let values = Values::of(expansion, formula, moment)?;
         let mut falsity = Falsity {
             conjunct: formula,
+            moment,
             names: Vec::new(expansion.scope.alloc),
             premises: Vec::new(expansion.scope.alloc),
         };
@@ -129,7 +145,8 @@ impl Falsity {
         Ok(words)
     }
 
-    /// Tells the conjunct, the premises that hold, and the names within which it stands, as belongs to the last report.
+    /// Tells the conjunct, the premises that hold, and the names within which it stands, as belongs to the last report; and puts it among what the
+    /// reports say to be false.
     ///
     /// # Errors
     ///
@@ -143,7 +160,24 @@ impl Falsity {
             push_shown(expansion, &mut shown, *premise, 3, true)?;
             reports.say(Said::Premise, &shown)?;
         }
-        self.tell_names(expansion, reports)
+        self.tell_names(expansion, reports)?;
+        let claim = self.claim(expansion)?;
+        reports.claims.push(claim)?;
+        Ok(())
+    }
+
+    /// What is said to be false, as it can be looked up.
+    fn claim(&self, expansion: &Expansion<'_>) -> Result<Claim, AllocError> {
+        let alloc = expansion.scope.alloc;
+        let mut claim = Claim {
+            formula: Vec::new(alloc),
+            before: Vec::new(alloc),
+            after: Vec::new(alloc),
+        };
+        claim.before.extend_from_slice(self.moment.before)?;
+        claim.after.extend_from_slice(self.moment.after)?;
+        push_spelled(expansion, &mut claim.formula, self.conjunct)?;
+        Ok(claim)
     }
 
     fn tell_names(

@@ -186,7 +186,7 @@ pub fn run_outline<R: Threads + Wait + Sync, W: Out, F: Out, P: Watcher + Copy +
             Ok(true)
         }
         ProofsFound::Failures(unproved) => {
-            print_unproved(alloc, outline, &unproved, out)?;
+            print_unproved(alloc, outline, &files, &unproved, out)?;
             Ok(false)
         }
     }

@@ -166,7 +166,7 @@ pub fn write_outline<R: Threads + Sync, W: Out, P: Watcher + Copy + Sync>(
             Ok(true)
         }
         ProofsFound::Failures(unproved) => {
-            print_unproved(alloc, outline, &unproved, out)?;
+            print_unproved(alloc, outline, &files, &unproved, out)?;
             Ok(false)
         }
     }

@@ -7,48 +7,16 @@ ghost use Rattle.rgc_verify.specs.Verified.{HasPrintedVerdict};
 use crate::verdict::{Form, push_name};
 use crate::verify::print_verified;
 use rg_find::{Judged, Unwatched, Watcher};
-use rg_outline_files::{
-    Failed, Failing, NoFiles, OutlineFiles, OutlineSource, failures_told, warnings_told,
-};
+use rg_outline_files::{OutlineFiles, OutlineSource, warnings_told};
 use rg_words::{Out, State, write_all};
 use rgc::{Unproved, find};
+use rgc_failures::conditions_told;
 use rgc_walked::{NoVerdict, tell_walk};
 use std::alloc::{AllocError, Global};
 use std::thread::Threads;
 
 /// The most decisions of the search for a state that meets a pre.
 const MOST_STEPS_FOR_PRE: u64 = 1_000;
-
-/// What is known of a condition without a proof, as it is told of an outline.
-fn failing(judged: &Judged) -> Failing<'_> {
-    match judged {
-        Judged::Fails(first, second) => Failing::At(first, second.as_ref()),
-        Judged::GaveUp => Failing::Unproved,
-        _ => Failing::TooLarge,
-    }
-}
-
-/// Conditions without proofs, as they are told of an outline.
-fn failed_of(alloc: Global, unproved: &[Unproved]) -> Result<Vec<Failed<'_>>, AllocError> {
-    let mut failed = Vec::new(alloc);
-    for one in unproved {
-        failed.push(Failed {
-            number: one.number,
-            failing: failing(&one.judged),
-        })?;
-    }
-    Ok(failed)
-}
-
-/// What is told of the conditions of an outline that have no proof.
-fn conditions_told(
-    alloc: Global,
-    outline: OutlineSource<'_>,
-    unproved: &[Unproved],
-) -> Result<Vec<u8>, NoFiles> {
-    let failed = failed_of(alloc, unproved)?;
-    failures_told(alloc, outline, &failed)
-}
 
 /// The values of the words of a state, in their order.
 fn values_of(alloc: Global, state: &State) -> Result<Vec<u64>, AllocError> {
@@ -95,7 +63,7 @@ fn print_unproved<W: Out>(
     requires { CanCount (W.failures out.old) }
     ensures failures { OnOk result (W.failures out.new ≡ W.failures out.old) }
 {
-    let mut told = conditions_told(alloc, outline, unproved)?;
+    let mut told = conditions_told(alloc, outline, files, unproved)?;
     push_name(form, &mut told)?;
     push_walk(alloc, outline, files, unproved, &mut told)?;
     write_all(out, &told)?;
