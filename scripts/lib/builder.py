@@ -1,7 +1,9 @@
 """Proves and builds libraries of this repository side by side, into the out/ folders in which the toolchain's commands look.
 
-A library is built by the call that `rt lib` makes, so that `rt` takes what is built here without proving it again. `rt lib` alone
-would not do: it locks the libraries below too, so that two crates over one library wait for each other. Here one lock covers all.
+A library is built as `rt ci` builds it, with what crates above can cite and without its checked modules, and marked as `rt lib` marks
+one, so that `rt` takes what is built here without proving it again. With `keeps` it is built by the call that `rt lib` makes, which
+keeps the checked modules: that takes longer, the higher a crate the more, and a later build checks only what an edit changed. `rt lib`
+alone would not do: it locks the libraries below too, so that two crates over one library wait for each other. Here one lock covers all.
 
 The crate with the longest chain of others above it comes first, with as many jobs as there are processors; the next one gets fewer,
 and the others, which fill what is idle, fewer still and much patience. Only as many crates run as memory holds."""
@@ -12,6 +14,7 @@ import functools
 import math
 import os
 import re
+import shutil
 import signal
 import sys
 import time
@@ -28,9 +31,9 @@ SILENCE = 60
 # For the crate with the longest chain, the next one and all others: the part of the processors that it gets jobs for, and how far it
 # gives way to those before it. A crate's jobs are often idle, so they may be more than the processors.
 SHARES, NICE = (1, 1, 0.5), (0, 3, 8)
-# The memory that one job of a crate takes, in parts of the toolchain's own measure, which is of a check without kept work; and what
-# each further job takes, in bytes.
-ONE_JOB, FURTHER_JOB = 0.5, 800_000_000
+# The memory that one job of a crate takes, in parts of the toolchain's own measure, where checked modules aren't kept and where they
+# are; and what each further job takes, in bytes.
+ONE_JOB, ONE_KEEPING_JOB, FURTHER_JOB = 1, 0.5, 800_000_000
 # The part of the free memory that may be planned with.
 PLANNED = 0.9
 
@@ -44,7 +47,7 @@ class Failed(Exception):
 
 
 Library = collections.namedtuple("Library", "crate name below seconds memory")
-Run = collections.namedtuple("Run", "library jobs nice began log")
+Run = collections.namedtuple("Run", "library jobs nice keeps began log")
 
 
 def shown(path):
@@ -134,26 +137,40 @@ def prove(run):
         if run.nice:
             crate.call = functools.partial(type(crate).call, crate, "nice", "-n", str(run.nice))
         try:
-            return crate.build_rlib(["--jobs", str(run.jobs)], anew=False)
+            flags = ["--jobs", str(run.jobs)]
+            return crate.build_rlib(flags, anew=False) if run.keeps else build_statements(crate, flags)
         except (Exception, SystemExit):
             traceback.print_exc(file=crate.out)
             return 1
 
 
+def build_statements(crate, flags):
+    """Proves a library from nothing, and builds it without its checked modules. Returns the status."""
+    stamp, folder = crate.stamp(), os.path.dirname(crate.rlib)
+    shutil.rmtree(folder, ignore_errors=True)
+    os.makedirs(folder)
+    words = [*crate.words(flags, keeps=False), "--statements", "-o", crate.rlib]
+    status = crate.call(project.toolchain().rtlib.RATTLE, "build", *words)
+    if status == 0 and stamp == crate.stamp():
+        with open(f"{folder}/stamp", "w", encoding="utf-8") as it:
+            it.write(stamp)
+    return status
+
+
 class Build:
     """One build of libraries, of which each crate is tried at most twice: the second time, after a kill, alone at one job."""
 
-    def __init__(self, crates, tell, of, began):
+    def __init__(self, crates, tell, of, began, keeps):
         rt = project.toolchain()
         seconds = known_seconds()
         by_name = {it.name: it for it in project.crates()}
-        self.processors, self.tell, self.of, self.began = project.processors(), tell, of, began
+        self.processors, self.tell, self.of, self.began, self.keeps = project.processors(), tell, of, began, keeps
         names = {it.name for it in crates}
         self.left = collections.OrderedDict()
         for it in crates:
             below = {lower.name for lower in it.below()} & names
             takes = seconds.get(it.name) or guessed_seconds(by_name[it.name])
-            self.left[it.name] = Library(it, it.name, below, takes, ONE_JOB * rt.need(it))
+            self.left[it.name] = Library(it, it.name, below, takes, (ONE_KEEPING_JOB if keeps else ONE_JOB) * rt.need(it))
         self.behind = self.chains()
         self.running, self.alone, self.most = {}, set(), collections.Counter()
         self.told = time.time()
@@ -206,7 +223,7 @@ class Build:
         del self.left[library.name]
         log = log_of(library.name)
         os.makedirs(os.path.dirname(log), exist_ok=True)
-        run = Run(library, jobs, nice, time.time(), log)
+        run = Run(library, jobs, nice, self.keeps, time.time(), log)
         self.running[pool.submit(prove, run)] = run
         self.say(f"{library.name} begins, with {jobs} job{'s' * (jobs > 1)}")
 
@@ -262,7 +279,7 @@ def needed(library, jobs):
 
 
 def leave(failed, tell):
-    """Ends the script at once, and with it all provers that still run. What they have proved so far is kept."""
+    """Ends the script at once, and with it all provers that still run. The libraries that are built stay so."""
     tell(str(failed))
     last = [it for it in project.text_of(failed.log).split("\n") if it.strip()]
     errors = [it for it in last if re.search(r"\berror\b|not proved|no proof", it)]
@@ -281,9 +298,10 @@ def end_by_signal(tell):
     return {it: signal.signal(it, stop) for it in (signal.SIGINT, signal.SIGTERM, signal.SIGHUP)}
 
 
-def build(names, tell, more=0, began=None):
+def build(names, tell, more=0, began=None, keeps=False):
     """Proves and builds the libraries of these names and all below them, where they aren't up to date, and returns how many it built.
-    `tell` gets a line of news; `more` is how many crates the caller builds after them. Where a crate fails, the script ends with status 3."""
+    `tell` gets a line of news; `more` is how many crates the caller builds after them; with `keeps` checked modules are kept. Where a crate
+    fails, the script ends with status 3."""
     rtlib = project.toolchain().rtlib
     # (the guard, which ends the provers with this process, has to start before any thread)
     rtlib.guarded()
@@ -292,7 +310,7 @@ def build(names, tell, more=0, began=None):
     held = rtlib.lock(crates)
     try:
         left = [it for it in crates if not it.is_built()]
-        Build(left, tell, len(left) + more, began or time.time()).whole()
+        Build(left, tell, len(left) + more, began or time.time(), keeps).whole()
         return len(left)
     finally:
         for it in held:
