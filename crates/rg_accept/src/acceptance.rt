@@ -8,6 +8,7 @@ ghost use Rattle.rg_accept.specs.Accepted.{IsAccepted, IsAcceptRefusal, IsBuilt,
 ghost use Rattle.rg_accept.specs.Stages.{accepted_program, emitted_program, emitted_blocks};
 
 use crate::stages::{Accepted, Derived, Emitted, Parsed};
+use rg_groups::LineReader;
 use rg_hints::{OneThread, Prover};
 use rg_parse::{one_derivation, one_program};
 use rg_pool::InThreads;
@@ -76,20 +77,21 @@ pub fn build_program(
     }
 }
 
-/// The program that a text spells, where the derivation and the proofs, of which this prover decides, prove that it
-/// satisfies its specification.
+/// The program that a text spells, where the derivation, as this prover reads it, and the proofs, of which it decides, prove that
+/// it satisfies its specification.
 ///
 /// # Errors
 ///
 /// As `accept`.
-fn accept_by<P: Prover>(
+fn accept_by<P: Prover + LineReader>(
     prover: &P,
     alloc: Global,
     text: &[u8],
     derivation: &[u8],
     proofs: &[u8],
 ) -> Result<Accepted, Refusal>
-    requires { P.can_prove prover.now }
+    requires proves { P.can_prove prover.now }
+    requires reads { P.can_read prover.now }
     // Ok exactly where the written rules accept all three files, unless memory runs out.
     ensures accepted { IfOk result (λ a. AreAccepted text.now derivation.now proofs.now (accepted_program a)) }
     ensures accepts { IsAcceptedText text.now derivation.now proofs.now → IfErr result (λ e. e ≡ no_memory) }
@@ -104,7 +106,7 @@ fn accept_by<P: Prover>(
         Ok(parsed) => parsed,
         Err(refusal) => return Err(refusal),
     };
-    let derived = match parsed.derive(alloc, derivation) {
+    let derived = match parsed.derive_by(prover, alloc, derivation) {
         Ok(derived) => derived,
         Err(refusal) => return Err(refusal),
     };
@@ -136,8 +138,8 @@ pub fn accept(
     accept_by(&OneThread, alloc, text, derivation, proofs)
 }
 
-/// The same, in at most so many threads: conditions are looked at side by side, and large sections in pieces. A thread that
-/// can't be had costs time alone.
+/// The same, in at most so many threads: a long derivation is read in groups of lines, conditions are looked at side by side, and
+/// large sections in pieces. A thread that can't be had costs time alone.
 ///
 /// # Errors
 ///
@@ -161,14 +163,15 @@ pub fn accept_all<R: Threads + Sync>(
 }
 
 /// The same as `build`, where this prover decides of the proofs.
-fn build_by<P: Prover>(
+fn build_by<P: Prover + LineReader>(
     prover: &P,
     alloc: Global,
     text: &[u8],
     derivation: &[u8],
     proofs: &[u8],
 ) -> Result<Emitted, Refusal>
-    requires { P.can_prove prover.now }
+    requires proves { P.can_prove prover.now }
+    requires reads { P.can_read prover.now }
     ensures built { IfOk result (λ e. IsBuiltText text.now derivation.now proofs.now (emitted_program e) (emitted_blocks e)) }
     ensures accepts { IsAcceptedText text.now derivation.now proofs.now → IfErr result (λ e. e ≡ no_memory) }
     ensures refused { IfErr result (IsAcceptTextRefusal text.now derivation.now proofs.now) }

@@ -12,9 +12,10 @@ use Rattle.std.proofs.lemmas.List.{length-map, take-map, drop-map}
 use Rattle.rg_find.specs.Judged.{IsJudged}
 use Rattle.rg_find.specs.declared.judgement.Judged.{Judged}
 use Rattle.rgc.specs.declared.proofs_found.Unproved.{Unproved}
+use Rattle.rgc.specs.declared.proofs_found.Sought.{Sought}
 use Rattle.rg_pool.specs.Parts.{ArePartProved}
 use Rattle.rgc.specs.Proofs.{IsUnproved, IsRange, in_range}
-use Rattle.rgc.specs.Inner.Search.{IsKept, Takes, IsJudgedAt}
+use Rattle.rgc.specs.Inner.Search.{IsKept, Takes, IsJudgedAt, IsSoughtAt}
 
 -- what is kept of a condition is true of the condition of its number
 pub kept_true : (cs : List ConditionTree) (number : ℕ) (c : ConditionTree) (judged : Judged) (old new : List Unproved) → nth cs number ≡ Some c → IsJudged c judged → (kept : IsKept number judged old new) → IsUnproved cs kept.one
@@ -34,13 +35,13 @@ taken cs number c judged old new is true_ before took =
     (All-cons (IsUnproved cs) kept.one [] (kept_true cs number c judged old new is true_ kept) (search rules))))
     took
 
--- what is said of a condition is true of the condition at its place
-pub judged_there : (xs : List Condition) (place : ℕ) (x : Condition) (r : Result Judged Refusal) → place < length xs → x ≡ get_or xs place x → IfOk r (IsJudged (condition_tree x)) → IfOk r (IsJudgedAt (map condition_tree xs) (place + 1))
-judged_there xs place x r small at h =
-    IfOk-weaker r (IsJudged (condition_tree x)) (IsJudgedAt (map condition_tree xs) (place + 1))
-    (λ j true_ c is.
+-- what is said of a condition, as it is written down, is true of the condition at its place
+pub judged_there : (xs : List Condition) (place : ℕ) (x : Condition) (r : Result Sought Refusal) (j : Judged) → place < length xs → x ≡ get_or xs place x → IsJudged (condition_tree x) j → IfOk r (λ w. w.judged ≡ j) → IfOk r (IsSoughtAt (map condition_tree xs) (place + 1))
+judged_there xs place x r j small at true_ h =
+    IfOk-weaker r (λ w. w.judged ≡ j) (IsSoughtAt (map condition_tree xs) (place + 1))
+    (λ w same_judged c is.
     let same : condition_tree x ≡ c = cc (nth-at condition_tree xs place (place + 1) x refl small at, is) in
-    subst (λ (t : ConditionTree). IsJudged t j) same true_) h
+    subst (λ (k : Judged). IsJudged c k) (sym same_judged) (subst (λ (t : ConditionTree). IsJudged t j) same true_)) h
 
 -- an element of a list
 element_at : {X : Type 0} (xs : List X) (i : ℕ) → i < length xs → (x : X) × (x ≡ get_or xs i x)

@@ -1,9 +1,9 @@
 //! A whole proofs file, found by a search for each condition.
 
-ghost use Rattle.std.specs.Prelude.{◌+◌, ◌<◌, ◌≤◌, ◌^◌, length, All, map, IsOk, IfOk, IfSome, OnOk};
+ghost use Rattle.std.specs.Prelude.{◌≡◌, ◌+◌, ◌<◌, ◌≤◌, ◌^◌, length, All, map, IsOk, IfOk, IfSome, OnOk};
 ghost use Rattle.rg_tree.specs.Conditions.{condition_tree};
 ghost use Rattle.rgc.specs.Proofs.{AreFoundFor, ArePartFoundFor, IsRange, IsUnproved};
-ghost use Rattle.rgc.specs.Inner.Search.{Takes, IsJudgedAt, AreJudged};
+ghost use Rattle.rgc.specs.Inner.Search.{Takes, IsSoughtAt, AreSought};
 ghost use Rattle.rg_accept.specs.Stages.{derived_program, derived_lines};
 
 use crate::failures::failure_text;
@@ -35,23 +35,51 @@ fn section_of(alloc: Global, number: usize, lines: &Lines) -> Result<String, Ref
     Ok(section)
 }
 
-/// Adds the section of a condition of this number, if it fits into a proofs file behind those before; whether it does.
-fn add_section(
-    alloc: Global,
-    sections: &mut String,
-    number: usize,
-    lines: &Lines,
-) -> Result<bool, Refusal> {
-    if lines.len() == 0 {
-        return Ok(true);
-    }
-    let section = section_of(alloc, number, lines)?;
+/// Adds a section, if it fits into a proofs file behind those before; whether it does.
+fn add_section(sections: &mut String, section: &str) -> Result<bool, Refusal> {
     let room = MOST_PROOF_BYTES.saturating_sub(sections.len());
     if section.len() > room {
         return Ok(false);
     }
-    sections.push_str(&section)?;
+    sections.push_str(section)?;
     Ok(true)
+}
+
+/// What a search says of a condition, and the text of its section; no text, where it has or needs no lines.
+#[derive(Drop)]
+struct Sought {
+    judged: Judged,
+    section: String,
+}
+
+/// What a search says of the condition of this number, with the text of its section.
+fn with_section(alloc: Global, number: usize, judged: Judged) -> Result<Sought, Refusal>
+    ensures { IfOk result (λ w. w.judged ≡ judged) }
+{
+    let mut section = String::new(alloc);
+    if let Judged::Holds(lines) = &judged {
+        if lines.len() > 0 {
+            section = section_of(alloc, number, lines)?;
+        }
+    }
+    Ok(Sought { judged, section })
+}
+
+/// Searches for lines for the condition at this place, from 0, with at most so many decisions.
+fn seek<P: Watcher>(
+    alloc: Global,
+    conditions: &[Condition],
+    place: usize,
+    steps: u64,
+    watcher: &mut P,
+) -> Result<Sought, Refusal>
+    requires { place < length conditions.now }
+    ensures { IfOk result (IsSoughtAt (map condition_tree conditions.now) (place + 1)) }
+{
+    let file = SourceFile::Derivation;
+    let number = place as u64 + 1;
+    let judged = judge(alloc, &conditions[place], file, number, steps, watcher)?;
+    with_section(alloc, place + 1, judged)
 }
 
 /// What searches found.
@@ -65,12 +93,13 @@ struct Search {
 
 impl Search {
     /// Takes what a search says of the condition of this number.
-    fn take(&mut self, alloc: Global, number: usize, judged: Judged) -> Result<(), Refusal>
-        ensures { OnOk result (Takes number judged self.old.unproved.items self.new.unproved.items) }
+    fn take(&mut self, number: usize, sought: Sought) -> Result<(), Refusal>
+        ensures { OnOk result (Takes number sought.judged self.old.unproved.items self.new.unproved.items) }
     {
+        let Sought { judged, section } = sought;
         let judged = match judged {
-            Judged::Holds(lines) => {
-                if add_section(alloc, &mut self.sections, number, &lines)? {
+            Judged::Holds(_) => {
+                if add_section(&mut self.sections, &section)? {
                     return Ok(());
                 }
                 Judged::TooLarge
@@ -96,11 +125,10 @@ fn search_all<P: Watcher>(
         sections: String::new(alloc),
         unproved: Vec::new(alloc),
     };
-    for (i, condition) in conditions.iter().enumerate() {
-        let number = i + 1;
-        let file = SourceFile::Derivation;
-        let judged = judge(alloc, condition, file, number as u64, steps, watcher)?;
-        found.take(alloc, number, judged)?;
+    for place in 0..conditions.len() {
+        let sought = seek(alloc, conditions, place, steps, watcher)?;
+        let number = place + 1;
+        found.take(number, sought)?;
     }
     Ok(found)
 }
@@ -113,27 +141,19 @@ fn judge_one<P: Watcher + Copy>(
     steps: u64,
     watcher: &P,
     refused: &AtomicBool,
-) -> Option<Result<Judged, Refusal>>
+) -> Option<Result<Sought, Refusal>>
     requires { place < length conditions.now }
-    ensures { IfSome result (λ r. IfOk r (IsJudgedAt (map condition_tree conditions.now) (place + 1))) }
+    ensures { IfSome result (λ r. IfOk r (IsSoughtAt (map condition_tree conditions.now) (place + 1))) }
 {
     if refused.load(Ordering::SeqCst) {
         return None;
     }
-    let number = place as u64 + 1;
     let mut own = *watcher;
-    let judged = judge(
-        alloc,
-        &conditions[place],
-        SourceFile::Derivation,
-        number,
-        steps,
-        &mut own,
-    );
-    if judged.is_err() {
+    let sought = seek(alloc, conditions, place, steps, &mut own);
+    if sought.is_err() {
         refused.store(true, Ordering::SeqCst);
     }
-    Some(judged)
+    Some(sought)
 }
 
 /// What searches say of so many conditions from this place on, in at most so many threads; nothing of some of them, where
@@ -147,9 +167,9 @@ fn judge_some<R: Threads + Sync, P: Watcher + Copy + Sync>(
     count: usize,
     steps: u64,
     watcher: &P,
-) -> Result<Vec<Option<Result<Judged, Refusal>>>, AllocError>
+) -> Result<Vec<Option<Result<Sought, Refusal>>>, AllocError>
     requires { from + count ≤ length conditions.now }
-    ensures { IfOk result (λ known. AreJudged (map condition_tree conditions.now) from known.items) }
+    ensures { IfOk result (λ known. AreSought (map condition_tree conditions.now) from known.items) }
 {
     if threads < 2 {
         return Ok(Vec::new(alloc));
@@ -161,9 +181,9 @@ fn judge_some<R: Threads + Sync, P: Watcher + Copy + Sync>(
         alloc,
         threads,
         count,
-        &|index: usize| -> Option<Result<Judged, Refusal>>
+        &|index: usize| -> Option<Result<Sought, Refusal>>
             requires { (from + index < length conditions.now) × (length conditions.now < 2 ^ 64) }
-            ensures { IfSome result (λ r. IfOk r (IsJudgedAt (map condition_tree conditions.entry.now) (from + index + 1))) }
+            ensures { IfSome result (λ r. IfOk r (IsSoughtAt (map condition_tree conditions.entry.now) (from + index + 1))) }
         { judge_one(alloc, conditions, from + index, steps, watcher, told) },
     )
 }
@@ -172,34 +192,26 @@ fn judge_some<R: Threads + Sync, P: Watcher + Copy + Sync>(
 fn judged_at<P: Watcher + Copy>(
     alloc: Global,
     conditions: &[Condition],
-    known: &mut [Option<Result<Judged, Refusal>>],
+    known: &mut [Option<Result<Sought, Refusal>>],
     from: usize,
     place: usize,
     steps: u64,
     watcher: &P,
-) -> Result<Judged, Refusal>
+) -> Result<Sought, Refusal>
     requires place { place < length conditions.now }
     requires from { from ≤ place }
-    requires known { AreJudged (map condition_tree conditions.now) from known.old }
-    ensures judged { IfOk result (IsJudgedAt (map condition_tree conditions.now) (place + 1)) }
-    ensures known { AreJudged (map condition_tree conditions.now) from known.new }
+    requires known { AreSought (map condition_tree conditions.now) from known.old }
+    ensures judged { IfOk result (IsSoughtAt (map condition_tree conditions.now) (place + 1)) }
+    ensures known { AreSought (map condition_tree conditions.now) from known.new }
 {
     let index = place - from;
     if index < known.len() {
-        if let Some(judged) = known[index].take() {
-            return judged;
+        if let Some(sought) = known[index].take() {
+            return sought;
         }
     }
-    let number = place as u64 + 1;
     let mut own = *watcher;
-    judge(
-        alloc,
-        &conditions[place],
-        SourceFile::Derivation,
-        number,
-        steps,
-        &mut own,
-    )
+    seek(alloc, conditions, place, steps, &mut own)
 }
 
 /// Searches for lines for each condition from one place on and before another, with at most so many decisions each.
@@ -234,8 +246,8 @@ fn search_in<R: Threads + Sync, P: Watcher + Copy + Sync>(
     };
     let told = known.as_mut_slice();
     for place in from..to {
-        let judged = judged_at(alloc, conditions, told, from, place, steps, watcher)?;
-        found.take(alloc, place + 1, judged)?;
+        let sought = judged_at(alloc, conditions, told, from, place, steps, watcher)?;
+        found.take(place + 1, sought)?;
     }
     Ok(found)
 }

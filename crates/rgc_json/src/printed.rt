@@ -16,7 +16,8 @@ use crate::proofs::{write_part, write_proofs, write_unproved};
 use rg_find::Watcher;
 use rg_words::{Out, Refusal};
 use rgc::{
-    Derived, Parsed, ProofsFound, Unproved, accept_all, derive_program, find_part, find_proofs_all,
+    Derived, Parsed, ProofsFound, Unproved, accept_all, derive_program, derive_program_all,
+    find_part, find_proofs_all,
 };
 use serde_json::{Value, json};
 use std::alloc::{AllocError, Global};
@@ -172,7 +173,7 @@ pub fn print_proofs_json<R: Threads + Sync, W: Out, P: Watcher + Copy + Sync>(
     ensures told { IfOk result (λ b. b ≡ false → HasToldUnprovedJson text.now derivation.now (W.contents out.old) (W.contents out.new)) }
     ensures failures { OnOk result (W.failures out.new ≡ W.failures out.old) }
 {
-    let derived = derive_program(alloc, text, derivation)?;
+    let derived = derive_program_all(rt, alloc, threads, text, derivation)?;
     let found = find_proofs_all(rt, alloc, threads, &derived, steps, watcher)?;
     tell_found(alloc, &derived, &found, out)
 }
@@ -227,7 +228,7 @@ pub fn print_proofs_part_json<R: Threads + Sync, W: Out, P: Watcher + Copy + Syn
     ensures told { IfOk result (λ b. b ≡ false → HasToldUnprovedJson text.now derivation.now (W.contents out.old) (W.contents out.new)) }
     ensures failures { OnOk result (W.failures out.new ≡ W.failures out.old) }
 {
-    let derived = derive_program(alloc, text, derivation)?;
+    let derived = derive_program_all(rt, alloc, threads, text, derivation)?;
     let found = find_part(rt, alloc, threads, &derived, first, last, steps, watcher)?;
     tell_part(alloc, &derived, first, last, &found, out)
 }

@@ -10,7 +10,7 @@ use crate::told::print_unproved;
 use rg_find::Watcher;
 use rg_outline_files::{OutlineFiles, OutlineSource, outline_map};
 use rg_words::{Out, Refusal, write_all};
-use rgc::{Derived, ProofsFound, derive_program, find_proofs_all};
+use rgc::{Derived, ProofsFound, derive_program_all, find_proofs_all};
 use std::alloc::{AllocError, Global};
 use std::thread::Threads;
 
@@ -151,7 +151,7 @@ pub fn write_outline<R: Threads + Sync, W: Out, P: Watcher + Copy + Sync>(
 {
     let files = OutlineFiles::of(alloc, outline)?;
     let map = map_where(alloc, outline, wanted.has_map)?;
-    let derived = derive_program(alloc, &files.text, &files.derivation)?;
+    let derived = derive_program_all(rt, alloc, threads, &files.text, &files.derivation)?;
     match proofs_where(
         rt,
         alloc,

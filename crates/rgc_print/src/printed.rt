@@ -19,7 +19,8 @@ use rg_find::Watcher;
 use rg_words::{Out, Refusal, write_all};
 use rgc::{
     Derived, Parsed, ProofsFound, accept_all, build_all, clauses, condition_clauses,
-    derive_program, failures_text, find, find_condition, find_part, find_proofs_all, valid_all,
+    derive_program, derive_program_all, failures_text, find, find_condition, find_part,
+    find_proofs_all, valid_all,
 };
 use std::alloc::Global;
 use std::thread::Threads;
@@ -132,7 +133,7 @@ pub fn print_proofs<R: Threads + Sync, W: Out, P: Watcher + Copy + Sync>(
     ensures told { IfOk result (λ b. b ≡ false → HasToldUnproved text.now derivation.now (W.contents out.old) (W.contents out.new)) }
     ensures stopped { IfErr result (IsStopped (λ _. Unit {0}) (W.contents out.old) (W.contents out.new) (W.failures out.old) (W.failures out.new)) }
 {
-    let derived = derive_program(alloc, text, derivation)?;
+    let derived = derive_program_all(rt, alloc, threads, text, derivation)?;
     let found = find_proofs_all(rt, alloc, threads, &derived, steps, watcher)?;
     print_search(alloc, &derived, &found, out)
 }
@@ -161,7 +162,7 @@ pub fn print_proofs_part<R: Threads + Sync, W: Out, P: Watcher + Copy + Sync>(
     ensures told { IfOk result (λ b. b ≡ false → HasToldUnproved text.now derivation.now (W.contents out.old) (W.contents out.new)) }
     ensures stopped { IfErr result (IsStopped (λ _. Unit {0}) (W.contents out.old) (W.contents out.new) (W.failures out.old) (W.failures out.new)) }
 {
-    let derived = derive_program(alloc, text, derivation)?;
+    let derived = derive_program_all(rt, alloc, threads, text, derivation)?;
     let found = find_part(rt, alloc, threads, &derived, first, last, steps, watcher)?;
     print_search(alloc, &derived, &found, out)
 }

@@ -18,6 +18,7 @@ ghost use Rattle.rg_accept.specs.Stages.{parsed_program, derived_program, derive
 
 use super::{Accepted, Derived, Emitted, Parsed};
 use rg_code::compile::compile;
+use rg_groups::LineReader;
 use rg_hints::{OneThread, Prover};
 use rg_par::conditions::add_conditions;
 use rg_par::names::add_names;
@@ -55,6 +56,30 @@ impl Parsed {
         &self.program
     }
 
+    /// The program with the lines that a derivation spells, which derive its parts, as this reader reads them.
+    ///
+    /// # Errors
+    ///
+    /// As `Derived::read`.
+    pub fn derive_by<L: LineReader>(
+        self,
+        reader: &L,
+        alloc: Global,
+        derivation: &[u8],
+    ) -> Result<Derived, Refusal>
+        requires { L.can_read reader.now }
+        ensures program { IfOk result (λ d. derived_program d ≡ parsed_program self) }
+        ensures fits { IfOk result (λ d. FitsProgram (parsed_program self) derivation.now (derived_lines d)) }
+        ensures refused { IfErr result (IsDerivationRefusal (parsed_program self) derivation.now) }
+        ensures accepts { (ls : List LineTree) → FitsProgram (parsed_program self) derivation.now ls → IfErr result (λ e. e ≡ no_memory) }
+    {
+        let Parsed { program } = self;
+        match Derived::read_by(reader, alloc, program, derivation) {
+            Ok(derived) => Ok(derived),
+            Err(refusal) => Err(refusal),
+        }
+    }
+
     /// The program with the lines that a derivation spells, which derive its parts.
     ///
     /// # Errors
@@ -66,15 +91,62 @@ impl Parsed {
         ensures refused { IfErr result (IsDerivationRefusal (parsed_program self) derivation.now) }
         ensures accepts { (ls : List LineTree) → FitsProgram (parsed_program self) derivation.now ls → IfErr result (λ e. e ≡ no_memory) }
     {
-        let Parsed { program } = self;
-        match Derived::read(alloc, program, derivation) {
-            Ok(derived) => Ok(derived),
-            Err(refusal) => Err(refusal),
-        }
+        self.derive_by(&OneThread, alloc, derivation)
+    }
+
+    /// The same, in at most so many threads: a long derivation is read in groups of lines, side by side. A thread that can't be
+    /// had costs time alone.
+    ///
+    /// # Errors
+    ///
+    /// As `Derived::read`.
+    pub fn derive_all<R: Threads + Sync>(
+        self,
+        rt: &R,
+        alloc: Global,
+        threads: usize,
+        derivation: &[u8],
+    ) -> Result<Derived, Refusal>
+        ensures program { IfOk result (λ d. derived_program d ≡ parsed_program self) }
+        ensures fits { IfOk result (λ d. FitsProgram (parsed_program self) derivation.now (derived_lines d)) }
+        ensures refused { IfErr result (IsDerivationRefusal (parsed_program self) derivation.now) }
+        ensures accepts { (ls : List LineTree) → FitsProgram (parsed_program self) derivation.now ls → IfErr result (λ e. e ≡ no_memory) }
+    {
+        self.derive_by(&InThreads { rt, threads }, alloc, derivation)
     }
 }
 
 impl Derived {
+    /// The program with the lines that a derivation spells, which derive its parts, as this reader reads them.
+    ///
+    /// # Errors
+    ///
+    /// As `read`.
+    pub fn read_by<L: LineReader>(
+        reader: &L,
+        alloc: Global,
+        program: Program,
+        derivation: &[u8],
+    ) -> Result<Derived, Refusal>
+        requires { L.can_read reader.now }
+        ensures program { IfOk result (λ d. derived_program d ≡ program_tree program) }
+        ensures fits { IfOk result (λ d. FitsProgram (program_tree program) derivation.now (derived_lines d)) }
+        ensures refused { IfErr result (IsDerivationRefusal (program_tree program) derivation.now) }
+        ensures accepts { (ls : List LineTree) → FitsProgram (program_tree program) derivation.now ls → IfErr result (λ e. e ≡ no_memory) }
+    {
+        let (lines, last) = match reader.read(alloc, &program.layout, derivation) {
+            Ok(read) => read,
+            Err(refusal) => return Err(refusal),
+        };
+        match Derivation::of_lines(alloc, &program, lines, last) {
+            Ok(derivation) => Ok(Derived {
+                program,
+                derivation,
+            }),
+            Err(refusal) => Err(refusal),
+        }
+    }
+
     /// The program with the lines that a derivation spells, which derive its parts.
     ///
     /// # Errors
@@ -86,13 +158,7 @@ impl Derived {
         ensures refused { IfErr result (IsDerivationRefusal (program_tree program) derivation.now) }
         ensures accepts { (ls : List LineTree) → FitsProgram (program_tree program) derivation.now ls → IfErr result (λ e. e ≡ no_memory) }
     {
-        match Derivation::read(alloc, &program, derivation) {
-            Ok(derivation) => Ok(Derived {
-                program,
-                derivation,
-            }),
-            Err(refusal) => Err(refusal),
-        }
+        Derived::read_by(&OneThread, alloc, program, derivation)
     }
 
     /// The program.

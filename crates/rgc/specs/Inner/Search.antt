@@ -6,6 +6,7 @@ use Rattle.rg_tree.specs.Programs.{nth}
 use Rattle.rg_find.specs.Judged.{IsJudged}
 use Rattle.rg_find.specs.declared.judgement.Judged.{Judged}
 use Rattle.rgc.specs.declared.proofs_found.Unproved.{Unproved}
+use Rattle.rgc.specs.declared.proofs_found.Sought.{Sought}
 
 -- what a condition of this number is kept as: something that is true of each condition of which the judgement is true
 pub record IsKept (number : ℕ) (judged : Judged) (old new : List Unproved) : Type 0 where
@@ -22,6 +23,10 @@ Takes number judged old new = (new ≡ old) ⊎ IsKept number judged old new
 abbrev pub IsJudgedAt : List ConditionTree → ℕ → Judged → Type 0
 IsJudgedAt conditions number judged = (c : ConditionTree) → nth conditions number ≡ Some c → IsJudged c judged
 
--- at each place stands what is said of the condition there, from one place on, or nothing
-abbrev pub AreJudged : List ConditionTree → ℕ → List (Option (Result Judged Refusal)) → Type 0
-AreJudged conditions from known = (i : ℕ) → i < length known → IfSome (slice_index_or known i None) (λ r. IfOk r (IsJudgedAt conditions (from + i + 1)))
+-- the same of what was sought
+abbrev pub IsSoughtAt : List ConditionTree → ℕ → Sought → Type 0
+IsSoughtAt conditions number sought = IsJudgedAt conditions number sought.judged
+
+-- at each place stands what was sought for the condition there, from one place on, or nothing
+abbrev pub AreSought : List ConditionTree → ℕ → List (Option (Result Sought Refusal)) → Type 0
+AreSought conditions from known = (i : ℕ) → i < length known → IfSome (slice_index_or known i None) (λ r. IfOk r (IsSoughtAt conditions (from + i + 1)))

@@ -4,5 +4,5 @@ use Rattle.rgc.specs.Proofs.{IsUnproved}
 use Rattle.rgc.proofs.proofs_found.search_all.Given as goal
 
 -- what is told so far is true
-abbrev pub invariant-loop-i : goal.invariant-loop-i
-invariant-loop-i g l = All (IsUnproved (map condition_tree l.conditions)) l.found.unproved.items
+abbrev pub invariant-loop-place : goal.invariant-loop-place
+invariant-loop-place g l = All (IsUnproved (map condition_tree l.conditions)) l.found.unproved.items

@@ -6,6 +6,6 @@ pub loop-place-preserved : goal.loop-place-preserved
 loop-place-preserved g c =
     let small : c.loop-place.place < length c.args.conditions.now = omega (arith, c.loop-place-test.true, c.requires.bound) in
     record {
-      told = taken_there c.args.conditions.now c.loop-place.place c.in_ok-judged.judged c.loop-place.found.unproved.items c.take.new.self.unproved.items small c.in_ok-judged.ensures.judged c.loop-place.invariant.told c.in_ok-take.ensures;
-      known = c.in_ok-judged.ensures.known;
+      told = taken_there c.args.conditions.now c.loop-place.place c.in_ok-sought.sought.judged c.loop-place.found.unproved.items c.take.new.self.unproved.items small c.in_ok-sought.ensures.judged c.loop-place.invariant.told c.in_ok-take.ensures;
+      known = c.in_ok-sought.ensures.known;
     }

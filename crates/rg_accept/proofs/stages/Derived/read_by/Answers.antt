@@ -1,0 +1,24 @@
+use Rattle.std.proofs.Common.{List, map, Vec, sym, ap, subst}
+use Rattle.std.specs.Global.{Global}
+use Rattle.rg_tree.specs.declared.line.DerivationLine.{DerivationLine}
+use Rattle.rg_tree.specs.Lines.{LineTree, line_tree}
+use Rattle.rg_tree.specs.ProgramTrees.{program as program_tree}
+use Rattle.rg_rules.specs.Faults.{Derives}
+use Rattle.rg_rules.specs.Reading.{FitsProgram}
+use Rattle.rg_rules.proofs.Reading.{lines_fit, lines_refused, lines_accepted}
+use Rattle.rg_accept.proofs.stages.Derived.read_by.Goals as goal
+
+pub returns-in-Err-clause-accepts : goal.returns-in-Err-clause-accepts
+returns-in-Err-clause-accepts g c = λ ls fits. c.in-Err.ensures.accepts ls fits.last fits.spelled
+
+pub returns-in-Err-of_lines-clause-refused : goal.returns-in-Err-of_lines-clause-refused
+returns-in-Err-of_lines-clause-refused g c = lines_refused (program_tree c.args.program) c.args.derivation.now _ _ c.in-Ok.ensures.spells _ c.in-Err-of_lines.ensures.fault
+
+pub returns-in-Err-of_lines-clause-accepts : goal.returns-in-Err-of_lines-clause-accepts
+returns-in-Err-of_lines-clause-accepts g c = λ ls fits. lines_accepted (program_tree c.args.program) c.args.derivation.now _ _ c.in-Ok.ensures.spells _ ls fits c.in-Err-of_lines.ensures.fault
+
+pub returns-in-Ok-of_lines-clause-fits : goal.returns-in-Ok-of_lines-clause-fits
+returns-in-Ok-of_lines-clause-fits g c =
+    let lines = ap (λ (l : Vec DerivationLine Global). map line_tree l.items) c.in-Ok-of_lines.ensures.lines in
+    let fits = lines_fit (program_tree c.args.program) c.args.derivation.now _ _ c.in-Ok.ensures.spells in
+    subst (λ (l : List LineTree). FitsProgram (program_tree c.args.program) c.args.derivation.now l) (sym lines) (fits (subst (λ (l : List LineTree). Derives (program_tree c.args.program).parts l) lines c.in-Ok-of_lines.ensures.derives))
