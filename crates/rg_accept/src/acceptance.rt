@@ -8,7 +8,7 @@ ghost use Rattle.rg_accept.specs.Accepted.{IsAccepted, IsAcceptRefusal, IsBuilt,
 ghost use Rattle.rg_accept.specs.Stages.{accepted_program, emitted_program, emitted_blocks};
 
 use crate::stages::{Accepted, Derived, Emitted, Parsed};
-use rg_groups::LineReader;
+use rg_groups::Deriver;
 use rg_hints::{OneThread, Prover};
 use rg_parse::{one_derivation, one_program};
 use rg_pool::InThreads;
@@ -83,7 +83,7 @@ pub fn build_program(
 /// # Errors
 ///
 /// As `accept`.
-fn accept_by<P: Prover + LineReader>(
+fn accept_by<P: Prover + Deriver>(
     prover: &P,
     alloc: Global,
     text: &[u8],
@@ -91,7 +91,7 @@ fn accept_by<P: Prover + LineReader>(
     proofs: &[u8],
 ) -> Result<Accepted, Refusal>
     requires proves { P.can_prove prover.now }
-    requires reads { P.can_read prover.now }
+    requires derives { P.can_derive prover.now }
     // Ok exactly where the written rules accept all three files, unless memory runs out.
     ensures accepted { IfOk result (λ a. AreAccepted text.now derivation.now proofs.now (accepted_program a)) }
     ensures accepts { IsAcceptedText text.now derivation.now proofs.now → IfErr result (λ e. e ≡ no_memory) }
@@ -163,7 +163,7 @@ pub fn accept_all<R: Threads + Sync>(
 }
 
 /// The same as `build`, where this prover decides of the proofs.
-fn build_by<P: Prover + LineReader>(
+fn build_by<P: Prover + Deriver>(
     prover: &P,
     alloc: Global,
     text: &[u8],
@@ -171,7 +171,7 @@ fn build_by<P: Prover + LineReader>(
     proofs: &[u8],
 ) -> Result<Emitted, Refusal>
     requires proves { P.can_prove prover.now }
-    requires reads { P.can_read prover.now }
+    requires derives { P.can_derive prover.now }
     ensures built { IfOk result (λ e. IsBuiltText text.now derivation.now proofs.now (emitted_program e) (emitted_blocks e)) }
     ensures accepts { IsAcceptedText text.now derivation.now proofs.now → IfErr result (λ e. e ≡ no_memory) }
     ensures refused { IfErr result (IsAcceptTextRefusal text.now derivation.now proofs.now) }

@@ -66,7 +66,7 @@ module _ (words : List Word) (source : List ℕ) where
   }
 
 -- the tokens before a place, and then those on and before another, are those before the other
-take_between : {X : Type 0} (xs : List X) (from to : ℕ) → from ≤ to → take from xs ++ take (to - from) (drop from xs) ≡ take to xs
+pub take_between : {X : Type 0} (xs : List X) (from to : ℕ) → from ≤ to → take from xs ++ take (to - from) (drop from xs) ≡ take to xs
 take_between {X} xs from to order =
     let m : from + (to - from) ≡ to = omega (arith, order) in
     let behind : drop from (take to xs) ≡ take (to - from) (drop from xs) = ap (λ (n : ℕ). drop from (take n xs)) (sym m) ∙ drop-take from (to - from) xs in

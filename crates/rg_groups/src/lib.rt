@@ -1,8 +1,12 @@
-//! The lines of a derivation, read in many threads with the answer of one.
+//! The lines of a derivation and their conditions, read and made in many threads with the answer of one.
 #![tactic(auto)]
 
+mod conditions;
+mod deriver;
 mod group;
 mod joining;
 mod reading;
 
-pub use reading::{LEAST_TOKENS, LineReader, derivation_all};
+pub use conditions::conditions_all;
+pub use deriver::Deriver;
+pub use reading::{LEAST_TOKENS, derivation_all};

@@ -9,9 +9,8 @@ ghost use Rattle.rg_groups.specs.Inner.Groups.{IsGroup, AreGroups, AreReadUpTo};
 
 use crate::group::{Group, read_group};
 use crate::joining::join_groups;
-use rg_hints::OneThread;
 use rg_parse::derivation;
-use rg_pool::{InThreads, deal};
+use rg_pool::deal;
 use rg_text::Tokens;
 use rg_text::token::Token;
 use rg_tree::line::DerivationLine;
@@ -27,7 +26,7 @@ pub const LEAST_TOKENS: usize = 4_096;
 const TOKENS_OF_A_GROUP: usize = 1_024;
 
 /// The groups for each thread, so that threads whose groups are short take others.
-const GROUPS_OF_A_THREAD: usize = 2;
+const GROUPS_OF_A_THREAD: usize = 8;
 
 /// The line of the last token, and 1 where there is none.
 fn last_line(tokens: &[Token]) -> u32
@@ -141,49 +140,4 @@ pub fn derivation_all<R: Threads + Sync>(
         }
     }
     derivation(alloc, layout, source)
-}
-
-/// Who reads the lines of a derivation: one thread, or several.
-pub trait LineReader {
-    // What has to hold of it where it is asked: nothing, or that it may be shared by threads.
-    ghost can_read: { Self → Type 0 } = { λ _. Unit {0} };
-
-    /// The lines of a derivation that a source spells, and the line of its last token, as `rg_parse::derivation` tells them.
-    fn read(
-        &self,
-        alloc: Global,
-        layout: &Layout,
-        source: &[u8],
-    ) -> Result<(Vec<DerivationLine>, u32), Refusal>
-        requires { can_read self.now }
-        ensures spells { IfOk result (λ r. SpellsDerivation layout.now source.now (map line_tree r.0.items) r.1) }
-        ensures typed { IfOk result (λ r. AreTypedLines layout.now (map line_tree r.0.items)) }
-        ensures refused { IfErr result (IsDerivationTextRefusal layout.now source.now) }
-        ensures accepts { (ls : List LineTree) (last : ℕ) → SpellsDerivation layout.now source.now ls last → IfErr result (λ e. e ≡ no_memory) };
-}
-
-impl LineReader for OneThread {
-    fn read(
-        &self,
-        alloc: Global,
-        layout: &Layout,
-        source: &[u8],
-    ) -> Result<(Vec<DerivationLine>, u32), Refusal> {
-        derivation(alloc, layout, source)
-    }
-}
-
-impl<R: Threads + Sync> LineReader for InThreads<'_, R> {
-    ghost use denote.Param.Send.{IsSync};
-
-    ghost can_read = { λ _. IsSync R.row };
-
-    fn read(
-        &self,
-        alloc: Global,
-        layout: &Layout,
-        source: &[u8],
-    ) -> Result<(Vec<DerivationLine>, u32), Refusal> {
-        derivation_all(self.rt, alloc, self.threads, layout, source)
-    }
 }

@@ -1,8 +1,9 @@
 //! A section that is checked in pieces, each in a thread of its own.
 
-ghost use Rattle.std.specs.Prelude.{◌≡◌, ◌↔◌, ◌*◌, ◌^◌, ◌<◌, ◌≤◌, length, IsTrue, MatchResult, OnOk, IfErr};
+ghost use Rattle.std.specs.Prelude.{◌≡◌, ◌↔◌, ◌*◌, ◌^◌, ◌<◌, ◌≤◌, ℕ, [], length, IsTrue, MatchResult, OnOk, IfErr};
 ghost use Rattle.rg_clauses.specs.ClauseLists.{IsFormula, IsUnsatisfiable};
 ghost use Rattle.rg_words.specs.Refusals.{no_memory};
+ghost use Rattle.rg_hints.specs.Lines.{hint_line_at};
 ghost use Rattle.rg_hints.specs.Verdict.{HasEmpty, IsClosed, IsSectionRefusal};
 ghost use Rattle.rg_pool.specs.Inner.PieceAnswers.{IsPieceAnswer};
 
@@ -163,12 +164,29 @@ fn check_four<R: Threads + Sync, P: Pieces + Sync>(
     joined(clauses, lines, 0, 2 * quarter, all, first, second)
 }
 
+/// Whether the last line is empty.
+fn is_last_empty(lines: &Lines) -> bool
+    ensures { IsTrue result → ((k : ℕ) × (k < length lines.now.lines) × ((hint_line_at lines.now k).literals ≡ [])) }
+{
+    match lines.len().checked_sub(1) {
+        Some(last) => lines.literals(last).is_empty(),
+        None => false,
+    }
+}
+
+/// Whether a line is empty. Where one is, it mostly is the last.
+fn has_empty_hint_line(lines: &Lines) -> bool
+    ensures { IsTrue result ↔ ((k : ℕ) × (k < length lines.now.lines) × ((hint_line_at lines.now k).literals ≡ [])) }
+{
+    is_last_empty(lines) || has_empty_line(lines)
+}
+
 /// Whether a given clause or a line is empty.
 fn has_empty(clauses: &Clauses, lines: &Lines) -> bool
     ensures answer { IsTrue result ↔ HasEmpty clauses.now.clauses lines.now }
     ensures formula { IsFormula clauses.now }
 {
-    has_empty_clause(clauses) || has_empty_line(lines)
+    has_empty_clause(clauses) || has_empty_hint_line(lines)
 }
 
 /// Whether the section of this condition, which counts from 1, is closed: the answer of `rg_hints::check`, found in four

@@ -200,8 +200,18 @@ pub fn prove_part<R: Threads + Sync>(
     prove_each_all(rt, alloc, threads, count, before, conditions, &sections)
 }
 
+/// Fewer conditions, with a file of fewer bytes, are looked at in the thread that asks: to start others takes longer.
+const FEW_CONDITIONS: usize = 24;
+
+const FEW_BYTES: usize = 16_384;
+
+/// Whether these are too few conditions, and their proofs too short, for other threads to gain anything.
+fn are_few(conditions: &[Condition], proofs: &[u8]) -> bool {
+    conditions.len() < FEW_CONDITIONS && proofs.len() < FEW_BYTES
+}
+
 /// Whether a proofs file proves these conditions, which count from 1: the answer of `rg_hints::prove`, found as by
-/// `prove_part`.
+/// `prove_part`; where they are few, in the thread that asks.
 ///
 /// # Errors
 ///
@@ -218,7 +228,7 @@ pub fn prove_all<R: Threads + Sync>(
     ensures refused { IfErr result (IsProofsRefusal (map condition_tree conditions.now) proofs.now) }
     ensures accepts { AreProved (map condition_tree conditions.now) proofs.now → IfErr result (λ e. e ≡ no_memory) }
 {
-    if threads < 2 {
+    if threads < 2 || are_few(conditions, proofs) {
         return prove(alloc, conditions, proofs);
     }
     prove_part(rt, alloc, threads, conditions.len(), 0, conditions, proofs)

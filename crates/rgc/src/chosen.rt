@@ -16,7 +16,7 @@ ghost use Rattle.rg_accept.specs.Stages.{derived_program, derived_lines};
 use rg_accept::{Derived, Parsed};
 use rg_clauses::Clauses;
 use rg_find::{Judged, Watcher, judge};
-use rg_groups::LineReader;
+use rg_groups::Deriver;
 use rg_hints::OneThread;
 use rg_pool::InThreads;
 use rg_tree::condition::Condition;
@@ -29,13 +29,13 @@ use std::thread::Threads;
 /// # Errors
 ///
 /// As `derive_program`.
-fn derive_by<L: LineReader>(
+fn derive_by<L: Deriver>(
     reader: &L,
     alloc: Global,
     text: &[u8],
     derivation: &[u8],
 ) -> Result<Derived, Refusal>
-    requires { L.can_read reader.now }
+    requires { L.can_derive reader.now }
     ensures derived { IfOk result (λ d. AreDerived text.now derivation.now (derived_program d) (derived_lines d)) }
     ensures refused { IfErr result (IsDeriveRefusal text.now derivation.now) }
 {

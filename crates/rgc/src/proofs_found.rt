@@ -10,7 +10,7 @@ use crate::failures::failure_text;
 use rg_accept::Derived;
 use rg_find::{Judged, Watcher, judge};
 use rg_hints::{Lines, prove};
-use rg_pool::{deal, prove_all, prove_part};
+use rg_pool::{InThreads, deal, prove_all, prove_part};
 use rg_tree::condition::Condition;
 use rg_words::limits::MOST_PROOF_BYTES;
 use rg_words::{Layout, Place, Refusal, RefusalNumber, SourceFile};
@@ -304,7 +304,7 @@ pub fn find_proofs_all<R: Threads + Sync, P: Watcher + Copy + Sync>(
     // What is given proves all conditions: it is checked before it is given. What is told of a condition without a proof is true of it.
     ensures { IfOk result (AreFoundFor (derived_program derived.now) (derived_lines derived.now)) }
 {
-    let conditions = derived.conditions(alloc)?;
+    let conditions = derived.conditions_by(&InThreads { rt, threads }, alloc)?;
     let count = conditions.len();
     let found = search_in(
         rt,
@@ -371,7 +371,7 @@ pub fn find_part<R: Threads + Sync, P: Watcher + Copy + Sync>(
     // What is given proves these conditions: it is checked before it is given. What is told of a condition without a proof is true of it.
     ensures { IfOk result (ArePartFoundFor (derived_program derived.now) (derived_lines derived.now) first last) }
 {
-    let conditions = derived.conditions(alloc)?;
+    let conditions = derived.conditions_by(&InThreads { rt, threads }, alloc)?;
     let count = conditions.len();
     check_range(first, last, count)?;
     let (from, to) = ((first - 1) as usize, last as usize);

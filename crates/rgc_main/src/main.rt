@@ -395,11 +395,25 @@ impl Contents {
     }
 }
 
-/// The most threads for a command: those that it asks for, and else one for each processor.
+/// How many threads suit so many processors. Where proofs are checked, each of several processors has two: a thread that reads or
+/// lets go of trees often waits for memory.
+fn suiting(command: &Command<'_>, processors: usize) -> usize {
+    match command {
+        Command::Check { .. } | Command::Emit { .. } | Command::Run { .. } if processors > 1 => {
+            processors.saturating_mul(2)
+        }
+        _ => processors,
+    }
+}
+
+/// The most threads for a command: those that it asks for, and else as many as suit the processors.
 fn most_threads<R: Threads>(threads: &R, line: &Line<'_>) -> usize {
     match line.settings.threads {
         Some(number) => usize::try_from(number).unwrap_or(usize::MAX),
-        None => available_parallelism(threads).map_or(1, |number| number.get()),
+        None => {
+            let processors = available_parallelism(threads).map_or(1, |number| number.get());
+            suiting(&line.command, processors)
+        }
     }
 }
 

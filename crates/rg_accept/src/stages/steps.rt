@@ -18,7 +18,7 @@ ghost use Rattle.rg_accept.specs.Stages.{parsed_program, derived_program, derive
 
 use super::{Accepted, Derived, Emitted, Parsed};
 use rg_code::compile::compile;
-use rg_groups::LineReader;
+use rg_groups::Deriver;
 use rg_hints::{OneThread, Prover};
 use rg_par::conditions::add_conditions;
 use rg_par::names::add_names;
@@ -61,13 +61,13 @@ impl Parsed {
     /// # Errors
     ///
     /// As `Derived::read`.
-    pub fn derive_by<L: LineReader>(
+    pub fn derive_by<L: Deriver>(
         self,
         reader: &L,
         alloc: Global,
         derivation: &[u8],
     ) -> Result<Derived, Refusal>
-        requires { L.can_read reader.now }
+        requires { L.can_derive reader.now }
         ensures program { IfOk result (λ d. derived_program d ≡ parsed_program self) }
         ensures fits { IfOk result (λ d. FitsProgram (parsed_program self) derivation.now (derived_lines d)) }
         ensures refused { IfErr result (IsDerivationRefusal (parsed_program self) derivation.now) }
@@ -122,13 +122,13 @@ impl Derived {
     /// # Errors
     ///
     /// As `read`.
-    pub fn read_by<L: LineReader>(
+    pub fn read_by<L: Deriver>(
         reader: &L,
         alloc: Global,
         program: Program,
         derivation: &[u8],
     ) -> Result<Derived, Refusal>
-        requires { L.can_read reader.now }
+        requires { L.can_derive reader.now }
         ensures program { IfOk result (λ d. derived_program d ≡ program_tree program) }
         ensures fits { IfOk result (λ d. FitsProgram (program_tree program) derivation.now (derived_lines d)) }
         ensures refused { IfErr result (IsDerivationRefusal (program_tree program) derivation.now) }
@@ -168,6 +168,28 @@ impl Derived {
         &self.program
     }
 
+    /// The conditions of the rules, made by this deriver: those of the lines in their order, then those of the parallel parts. They are
+    /// numbered from 1.
+    ///
+    /// # Errors
+    ///
+    /// Only where memory is refused.
+    pub fn conditions_by<L: Deriver>(
+        &self,
+        deriver: &L,
+        alloc: Global,
+    ) -> Result<Vec<Condition>, AllocError>
+        requires { L.can_derive deriver.now }
+        // Exactly the rules' list.
+        ensures list { IfOk result (λ all. map condition_tree all.items ≡ conditions_of (derived_program self.now) (derived_lines self.now)) }
+        // Where all of them are true, the program satisfies its specification.
+        ensures sound { IfOk result (λ all. AllConditionsHold (map condition_tree all.items) → IsSatisfied (derived_program self.now)) }
+    {
+        let mut all = deriver.conditions(alloc, &self.derivation, &self.program)?;
+        add_conditions(alloc, &mut all, &self.program)?;
+        Ok(all)
+    }
+
     /// The conditions of the rules: those of the lines in their order, then those of the parallel parts. They are numbered from 1.
     ///
     /// # Errors
@@ -179,9 +201,7 @@ impl Derived {
         // Where all of them are true, the program satisfies its specification.
         ensures sound { IfOk result (λ all. AllConditionsHold (map condition_tree all.items) → IsSatisfied (derived_program self.now)) }
     {
-        let mut all = self.derivation.conditions(alloc, &self.program)?;
-        add_conditions(alloc, &mut all, &self.program)?;
-        Ok(all)
+        self.conditions_by(&OneThread, alloc)
     }
 
     /// The name of each condition, in the order of `conditions`.
@@ -202,25 +222,30 @@ impl Derived {
     /// # Errors
     ///
     /// The first fault of the proofs, as `rg_hints::prove` tells it.
-    pub fn prove_by<P: Prover>(
+    pub fn prove_by<P: Prover + Deriver>(
         self,
         prover: &P,
         alloc: Global,
         proofs: &[u8],
     ) -> Result<Accepted, Refusal>
-        requires { P.can_prove prover.now }
+        requires proves { P.can_prove prover.now }
+        requires derives { P.can_derive prover.now }
         ensures program { IfOk result (λ a. accepted_program a ≡ derived_program self) }
         ensures proved { OnOk result (AreProved (conditions_of (derived_program self) (derived_lines self)) proofs.now) }
         ensures satisfied { IfOk result (λ a. IsSatisfied (accepted_program a)) }
         ensures refused { IfErr result (IsProofsRefusal (conditions_of (derived_program self) (derived_lines self)) proofs.now) }
         ensures accepts { AreProved (conditions_of (derived_program self) (derived_lines self)) proofs.now → IfErr result (λ e. e ≡ no_memory) }
     {
-        let conditions = self.conditions(alloc)?;
+        let conditions = self.conditions_by(prover, alloc)?;
         match prover.prove(alloc, conditions.as_slice(), proofs) {
             Ok(()) => {}
             Err(refusal) => return Err(refusal),
         }
-        let Derived { program, .. } = self;
+        let Derived {
+            program,
+            derivation,
+        } = self;
+        prover.let_go(conditions, derivation.lines);
         Ok(Accepted { program })
     }
 

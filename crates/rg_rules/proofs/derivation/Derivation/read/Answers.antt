@@ -1,4 +1,4 @@
-use Rattle.std.proofs.Common.{List, map, Vec, inl, sym, ap, subst}
+use Rattle.std.proofs.Common.{map, Vec, inl, sym, ap, subst}
 use Rattle.std.specs.Global.{Global}
 use Rattle.rg_tree.specs.declared.line.DerivationLine.{DerivationLine}
 use Rattle.rg_tree.specs.Lines.{line_tree}
