@@ -2,8 +2,8 @@
 
 use std::thread::{Threads, join};
 
-/// The least count of items that are let go of in two threads.
-const LEAST_ITEMS: usize = 16;
+/// The least count of items that are let go of in two threads: with fewer, to start a thread takes longer.
+const LEAST_ITEMS: usize = 32;
 
 /// Lets go of items: where they are many, of one half in a thread of its own.
 fn let_halves_go<R: Threads + Sync, X: Send + Drop>(rt: &R, items: Vec<X>) {
@@ -17,13 +17,16 @@ fn let_halves_go<R: Threads + Sync, X: Send + Drop>(rt: &R, items: Vec<X>) {
     }
 }
 
-/// Lets go of two lists side by side: where a list is long, of its halves side by side too. A thread that can't be had costs
-/// time alone.
+/// Lets go of two lists: where one of them is long, side by side, and of the halves of a long one side by side too. A thread that
+/// can't be had costs time alone.
 pub fn let_both_go<R: Threads + Sync, X: Send + Drop, Y: Send + Drop>(
     rt: &R,
     first: Vec<X>,
     second: Vec<Y>,
 ) {
+    if first.len() < LEAST_ITEMS && second.len() < LEAST_ITEMS {
+        return;
+    }
     join(
         rt,
         move || let_halves_go(rt, first),

@@ -1,6 +1,6 @@
 //! A run of a checked program, from its opening to its end.
 
-ghost use Rattle.std.specs.Prelude.{◌≡◌, ◌+◌, ◌<◌, map, length, IfOk};
+ghost use Rattle.std.specs.Prelude.{◌≡◌, ◌+◌, ◌<◌, map, length, IfOk, IfSome};
 ghost use Rattle.rg_words.specs.Layout.{widths_of};
 ghost use Rattle.rg_words.specs.Written.{CanCount};
 ghost use Rattle.rg_tree.specs.Moves.{move as move_tree, AreMoves};
@@ -55,6 +55,7 @@ fn play_at<
     ensures run { IfOk result (λ c. IsRunOf L.program L.code L.start L.limit (map move_tree moves.now) (W.contents writer.old) (W.contents writer.new) c) }
     ensures failures { W.failures writer.new ≡ W.failures writer.old + failures_in result }
     ensures faults { IsPlayed (open_fault L.program L.start L.limit) result }
+    ensures unopened { IfSome (open_fault L.program L.start L.limit) (λ _. (W.contents writer.new ≡ W.contents writer.old) × (W.failures writer.new ≡ W.failures writer.old)) }
 {
     let (floor, seats) = Floor::<L>::open(alloc, checked, start, limit, blank)?;
     run(
@@ -72,7 +73,7 @@ fn play_at<
 /// Plays a checked program from a start, with so many steps by parts at most, as `run` does.
 ///
 /// Refused, beside what `run` refuses: `Limit` where the limit is above 1,000,000, else `StartOutsidePre` where the start isn't in the
-/// program's pre.
+/// program's pre; nothing is printed then.
 pub fn play<'e, E: Checked, G: Gate + Sync, W: Out, R: Threads + Wait + Sync>(
     rt: &R,
     alloc: Global,
@@ -89,6 +90,7 @@ pub fn play<'e, E: Checked, G: Gate + Sync, W: Out, R: Threads + Wait + Sync>(
     ensures run { IfOk result (λ c. IsRunOf (program_tree (E.program_of checked.now)) (code_blocks (E.code_of checked.now)) start.values limit (map move_tree moves.now) (W.contents writer.old) (W.contents writer.new) c) }
     ensures failures { W.failures writer.new ≡ W.failures writer.old + failures_in result }
     ensures faults { IsPlayed (open_fault (program_tree (E.program_of checked.now)) start.values limit) result }
+    ensures unopened { IfSome (open_fault (program_tree (E.program_of checked.now)) start.values limit) (λ _. (W.contents writer.new ≡ W.contents writer.old) × (W.failures writer.new ≡ W.failures writer.old)) }
 {
     let blank = Blank::new(checked.code().parts.len() as u64);
     play_at::<Brand, E, G, W, R>(rt, alloc, checked, start, limit, blank, gate, moves, writer)

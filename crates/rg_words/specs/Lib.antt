@@ -3,6 +3,7 @@ pub mod Layout
 pub mod Names
 pub mod Refusals
 pub mod States
+pub mod Stopped
 pub mod Takers
 pub mod Writers
 pub mod Written

@@ -1,5 +1,13 @@
 -- What a search for proofs of conditions keeps is true.
-use Rattle.std.proofs.Common.{◌≡◌, ℕ, ◌+◌, ◌-◌, ◌<◌, zero, suc, take, drop, Some, Result, List, [], ◌∷◌, length, map, get_or, All, IfOk, rules, subst, sym, ap, ◌∙◌, ⊎_elim, refl, arith}
+use Rattle.std.proofs.Common.{◌≡◌, ◌⊎◌, ℕ, ◌+◌, ◌-◌, ◌<◌, ◌≤◌, zero, suc, take, drop, Some, Result, Ok, Err, List, [], ◌∷◌, length, map, get_or, All, IfOk, rules, subst, sym, ap, ◌∙◌, ⊎_elim, inl, inr, refl, arith}
+use Rattle.std.specs.Prelude.{IfErr, IfSome, Option, None, slice_index_or}
+use Rattle.rg_words.specs.declared.limits.TheConstants.{MOST_VARIABLES}
+use Rattle.rg_words.specs.declared.refusal.RefusalNumber.TheVariants.{UnknownCondition}
+use Rattle.rg_words.specs.declared.refusal.SourceFile.TheVariants.{Derivation}
+use Rattle.rg_words.specs.declared.refusal.Place.TheVariants.{Condition as the_condition}
+use Rattle.rg_words.specs.Refusals.{no_memory, refused_in}
+use Rattle.rg_clauses.specs.Conditions.{clauses_of_condition}
+use Rattle.std.proofs.lemmas.Bool.{cases_lt}
 use Rattle.std.proofs.lemmas.List.Elements.{All-append, All-cons}
 use Rattle.rg_tree.specs.ConditionTrees.{ConditionTree}
 use Rattle.rg_words.specs.declared.refusal.Refusal.{Refusal}
@@ -9,13 +17,14 @@ use Rattle.rg_tree.specs.Programs.{nth}
 use Rattle.rg_rules.proofs.Find.{nth-at}
 use Rattle.std.proofs.lemmas.Result.{IfOk-weaker}
 use Rattle.std.proofs.lemmas.List.{length-map, take-map, drop-map}
-use Rattle.rg_find.specs.Judged.{IsJudged}
+use Rattle.rg_find.specs.Judged.{IsJudged, IsJudgeRefusal}
+use Rattle.rg_hints.specs.Proved.{IsProofsRefusal}
 use Rattle.rg_find.specs.declared.judgement.Judged.{Judged}
 use Rattle.rgc.specs.declared.proofs_found.Unproved.{Unproved}
 use Rattle.rgc.specs.declared.proofs_found.Sought.{Sought}
-use Rattle.rg_pool.specs.Parts.{ArePartProved}
-use Rattle.rgc.specs.Proofs.{IsUnproved, IsRange, in_range}
-use Rattle.rgc.specs.Inner.Search.{IsKept, Takes, IsJudgedAt, IsSoughtAt}
+use Rattle.rg_pool.specs.Parts.{ArePartProved, IsPartRefusal}
+use Rattle.rgc.specs.Proofs.{IsUnproved, IsRange, in_range, outside, KeepLimit, IsFirstUnjudged, IsSearchRefusal, IsPartSearchRefusal}
+use Rattle.rgc.specs.Inner.Search.{IsKept, Takes, IsJudgedAt, IsSoughtAt, IsUnsoughtAt, IsAnswerAt, AreSought}
 
 -- what is kept of a condition is true of the condition of its number
 pub kept_true : (cs : List ConditionTree) (number : ℕ) (c : ConditionTree) (judged : Judged) (old new : List Unproved) → nth cs number ≡ Some c → IsJudged c judged → (kept : IsKept number judged old new) → IsUnproved cs kept.one
@@ -35,13 +44,39 @@ taken cs number c judged old new is true_ before took =
     (All-cons (IsUnproved cs) kept.one [] (kept_true cs number c judged old new is true_ kept) (search rules))))
     took
 
--- what is said of a condition, as it is written down, is true of the condition at its place
-pub judged_there : (xs : List Condition) (place : ℕ) (x : Condition) (r : Result Sought Refusal) (j : Judged) → place < length xs → x ≡ get_or xs place x → IsJudged (condition_tree x) j → IfOk r (λ w. w.judged ≡ j) → IfOk r (IsSoughtAt (map condition_tree xs) (place + 1))
-judged_there xs place x r j small at true_ h =
-    IfOk-weaker r (λ w. w.judged ≡ j) (IsSoughtAt (map condition_tree xs) (place + 1))
-    (λ w same_judged c is.
-    let same : condition_tree x ≡ c = cc (nth-at condition_tree xs place (place + 1) x refl small at, is) in
-    subst (λ (k : Judged). IsJudged c k) (sym same_judged) (subst (λ (t : ConditionTree). IsJudged t j) same true_)) h
+-- what is said of a condition, as it is written down, is true of the condition at its place; and where memory is refused for its text, it isn't judged
+pub answer_there : (xs : List Condition) (place steps : ℕ) (x : Condition) (r : Result Sought Refusal) (j : Judged) → place < length xs → x ≡ get_or xs place x → IsJudged (condition_tree x) j → (clauses_of_condition (condition_tree x)).variables ≤ MOST_VARIABLES
+    → IfOk r (λ w. w.judged ≡ j) → IfErr r (λ e. e ≡ no_memory) → IsAnswerAt (map condition_tree xs) (place + 1) steps r
+answer_there xs place steps x (Ok w) j small at true_ within said none = λ c is.
+    let same : condition_tree x ≡ c = cc (nth-at condition_tree xs place (place + 1) x refl small at, is) in (
+      subst (λ (k : Judged). IsJudged c k) (sym said) (subst (λ (t : ConditionTree). IsJudged t j) same true_),
+      subst (λ (t : ConditionTree). (clauses_of_condition t).variables ≤ MOST_VARIABLES) same within,
+    )
+answer_there xs place steps x (Err e) j small at true_ within said none =
+    (condition_tree x, nth-at condition_tree xs place (place + 1) x refl small at, inl none)
+
+-- a condition that isn't judged
+pub unjudged_there : (xs : List Condition) (place steps : ℕ) (x : Condition) (e : Refusal) → place < length xs → x ≡ get_or xs place x → IsJudgeRefusal (condition_tree x) Derivation (place + 1) steps e → IsUnsoughtAt (map condition_tree xs) (place + 1) steps e
+unjudged_there xs place steps x e small at why = (condition_tree x, nth-at condition_tree xs place (place + 1) x refl small at, why)
+
+-- the first condition that isn't judged, where those before it keep the limit
+pub first_unjudged : (cs : List ConditionTree) (first number steps : ℕ) (e : Refusal) → KeepLimit cs first number → IsUnsoughtAt cs number steps e → IsFirstUnjudged cs first steps e
+first_unjudged cs first number steps e keep why = record { number = number; condition = why.0; is = why.1; refusal = why.2; before = keep }
+
+-- before the first number there is none
+pub none_before : (cs : List ConditionTree) (first : ℕ) → KeepLimit cs first first
+none_before cs first = λ k c low high is. absurd (omega (arith, low, high))
+
+same_number : (k n : ℕ) → n ≤ k → k < n + 1 → k ≡ n
+same_number k n past high = omega (arith, past, high)
+
+-- one more that keeps the limit
+pub keep_more : (cs : List ConditionTree) (first number : ℕ) (w : Sought) → KeepLimit cs first number → IsSoughtAt cs number w → KeepLimit cs first (number + 1)
+keep_more cs first number w keep said = λ k c low high is.
+    ⊎_elim
+    (λ less. keep k c low less is)
+    (λ past. (said c (subst (λ (n : ℕ). nth cs n ≡ Some c) (same_number k number past high) is)).1)
+    (cases_lt k number)
 
 -- an element of a list
 element_at : {X : Type 0} (xs : List X) (i : ℕ) → i < length xs → (x : X) × (x ≡ get_or xs i x)
@@ -56,20 +91,67 @@ taken_there xs place judged old new small true_ before took =
     let is : nth (map condition_tree xs) (place + 1) ≡ Some (condition_tree e.0) = nth-at condition_tree xs place (place + 1) e.0 refl small e.1 in
     taken (map condition_tree xs) (place + 1) (condition_tree e.0) judged old new is (true_ (condition_tree e.0) is) before took
 
--- the part that was proved is the part that was asked for
-pub part_found : (all items : List Condition) (cs : List ConditionTree) (first last count : ℕ) (bytes text : List ℕ) → map condition_tree all ≡ cs → items ≡ all → bytes ≡ text → IsRange first last count → count ≡ length all
-    → ArePartProved count (first - 1) (map condition_tree (take (last - (first - 1)) (drop (first - 1) items))) bytes → IsRange first last (length cs) × ArePartProved (length cs) (first - 1) (in_range first last cs) text
-part_found all items cs first last count bytes text same is_all is_text range is_count proved =
-    let size : count ≡ length cs = is_count ∙ sym (length-map all condition_tree) ∙ ap length same in
-    let many : last - (first - 1) ≡ last + 1 - first = omega (arith, range.low, range.order) in
-    let those : map condition_tree (take (last - (first - 1)) (drop (first - 1) items)) ≡ in_range first last cs =
-    ap (λ (xs : List Condition). map condition_tree (take (last - (first - 1)) (drop (first - 1) xs))) is_all
-    ∙ ap (λ (n : ℕ). map condition_tree (take n (drop (first - 1) all))) many
-    ∙ sym (take-map condition_tree (last + 1 - first) (drop (first - 1) all))
-    ∙ ap (take (last + 1 - first)) (sym (drop-map condition_tree (first - 1) all))
-    ∙ ap (λ (xs : List ConditionTree). take (last + 1 - first) (drop (first - 1) xs)) same in (
-      subst (IsRange first last) size range,
-      subst (λ (n : ℕ). ArePartProved n (first - 1) (in_range first last cs) text) size
-          (subst (λ (t : List ℕ). ArePartProved count (first - 1) (in_range first last cs) t) is_text
-          (subst (λ (xs : List ConditionTree). ArePartProved count (first - 1) xs bytes) those proved)),
-    )
+-- how many conditions there are
+count_same : (all : List Condition) (cs : List ConditionTree) (count : ℕ) → map condition_tree all ≡ cs → count ≡ length all → count ≡ length cs
+count_same all cs count same is_count = is_count ∙ sym (length-map all condition_tree) ∙ ap length same
+
+module _ (all items : List Condition) (cs : List ConditionTree) (first last count : ℕ) (same : map condition_tree all ≡ cs) (is_all : items ≡ all) (range : IsRange first last count) (is_count : count ≡ length all) where
+  -- the part that was looked at is the part that was asked for
+  part_same : map condition_tree (take (last - (first - 1)) (drop (first - 1) items)) ≡ in_range first last cs
+  part_same =
+      let many : last - (first - 1) ≡ last + 1 - first = omega (arith, range.low, range.order) in
+      ap (λ (xs : List Condition). map condition_tree (take (last - (first - 1)) (drop (first - 1) xs))) is_all
+      ∙ ap (λ (n : ℕ). map condition_tree (take n (drop (first - 1) all))) many
+      ∙ sym (take-map condition_tree (last + 1 - first) (drop (first - 1) all))
+      ∙ ap (take (last + 1 - first)) (sym (drop-map condition_tree (first - 1) all))
+      ∙ ap (λ (xs : List ConditionTree). take (last + 1 - first) (drop (first - 1) xs)) same
+
+  -- there are conditions of the numbers that were asked for
+  pub range_same : IsRange first last (length cs)
+  range_same = subst (IsRange first last) (count_same all cs count same is_count) range
+
+  -- it was proved
+  pub part_found : (bytes text : List ℕ) → bytes ≡ text → ArePartProved count (first - 1) (map condition_tree (take (last - (first - 1)) (drop (first - 1) items))) bytes → IsRange first last (length cs) × ArePartProved (length cs) (first - 1) (in_range first last cs) text
+  part_found bytes text is_text proved = (
+    range_same,
+    subst (λ (n : ℕ). ArePartProved n (first - 1) (in_range first last cs) text) (count_same all cs count same is_count)
+        (subst (λ (t : List ℕ). ArePartProved count (first - 1) (in_range first last cs) t) is_text
+        (subst (λ (xs : List ConditionTree). ArePartProved count (first - 1) xs bytes) part_same proved)),
+  )
+
+  -- or its proofs are refused
+  pub part_refused : (bytes : List ℕ) (e : Refusal) → IsPartRefusal count (first - 1) (map condition_tree (take (last - (first - 1)) (drop (first - 1) items))) bytes e → IsPartRefusal (length cs) (first - 1) (in_range first last cs) bytes e
+  part_refused bytes e why =
+      subst (λ (n : ℕ). IsPartRefusal n (first - 1) (in_range first last cs) bytes e) (count_same all cs count same is_count)
+      (subst (λ (xs : List ConditionTree). IsPartRefusal count (first - 1) xs bytes e) part_same why)
+
+-- a search of all conditions is refused
+pub all_refused : (xs : List Condition) (cs : List ConditionTree) (steps : ℕ) (e : Refusal) → map condition_tree xs ≡ cs → ((e ≡ no_memory) ⊎ IsFirstUnjudged (map condition_tree xs) 1 steps e) → IsSearchRefusal cs steps e
+all_refused xs cs steps e same (inl why) = inl why
+all_refused xs cs steps e same (inr why) = inr (inl (subst (λ (ds : List ConditionTree). IsFirstUnjudged ds 1 steps e) same why))
+
+-- what it found is refused
+pub found_refused : (xs : List Condition) (cs : List ConditionTree) (steps : ℕ) (bytes : List ℕ) (e : Refusal) → map condition_tree xs ≡ cs → IsProofsRefusal (map condition_tree xs) bytes e → IsSearchRefusal cs steps e
+found_refused xs cs steps bytes e same why = inr (inr (bytes, subst (λ (ds : List ConditionTree). IsProofsRefusal ds bytes e) same why))
+
+-- a range of which there is no condition
+pub range_refused : (xs : List Condition) (cs : List ConditionTree) (first last steps count : ℕ) (e : Refusal) → map condition_tree xs ≡ cs → count ≡ length xs → (IsRange first last count → ⊥) → e ≡ refused_in UnknownCondition Derivation (the_condition (outside first last count)) → IsPartSearchRefusal cs first last steps e
+range_refused xs cs first last steps count e same is_count none why =
+    let size = count_same xs cs count same is_count in
+    inr (inl (
+      λ range. none (subst (IsRange first last) (sym size) range),
+      subst (λ (n : ℕ). e ≡ refused_in UnknownCondition Derivation (the_condition (outside first last n))) size why,
+    ))
+
+-- a search of a range is refused
+pub part_unsought : (xs : List Condition) (cs : List ConditionTree) (first last steps from : ℕ) (e : Refusal) → map condition_tree xs ≡ cs → from + 1 ≡ first → IsRange first last (length cs) → ((e ≡ no_memory) ⊎ IsFirstUnjudged (map condition_tree xs) (from + 1) steps e) → IsPartSearchRefusal cs first last steps e
+part_unsought xs cs first last steps from e same is range (inl why) = inl why
+part_unsought xs cs first last steps from e same is range (inr why) =
+    inr (inr (inl (range, subst (λ (n : ℕ). IsFirstUnjudged cs n steps e) is (subst (λ (ds : List ConditionTree). IsFirstUnjudged ds (from + 1) steps e) same why))))
+
+-- what is known of the condition at a place
+pub known_answer : (cs : List ConditionTree) (from place steps : ℕ) (known : List (Option (Result Sought Refusal))) (sought : Result Sought Refusal) → from ≤ place → place - from < length known → AreSought cs from steps known → slice_index_or known (place - from) None ≡ Some sought → IsAnswerAt cs (place + 1) steps sought
+known_answer cs from place steps known sought order small are is =
+    let number : from + (place - from) + 1 ≡ place + 1 = omega (arith, order) in
+    let answer : IfSome (Some sought) (IsAnswerAt cs (from + (place - from) + 1) steps) = subst (λ (o : Option (Result Sought Refusal)). IfSome o (IsAnswerAt cs (from + (place - from) + 1) steps)) is (are (place - from) small) in
+    subst (λ (n : ℕ). IsAnswerAt cs n steps sought) number answer

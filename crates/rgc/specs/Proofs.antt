@@ -1,13 +1,21 @@
--- What a search for proofs of all conditions gives.
-use Rattle.std.specs.Prelude.{◌≡◌, ℕ, ◌+◌, ◌-◌, ◌<◌, ◌≤◌, List, length, take, drop, All, Some, string_bytes}
+-- What a search for proofs of all conditions gives, and why it gives nothing.
+use Rattle.std.specs.Prelude.{◌≡◌, ◌⊎◌, ℕ, ◌+◌, ◌-◌, ◌<◌, ◌≤◌, ◌==◌, ◌||◌, List, length, take, drop, All, Some, nat_lt, if◌then◌else◌, string_bytes}
+use Rattle.rg_words.specs.declared.limits.TheConstants.{MOST_VARIABLES}
+use Rattle.rg_words.specs.declared.refusal.Refusal.{Refusal}
+use Rattle.rg_words.specs.declared.refusal.RefusalNumber.TheVariants.{UnknownCondition}
+use Rattle.rg_words.specs.declared.refusal.SourceFile.TheVariants.{Derivation}
+use Rattle.rg_words.specs.declared.refusal.Place.TheVariants.{Condition}
+use Rattle.rg_words.specs.Refusals.{no_memory, refused_in}
 use Rattle.rg_tree.specs.ConditionTrees.{ConditionTree}
 use Rattle.rg_tree.specs.Lines.{LineTree}
 use Rattle.rg_tree.specs.Statements.{ProgramTree}
 use Rattle.rg_tree.specs.Programs.{nth}
-use Rattle.rg_find.specs.Judged.{IsJudged}
-use Rattle.rg_hints.specs.Proved.{AreProved}
-use Rattle.rg_pool.specs.Parts.{ArePartProved}
+use Rattle.rg_clauses.specs.Conditions.{clauses_of_condition}
+use Rattle.rg_find.specs.Judged.{IsJudged, IsJudgeRefusal}
+use Rattle.rg_hints.specs.Proved.{AreProved, IsProofsRefusal}
+use Rattle.rg_pool.specs.Parts.{ArePartProved, IsPartRefusal}
 use Rattle.rg_accept.specs.Accepted.{conditions_of}
+use Rattle.rgc.specs.Chosen.{AreDerived, IsDeriveRefusal}
 use Rattle.rgc.specs.declared.proofs_found.Unproved.{Unproved}
 use Rattle.rgc.specs.declared.proofs_found.ProofsFound.{ProofsFound}
 use Rattle.rgc.specs.declared.proofs_found.ProofsFound.TheVariants.{Proofs, Failures}
@@ -41,3 +49,44 @@ ArePartFoundFor p lines first last (Proofs text) =
     IsRange first last (length (conditions_of p lines))
     × ArePartProved (length (conditions_of p lines)) (first - 1) (in_range first last (conditions_of p lines)) (string_bytes text)
 ArePartFoundFor p lines first last (Failures told) = All (IsUnproved (conditions_of p lines)) told.items
+
+-- the conditions with numbers from one on and before another keep the limit of variables
+abbrev pub KeepLimit : List ConditionTree → ℕ → ℕ → Type 0
+KeepLimit conditions first number = (k : ℕ) (c : ConditionTree) → first ≤ k → k < number → nth conditions k ≡ Some c → (clauses_of_condition c).variables ≤ MOST_VARIABLES
+
+-- the first condition from one number on that isn't judged: it has too many variables, or too many decisions are asked for, or memory was refused
+pub record IsFirstUnjudged (conditions : List ConditionTree) (first steps : ℕ) (e : Refusal) : Type 0 where
+  pub number : ℕ
+  pub condition : ConditionTree
+  pub is : nth conditions number ≡ Some condition
+  pub refusal : IsJudgeRefusal condition Derivation number steps e
+  pub before : KeepLimit conditions first number
+
+-- why a search for proofs of conditions says nothing: for want of memory; or of the first that isn't judged; or the proofs that it found are refused,
+-- which are checked before they are given
+abbrev pub IsSearchRefusal : List ConditionTree → ℕ → Refusal → Type 0
+IsSearchRefusal conditions steps e =
+    (e ≡ no_memory) ⊎ IsFirstUnjudged conditions 1 steps e ⊎ ((proofs : List ℕ) × IsProofsRefusal conditions proofs e)
+
+-- the number of a range of which there is no condition
+abbrev pub outside : ℕ → ℕ → ℕ → ℕ
+outside first last count = if first == 0 || nat_lt count first then first else last
+
+-- the same of a range, which may be none
+abbrev pub IsPartSearchRefusal : List ConditionTree → ℕ → ℕ → ℕ → Refusal → Type 0
+IsPartSearchRefusal conditions first last steps e =
+    (e ≡ no_memory)
+    ⊎ ((IsRange first last (length conditions) → ⊥) × (e ≡ refused_in UnknownCondition Derivation (Condition (outside first last (length conditions)))))
+    ⊎ (IsRange first last (length conditions) × IsFirstUnjudged conditions first steps e)
+    ⊎ ((proofs : List ℕ) × IsPartRefusal (length conditions) (first - 1) (in_range first last conditions) proofs e)
+
+-- the first fault over both files and the search: of the text, then of the derivation of its program, then of the search
+abbrev pub IsProveRefusal : List ℕ → List ℕ → ℕ → Refusal → Type 0
+IsProveRefusal text derivation steps e =
+    IsDeriveRefusal text derivation e
+    ⊎ ((program : ProgramTree) × (lines : List LineTree) × AreDerived text derivation program lines × IsSearchRefusal (conditions_of program lines) steps e)
+
+abbrev pub IsProvePartRefusal : List ℕ → List ℕ → ℕ → ℕ → ℕ → Refusal → Type 0
+IsProvePartRefusal text derivation first last steps e =
+    IsDeriveRefusal text derivation e
+    ⊎ ((program : ProgramTree) × (lines : List LineTree) × AreDerived text derivation program lines × IsPartSearchRefusal (conditions_of program lines) first last steps e)

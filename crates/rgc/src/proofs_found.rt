@@ -1,9 +1,14 @@
 //! A whole proofs file, found by a search for each condition.
 
-ghost use Rattle.std.specs.Prelude.{◌≡◌, ◌+◌, ◌<◌, ◌≤◌, ◌^◌, length, All, map, IsOk, IfOk, IfSome, OnOk};
+ghost use Rattle.std.specs.Prelude.{◌≡◌, ◌⊎◌, ◌+◌, ◌<◌, ◌≤◌, ◌^◌, length, All, map, IsOk, IfOk, IfErr, IfSome, OnOk};
+ghost use Rattle.rg_words.specs.declared.refusal.RefusalNumber.TheVariants.{UnknownCondition};
+ghost use Rattle.rg_words.specs.declared.refusal.SourceFile.TheVariants.{Derivation};
+ghost use Rattle.rg_words.specs.declared.refusal.Place.TheVariants.{Condition as the_condition};
+ghost use Rattle.rg_words.specs.Refusals.{no_memory, refused_in};
 ghost use Rattle.rg_tree.specs.Conditions.{condition_tree};
-ghost use Rattle.rgc.specs.Proofs.{AreFoundFor, ArePartFoundFor, IsRange, IsUnproved};
-ghost use Rattle.rgc.specs.Inner.Search.{Takes, IsSoughtAt, AreSought};
+ghost use Rattle.rgc.specs.Proofs.{AreFoundFor, ArePartFoundFor, IsRange, IsUnproved, IsFirstUnjudged, IsSearchRefusal, IsPartSearchRefusal, outside};
+ghost use Rattle.rgc.specs.Inner.Search.{Takes, IsAnswerAt, AreSought};
+ghost use Rattle.rg_accept.specs.Accepted.{conditions_of};
 ghost use Rattle.rg_accept.specs.Stages.{derived_program, derived_lines};
 
 use crate::failures::failure_text;
@@ -28,7 +33,9 @@ pub struct Unproved {
 }
 
 /// The section of a condition of this number.
-fn section_of(alloc: Global, number: usize, lines: &Lines) -> Result<String, Refusal> {
+fn section_of(alloc: Global, number: usize, lines: &Lines) -> Result<String, Refusal>
+    ensures { IfErr result (λ e. e ≡ no_memory) }
+{
     let mut section = format!(in alloc; "section {number}\n")?;
     let text = lines.text(alloc)?;
     section.push_str(&text)?;
@@ -36,7 +43,7 @@ fn section_of(alloc: Global, number: usize, lines: &Lines) -> Result<String, Ref
 }
 
 /// Adds a section, if it fits into a proofs file behind those before; whether it does.
-fn add_section(sections: &mut String, section: &str) -> Result<bool, Refusal> {
+fn add_section(sections: &mut String, section: &str) -> Result<bool, AllocError> {
     let room = MOST_PROOF_BYTES.saturating_sub(sections.len());
     if section.len() > room {
         return Ok(false);
@@ -54,7 +61,8 @@ struct Sought {
 
 /// What a search says of the condition of this number, with the text of its section.
 fn with_section(alloc: Global, number: usize, judged: Judged) -> Result<Sought, Refusal>
-    ensures { IfOk result (λ w. w.judged ≡ judged) }
+    ensures judged { IfOk result (λ w. w.judged ≡ judged) }
+    ensures memory { IfErr result (λ e. e ≡ no_memory) }
 {
     let mut section = String::new(alloc);
     if let Judged::Holds(lines) = &judged {
@@ -74,12 +82,36 @@ fn seek<P: Watcher>(
     watcher: &mut P,
 ) -> Result<Sought, Refusal>
     requires { place < length conditions.now }
-    ensures { IfOk result (IsSoughtAt (map condition_tree conditions.now) (place + 1)) }
+    ensures { IsAnswerAt (map condition_tree conditions.now) (place + 1) steps result }
 {
     let file = SourceFile::Derivation;
     let number = place as u64 + 1;
-    let judged = judge(alloc, &conditions[place], file, number, steps, watcher)?;
-    with_section(alloc, place + 1, judged)
+    match judge(alloc, &conditions[place], file, number, steps, watcher) {
+        Ok(judged) => with_section(alloc, place + 1, judged),
+        Err(refusal) => Err(refusal),
+    }
+}
+
+/// Fewer conditions, over words of fewer bits, are looked at in the thread that asks: to start others takes longer.
+const FEW_CONDITIONS: usize = 24;
+
+const FEW_BITS: u64 = 8;
+
+/// How many bits the words have together.
+fn bits_of(words: &Layout) -> u64 {
+    let mut bits = 0_u64;
+    for word in 0..words.len() {
+        bits = bits.saturating_add(u64::from(words.width(word)));
+    }
+    bits
+}
+
+/// In how many threads so many conditions over these words are looked at, of at most so many.
+fn suiting(words: &Layout, count: usize, threads: usize) -> usize {
+    if count < FEW_CONDITIONS && bits_of(words) < FEW_BITS {
+        return threads.min(1);
+    }
+    threads
 }
 
 /// What searches found.
@@ -93,7 +125,7 @@ struct Search {
 
 impl Search {
     /// Takes what a search says of the condition of this number.
-    fn take(&mut self, number: usize, sought: Sought) -> Result<(), Refusal>
+    fn take(&mut self, number: usize, sought: Sought) -> Result<(), AllocError>
         ensures { OnOk result (Takes number sought.judged self.old.unproved.items self.new.unproved.items) }
     {
         let Sought { judged, section } = sought;
@@ -119,14 +151,18 @@ fn search_all<P: Watcher>(
     watcher: &mut P,
 ) -> Result<Search, Refusal>
     // What is told of a condition for which no lines were found is true of it.
-    ensures { IfOk result (λ s. All (IsUnproved (map condition_tree conditions.now)) s.unproved.items) }
+    ensures told { IfOk result (λ s. All (IsUnproved (map condition_tree conditions.now)) s.unproved.items) }
+    ensures refused { IfErr result (λ e. (e ≡ no_memory) ⊎ IsFirstUnjudged (map condition_tree conditions.now) 1 steps e) }
 {
     let mut found = Search {
         sections: String::new(alloc),
         unproved: Vec::new(alloc),
     };
     for place in 0..conditions.len() {
-        let sought = seek(alloc, conditions, place, steps, watcher)?;
+        let sought = match seek(alloc, conditions, place, steps, watcher) {
+            Ok(sought) => sought,
+            Err(refusal) => return Err(refusal),
+        };
         let number = place + 1;
         found.take(number, sought)?;
     }
@@ -143,7 +179,7 @@ fn judge_one<P: Watcher + Copy>(
     refused: &AtomicBool,
 ) -> Option<Result<Sought, Refusal>>
     requires { place < length conditions.now }
-    ensures { IfSome result (λ r. IfOk r (IsSoughtAt (map condition_tree conditions.now) (place + 1))) }
+    ensures { IfSome result (IsAnswerAt (map condition_tree conditions.now) (place + 1) steps) }
 {
     if refused.load(Ordering::SeqCst) {
         return None;
@@ -169,7 +205,7 @@ fn judge_some<R: Threads + Sync, P: Watcher + Copy + Sync>(
     watcher: &P,
 ) -> Result<Vec<Option<Result<Sought, Refusal>>>, AllocError>
     requires { from + count ≤ length conditions.now }
-    ensures { IfOk result (λ known. AreSought (map condition_tree conditions.now) from known.items) }
+    ensures { IfOk result (λ known. AreSought (map condition_tree conditions.now) from steps known.items) }
 {
     if threads < 2 {
         return Ok(Vec::new(alloc));
@@ -183,7 +219,7 @@ fn judge_some<R: Threads + Sync, P: Watcher + Copy + Sync>(
         count,
         &|index: usize| -> Option<Result<Sought, Refusal>>
             requires { (from + index < length conditions.now) × (length conditions.now < 2 ^ 64) }
-            ensures { IfSome result (λ r. IfOk r (IsSoughtAt (map condition_tree conditions.entry.now) (from + index + 1))) }
+            ensures { IfSome result (IsAnswerAt (map condition_tree conditions.entry.now) (from + index + 1) steps) }
         { judge_one(alloc, conditions, from + index, steps, watcher, told) },
     )
 }
@@ -200,9 +236,9 @@ fn judged_at<P: Watcher + Copy>(
 ) -> Result<Sought, Refusal>
     requires place { place < length conditions.now }
     requires from { from ≤ place }
-    requires known { AreSought (map condition_tree conditions.now) from known.old }
-    ensures judged { IfOk result (IsSoughtAt (map condition_tree conditions.now) (place + 1)) }
-    ensures known { AreSought (map condition_tree conditions.now) from known.new }
+    requires known { AreSought (map condition_tree conditions.now) from steps known.old }
+    ensures answer { IsAnswerAt (map condition_tree conditions.now) (place + 1) steps result }
+    ensures known { AreSought (map condition_tree conditions.now) from steps known.new }
 {
     let index = place - from;
     if index < known.len() {
@@ -228,7 +264,8 @@ fn search_in<R: Threads + Sync, P: Watcher + Copy + Sync>(
     requires order { from ≤ to }
     requires bound { to ≤ length conditions.now }
     // What is told of a condition for which no lines were found is true of it.
-    ensures { IfOk result (λ s. All (IsUnproved (map condition_tree conditions.now)) s.unproved.items) }
+    ensures told { IfOk result (λ s. All (IsUnproved (map condition_tree conditions.now)) s.unproved.items) }
+    ensures refused { IfErr result (λ e. (e ≡ no_memory) ⊎ IsFirstUnjudged (map condition_tree conditions.now) (from + 1) steps e) }
 {
     let mut known = judge_some(
         rt,
@@ -246,7 +283,10 @@ fn search_in<R: Threads + Sync, P: Watcher + Copy + Sync>(
     };
     let told = known.as_mut_slice();
     for place in from..to {
-        let sought = judged_at(alloc, conditions, told, from, place, steps, watcher)?;
+        let sought = match judged_at(alloc, conditions, told, from, place, steps, watcher) {
+            Ok(sought) => sought,
+            Err(refusal) => return Err(refusal),
+        };
         found.take(place + 1, sought)?;
     }
     Ok(found)
@@ -274,16 +314,22 @@ pub fn find_proofs<P: Watcher>(
     watcher: &mut P,
 ) -> Result<ProofsFound, Refusal>
     // What is given proves all conditions: it is checked before it is given. What is told of a condition without a proof is true of it.
-    ensures { IfOk result (AreFoundFor (derived_program derived.now) (derived_lines derived.now)) }
+    ensures found { IfOk result (AreFoundFor (derived_program derived.now) (derived_lines derived.now)) }
+    ensures refused { IfErr result (IsSearchRefusal (conditions_of (derived_program derived.now) (derived_lines derived.now)) steps) }
 {
     let conditions = derived.conditions(alloc)?;
-    let found = search_all(alloc, conditions.as_slice(), steps, watcher)?;
+    let found = match search_all(alloc, conditions.as_slice(), steps, watcher) {
+        Ok(found) => found,
+        Err(refusal) => return Err(refusal),
+    };
     let Search { sections, unproved } = found;
     if !unproved.is_empty() {
         return Ok(ProofsFound::Failures(unproved));
     }
-    prove(alloc, conditions.as_slice(), sections.as_bytes())?;
-    Ok(ProofsFound::Proofs(sections))
+    match prove(alloc, conditions.as_slice(), sections.as_bytes()) {
+        Ok(()) => Ok(ProofsFound::Proofs(sections)),
+        Err(refusal) => Err(refusal),
+    }
 }
 
 /// The same, where the conditions are looked at side by side in at most so many threads; with fewer than two threads, in
@@ -302,38 +348,32 @@ pub fn find_proofs_all<R: Threads + Sync, P: Watcher + Copy + Sync>(
     watcher: &P,
 ) -> Result<ProofsFound, Refusal>
     // What is given proves all conditions: it is checked before it is given. What is told of a condition without a proof is true of it.
-    ensures { IfOk result (AreFoundFor (derived_program derived.now) (derived_lines derived.now)) }
+    ensures found { IfOk result (AreFoundFor (derived_program derived.now) (derived_lines derived.now)) }
+    ensures refused { IfErr result (IsSearchRefusal (conditions_of (derived_program derived.now) (derived_lines derived.now)) steps) }
 {
     let conditions = derived.conditions_by(&InThreads { rt, threads }, alloc)?;
     let count = conditions.len();
-    let found = search_in(
-        rt,
-        alloc,
-        threads,
-        conditions.as_slice(),
-        0,
-        count,
-        steps,
-        watcher,
-    )?;
+    let suited = suiting(&derived.program().layout, count, threads);
+    let all = conditions.as_slice();
+    let found = match search_in(rt, alloc, suited, all, 0, count, steps, watcher) {
+        Ok(found) => found,
+        Err(refusal) => return Err(refusal),
+    };
     let Search { sections, unproved } = found;
     if !unproved.is_empty() {
         return Ok(ProofsFound::Failures(unproved));
     }
-    prove_all(
-        rt,
-        alloc,
-        threads,
-        conditions.as_slice(),
-        sections.as_bytes(),
-    )?;
-    Ok(ProofsFound::Proofs(sections))
+    match prove_all(rt, alloc, threads, all, sections.as_bytes()) {
+        Ok(()) => Ok(ProofsFound::Proofs(sections)),
+        Err(refusal) => Err(refusal),
+    }
 }
 
 /// Whether there are conditions of these numbers, from 1; refused at the first number of which there is none.
 fn check_range(first: u64, last: u64, count: usize) -> Result<(), Refusal>
     ensures range { OnOk result (IsRange first last count) }
     ensures accepts { IsRange first last count → IsOk result }
+    ensures refused { IfErr result (λ e. e ≡ refused_in UnknownCondition Derivation (the_condition (outside first last count))) }
 {
     let fault = if first == 0 || first > count as u64 {
         first
@@ -369,29 +409,31 @@ pub fn find_part<R: Threads + Sync, P: Watcher + Copy + Sync>(
     watcher: &P,
 ) -> Result<ProofsFound, Refusal>
     // What is given proves these conditions: it is checked before it is given. What is told of a condition without a proof is true of it.
-    ensures { IfOk result (ArePartFoundFor (derived_program derived.now) (derived_lines derived.now) first last) }
+    ensures found { IfOk result (ArePartFoundFor (derived_program derived.now) (derived_lines derived.now) first last) }
+    ensures refused { IfErr result (IsPartSearchRefusal (conditions_of (derived_program derived.now) (derived_lines derived.now)) first last steps) }
 {
     let conditions = derived.conditions_by(&InThreads { rt, threads }, alloc)?;
     let count = conditions.len();
-    check_range(first, last, count)?;
+    match check_range(first, last, count) {
+        Ok(()) => {}
+        Err(refusal) => return Err(refusal),
+    }
     let (from, to) = ((first - 1) as usize, last as usize);
-    let found = search_in(
-        rt,
-        alloc,
-        threads,
-        conditions.as_slice(),
-        from,
-        to,
-        steps,
-        watcher,
-    )?;
+    let suited = suiting(&derived.program().layout, to - from, threads);
+    let all = conditions.as_slice();
+    let found = match search_in(rt, alloc, suited, all, from, to, steps, watcher) {
+        Ok(found) => found,
+        Err(refusal) => return Err(refusal),
+    };
     let Search { sections, unproved } = found;
     if !unproved.is_empty() {
         return Ok(ProofsFound::Failures(unproved));
     }
-    let part = &conditions.as_slice()[from..to];
-    prove_part(rt, alloc, threads, count, from, part, sections.as_bytes())?;
-    Ok(ProofsFound::Proofs(sections))
+    let part = &all[from..to];
+    match prove_part(rt, alloc, threads, count, from, part, sections.as_bytes()) {
+        Ok(()) => Ok(ProofsFound::Proofs(sections)),
+        Err(refusal) => Err(refusal),
+    }
 }
 
 /// What is told of a condition that isn't proved, behind its name.

@@ -1,7 +1,8 @@
 //! The challenge of an outline, from its bytes to what is printed.
 
-ghost use Rattle.std.specs.Prelude.{◌≡◌, All, IfOk, OnOk};
+ghost use Rattle.std.specs.Prelude.{◌≡◌, All, IfOk, IfErr, OnOk};
 ghost use Rattle.rg_words.specs.Written.{CanCount};
+ghost use Rattle.rgc_walked.specs.NoVerdicts.{IsNoVerdict};
 ghost use Rattle.rgc_challenge.specs.Changed.{IsAnswered};
 
 use crate::answers::{Answer, Answered, Subject, answers_of};
@@ -214,6 +215,8 @@ pub fn challenge<R: Threads + Sync, W: Out, P: Watcher + Copy + Sync>(
     // its text's program doesn't satisfy it.
     ensures answers { IfOk result (λ answers. All IsAnswered answers.items) }
     ensures failures { OnOk result (W.failures out.new ≡ W.failures out.old) }
+    // Where it is refused, nothing went out, unless the writer failed; of why files are refused nothing is said.
+    ensures stopped { IfErr result (IsNoVerdict (λ _. Unit {0}) (W.contents out.old) (W.contents out.new) (W.failures out.old) (W.failures out.new)) }
 {
     let outline = OutlineSource {
         name,

@@ -1,11 +1,13 @@
 //! The conditions of a derivation as texts to show.
 
-ghost use Rattle.std.specs.Prelude.{◌≡◌, ◌<◌, ◌++◌, [], false, length, map, slice_index, slice_index_or, string_bytes, codes, IfOk, OnOk};
+ghost use Rattle.std.specs.Prelude.{◌≡◌, ◌<◌, ◌++◌, [], false, length, map, slice_index, slice_index_or, string_bytes, codes, IfOk, IfErr, OnOk};
 ghost use Rattle.std.specs.Io.KnownBytes.{Appends};
 ghost use Rattle.rg_words.specs.Layout.{names_of, widths_of, fixed_of};
 ghost use Rattle.rg_words.specs.Written.{CanCount};
+ghost use Rattle.rg_words.specs.Stopped.{IsFailure, IsStopped};
 ghost use Rattle.rg_tree.specs.Conditions.{condition_tree};
 ghost use Rattle.rg_accept.specs.Stages.{derived_program, derived_lines};
+ghost use Rattle.rgc.specs.Chosen.{IsDeriveRefusal};
 ghost use Rattle.rgc_formulas.specs.Blocks.{fixed_text, word_text, words_text, shown_text, block_text, blocks_text, formulas_text};
 ghost use Rattle.rgc_formulas.specs.Printed.{HasPrintedFormulas};
 
@@ -74,6 +76,7 @@ fn write_blocks<W: Out>(
     requires { CanCount (W.failures out.old) }
     ensures printed { OnOk result (Appends (W.contents out.old) (W.contents out.new) (blocks_text 1 (map string_bytes names.now) (map condition_tree conditions.now))) }
     ensures failures { OnOk result (W.failures out.new ≡ W.failures out.old) }
+    ensures stopped { IfErr result (IsFailure (W.failures out.old) (W.failures out.new)) }
 {
     let count = names.len().min(conditions.len());
     for i in 0..count {
@@ -88,6 +91,7 @@ fn write_formulas<W: Out>(alloc: Global, derived: &Derived, out: &mut W) -> Resu
     requires { CanCount (W.failures out.old) }
     ensures printed { OnOk result (Appends (W.contents out.old) (W.contents out.new) (formulas_text (derived_program derived.now) (derived_lines derived.now))) }
     ensures failures { OnOk result (W.failures out.new ≡ W.failures out.old) }
+    ensures stopped { IfErr result (IsFailure (W.failures out.old) (W.failures out.new)) }
 {
     let names = derived.names(alloc)?;
     let conditions = derived.conditions(alloc)?;
@@ -109,6 +113,7 @@ pub fn print_formulas<W: Out>(
     requires { CanCount (W.failures out.old) }
     ensures printed { OnOk result (HasPrintedFormulas text.now derivation.now (W.contents out.old) (W.contents out.new)) }
     ensures failures { OnOk result (W.failures out.new ≡ W.failures out.old) }
+    ensures stopped { IfErr result (IsStopped (IsDeriveRefusal text.now derivation.now) (W.contents out.old) (W.contents out.new) (W.failures out.old) (W.failures out.new)) }
 {
     let derived = derive_program(alloc, text, derivation)?;
     write_formulas(alloc, &derived, out)

@@ -1,8 +1,9 @@
 //! The pre of a program and the conditions of its derivation, a line each.
 
-ghost use Rattle.std.specs.Prelude.{◌≡◌, [], map, string_bytes, IfOk, OnOk};
+ghost use Rattle.std.specs.Prelude.{◌≡◌, [], map, string_bytes, IfOk, IfErr, OnOk};
 ghost use Rattle.std.specs.Io.KnownBytes.{Appends};
 ghost use Rattle.rg_words.specs.Written.{CanCount};
+ghost use Rattle.rg_words.specs.Stopped.{IsFailure};
 ghost use Rattle.rg_tree.specs.ProgramTrees.{program as program_tree};
 ghost use Rattle.rg_tree.specs.Printed.{formula_text};
 ghost use Rattle.serde_json.specs.View.{view};
@@ -41,6 +42,7 @@ fn write_pre_text<W: Out>(alloc: Global, text: &str, out: &mut W) -> Result<(), 
     requires { CanCount (W.failures out.old) }
     ensures printed { OnOk result (Appends (W.contents out.old) (W.contents out.new) (json_line (pre_data text.now))) }
     ensures failures { OnOk result (W.failures out.new ≡ W.failures out.old) }
+    ensures stopped { IfErr result (IsFailure (W.failures out.old) (W.failures out.new)) }
 {
     let value = pre_value(alloc, text)?;
     write_value(alloc, &value, out)
@@ -51,6 +53,7 @@ fn write_pre<W: Out>(alloc: Global, program: &Program, out: &mut W) -> Result<()
     requires { CanCount (W.failures out.old) }
     ensures printed { OnOk result (Appends (W.contents out.old) (W.contents out.new) (json_line (pre_data (formula_text program.now.layout (program_tree program.now).spec.pre [])))) }
     ensures failures { OnOk result (W.failures out.new ≡ W.failures out.old) }
+    ensures stopped { IfErr result (IsFailure (W.failures out.old) (W.failures out.new)) }
 {
     let text = pre_text(alloc, program)?;
     write_pre_text(alloc, &text, out)
@@ -73,6 +76,7 @@ fn write_condition<W: Out>(
     requires { CanCount (W.failures out.old) }
     ensures printed { OnOk result (Appends (W.contents out.old) (W.contents out.new) (json_line (condition_data number name.now))) }
     ensures failures { OnOk result (W.failures out.new ≡ W.failures out.old) }
+    ensures stopped { IfErr result (IsFailure (W.failures out.old) (W.failures out.new)) }
 {
     let value = condition_value(alloc, number, name)?;
     write_value(alloc, &value, out)
@@ -83,6 +87,7 @@ fn write_names<W: Out>(alloc: Global, names: &[String], out: &mut W) -> Result<(
     requires { CanCount (W.failures out.old) }
     ensures printed { OnOk result (Appends (W.contents out.old) (W.contents out.new) (condition_lines 1 (map string_bytes names.now))) }
     ensures failures { OnOk result (W.failures out.new ≡ W.failures out.old) }
+    ensures stopped { IfErr result (IsFailure (W.failures out.old) (W.failures out.new)) }
 {
     for (i, name) in names.iter().enumerate() {
         write_condition(alloc, i + 1, name, out)?;
@@ -99,6 +104,7 @@ pub(crate) fn write_conditions<W: Out>(
     requires { CanCount (W.failures out.old) }
     ensures printed { OnOk result (Appends (W.contents out.old) (W.contents out.new) (conditions_json (derived_program derived.now) (derived_lines derived.now))) }
     ensures failures { OnOk result (W.failures out.new ≡ W.failures out.old) }
+    ensures stopped { IfErr result (IsFailure (W.failures out.old) (W.failures out.new)) }
 {
     let names = derived.names(alloc)?;
     write_pre(alloc, derived.program(), out)?;

@@ -3,6 +3,7 @@
 ghost use Rattle.std.specs.Prelude.{◌≡◌, false, string_bytes, IfOk, OnOk, IfErr};
 ghost use Rattle.std.specs.Io.KnownBytes.{Appends};
 ghost use Rattle.rg_words.specs.Written.{CanCount};
+ghost use Rattle.rg_words.specs.Stopped.{IsFailure};
 ghost use Rattle.serde_json.specs.View.{view};
 ghost use Rattle.serde_json.specs.Written.{has_float};
 ghost use Rattle.rgc_json.specs.Lines.{json_line};
@@ -26,6 +27,7 @@ pub(crate) fn write_value<W: Out>(alloc: Global, value: &Value, out: &mut W) -> 
     requires exact { has_float (view value.now) ≡ false }
     ensures printed { OnOk result (Appends (W.contents out.old) (W.contents out.new) (json_line (view value.now))) }
     ensures failures { OnOk result (W.failures out.new ≡ W.failures out.old) }
+    ensures stopped { IfErr result (IsFailure (W.failures out.old) (W.failures out.new)) }
 {
     let line = line_of(alloc, value)?;
     write_all(out, line.as_bytes())?;

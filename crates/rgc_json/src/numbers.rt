@@ -1,8 +1,9 @@
 //! The statements of a program with their numbers, a line each.
 
-ghost use Rattle.std.specs.Prelude.{◌≡◌, map, IfOk, OnOk};
+ghost use Rattle.std.specs.Prelude.{◌≡◌, map, IfOk, IfErr, OnOk};
 ghost use Rattle.std.specs.Io.KnownBytes.{Appends};
 ghost use Rattle.rg_words.specs.Written.{CanCount};
+ghost use Rattle.rg_words.specs.Stopped.{IsFailure};
 ghost use Rattle.rg_tree.specs.ProgramView.{part};
 ghost use Rattle.serde_json.specs.View.{view};
 ghost use Rattle.rgc_print.specs.Numbers.{part_name};
@@ -42,6 +43,7 @@ fn write_statement<W: Out>(
     requires { CanCount (W.failures out.old) }
     ensures printed { OnOk result (Appends (W.contents out.old) (W.contents out.new) (json_line (statement_data name.now statement.now))) }
     ensures failures { OnOk result (W.failures out.new ≡ W.failures out.old) }
+    ensures stopped { IfErr result (IsFailure (W.failures out.old) (W.failures out.new)) }
 {
     let value = statement_value(alloc, name, statement)?;
     write_value(alloc, &value, out)
@@ -57,6 +59,7 @@ fn write_statements<W: Out>(
     requires { CanCount (W.failures out.old) }
     ensures printed { OnOk result (Appends (W.contents out.old) (W.contents out.new) (statement_lines (map part parts.now) statements.now)) }
     ensures failures { OnOk result (W.failures out.new ≡ W.failures out.old) }
+    ensures stopped { IfErr result (IsFailure (W.failures out.old) (W.failures out.new)) }
 {
     for statement in statements {
         let name = part_name(parts, statement.part);
@@ -75,6 +78,7 @@ pub(crate) fn write_numbers<W: Out>(
     requires { CanCount (W.failures out.old) }
     ensures printed { OnOk result (Appends (W.contents out.old) (W.contents out.new) (numbers_json (map part program.now.parts.items))) }
     ensures failures { OnOk result (W.failures out.new ≡ W.failures out.old) }
+    ensures stopped { IfErr result (IsFailure (W.failures out.old) (W.failures out.new)) }
 {
     let statements = program.numbered(alloc)?;
     write_statements(alloc, &program.parts, &statements, out)

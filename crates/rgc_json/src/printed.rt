@@ -1,9 +1,14 @@
 //! What each command prints.
 
-ghost use Rattle.std.specs.Prelude.{◌≡◌, IsTrue, false, IfOk, OnOk};
+ghost use Rattle.std.specs.Prelude.{◌≡◌, IsTrue, false, IfOk, IfErr, OnOk};
 ghost use Rattle.std.specs.Io.KnownBytes.{Appends};
 ghost use Rattle.rg_words.specs.Written.{CanCount};
+ghost use Rattle.rg_words.specs.Stopped.{IsFailure, IsStopped};
+ghost use Rattle.rg_parse.specs.Programs.{IsProgramRefusal};
+ghost use Rattle.rg_accept.specs.Accepted.{IsAcceptTextRefusal};
 ghost use Rattle.rg_accept.specs.Stages.{derived_program, derived_lines};
+ghost use Rattle.rgc.specs.Chosen.{IsDeriveRefusal};
+ghost use Rattle.rgc.specs.Proofs.{IsProveRefusal, IsProvePartRefusal};
 ghost use Rattle.rgc_json.specs.Lines.{json_line};
 ghost use Rattle.serde_json.specs.View.{view};
 ghost use Rattle.rgc_json.specs.Inner.Told.{TellsProofs, TellsUnproved, GaveProofs, GavePart, GaveNone};
@@ -35,6 +40,7 @@ fn write_accepted<W: Out>(alloc: Global, out: &mut W) -> Result<(), Refusal>
     requires { CanCount (W.failures out.old) }
     ensures printed { OnOk result (Appends (W.contents out.old) (W.contents out.new) (json_line accepted_data)) }
     ensures failures { OnOk result (W.failures out.new ≡ W.failures out.old) }
+    ensures stopped { IfErr result (IsFailure (W.failures out.old) (W.failures out.new)) }
 {
     let value = accepted_value(alloc)?;
     write_value(alloc, &value, out)
@@ -57,6 +63,7 @@ pub fn print_accepted_json<R: Threads + Sync, W: Out>(
     requires { CanCount (W.failures out.old) }
     ensures printed { OnOk result (HasPrintedAcceptedJson text.now derivation.now proofs.now (W.contents out.old) (W.contents out.new)) }
     ensures failures { OnOk result (W.failures out.new ≡ W.failures out.old) }
+    ensures stopped { IfErr result (IsStopped (IsAcceptTextRefusal text.now derivation.now proofs.now) (W.contents out.old) (W.contents out.new) (W.failures out.old) (W.failures out.new)) }
 {
     accept_all(rt, alloc, threads, text, derivation, proofs)?;
     write_accepted(alloc, out)
@@ -71,6 +78,7 @@ pub fn print_numbers_json<W: Out>(alloc: Global, text: &[u8], out: &mut W) -> Re
     requires { CanCount (W.failures out.old) }
     ensures printed { OnOk result (HasPrintedNumbersJson text.now (W.contents out.old) (W.contents out.new)) }
     ensures failures { OnOk result (W.failures out.new ≡ W.failures out.old) }
+    ensures stopped { IfErr result (IsStopped (IsProgramRefusal text.now) (W.contents out.old) (W.contents out.new) (W.failures out.old) (W.failures out.new)) }
 {
     let parsed = Parsed::read(alloc, text)?;
     write_numbers(alloc, parsed.program(), out)
@@ -90,6 +98,7 @@ pub fn print_conditions_json<W: Out>(
     requires { CanCount (W.failures out.old) }
     ensures printed { OnOk result (HasPrintedConditionsJson text.now derivation.now (W.contents out.old) (W.contents out.new)) }
     ensures failures { OnOk result (W.failures out.new ≡ W.failures out.old) }
+    ensures stopped { IfErr result (IsStopped (IsDeriveRefusal text.now derivation.now) (W.contents out.old) (W.contents out.new) (W.failures out.old) (W.failures out.new)) }
 {
     let derived = derive_program(alloc, text, derivation)?;
     write_conditions(alloc, &derived, out)
@@ -105,6 +114,7 @@ fn tell_unproved<W: Out>(
     requires { CanCount (W.failures out.old) }
     ensures printed { OnOk result (TellsUnproved (derived_program derived.now) (derived_lines derived.now) unproved.now (W.contents out.old) (W.contents out.new)) }
     ensures failures { OnOk result (W.failures out.new ≡ W.failures out.old) }
+    ensures stopped { IfErr result (IsFailure (W.failures out.old) (W.failures out.new)) }
 {
     let names = derived.names(alloc)?;
     let words = &derived.program().layout;
@@ -121,6 +131,7 @@ fn tell_proofs<W: Out>(
     requires { CanCount (W.failures out.old) }
     ensures printed { OnOk result (TellsProofs (derived_program derived.now) (derived_lines derived.now) proofs.now (W.contents out.old) (W.contents out.new)) }
     ensures failures { OnOk result (W.failures out.new ≡ W.failures out.old) }
+    ensures stopped { IfErr result (IsFailure (W.failures out.old) (W.failures out.new)) }
 {
     let conditions = derived.conditions(alloc)?;
     write_proofs(alloc, conditions.len(), proofs, out)
@@ -137,6 +148,7 @@ fn tell_found<W: Out>(
     ensures printed { IfOk result (λ b. IsTrue b → GaveProofs (derived_program derived.now) (derived_lines derived.now) found.now (W.contents out.old) (W.contents out.new)) }
     ensures told { IfOk result (λ b. b ≡ false → GaveNone (derived_program derived.now) (derived_lines derived.now) found.now (W.contents out.old) (W.contents out.new)) }
     ensures failures { OnOk result (W.failures out.new ≡ W.failures out.old) }
+    ensures stopped { IfErr result (IsFailure (W.failures out.old) (W.failures out.new)) }
 {
     match found {
         ProofsFound::Proofs(proofs) => {
@@ -172,6 +184,7 @@ pub fn print_proofs_json<R: Threads + Sync, W: Out, P: Watcher + Copy + Sync>(
     ensures printed { IfOk result (λ b. IsTrue b → HasPrintedProofsJson text.now derivation.now (W.contents out.old) (W.contents out.new)) }
     ensures told { IfOk result (λ b. b ≡ false → HasToldUnprovedJson text.now derivation.now (W.contents out.old) (W.contents out.new)) }
     ensures failures { OnOk result (W.failures out.new ≡ W.failures out.old) }
+    ensures stopped { IfErr result (IsStopped (IsProveRefusal text.now derivation.now steps) (W.contents out.old) (W.contents out.new) (W.failures out.old) (W.failures out.new)) }
 {
     let derived = derive_program_all(rt, alloc, threads, text, derivation)?;
     let found = find_proofs_all(rt, alloc, threads, &derived, steps, watcher)?;
@@ -191,6 +204,7 @@ fn tell_part<W: Out>(
     ensures printed { IfOk result (λ b. IsTrue b → GavePart first last found.now (W.contents out.old) (W.contents out.new)) }
     ensures told { IfOk result (λ b. b ≡ false → GaveNone (derived_program derived.now) (derived_lines derived.now) found.now (W.contents out.old) (W.contents out.new)) }
     ensures failures { OnOk result (W.failures out.new ≡ W.failures out.old) }
+    ensures stopped { IfErr result (IsFailure (W.failures out.old) (W.failures out.new)) }
 {
     match found {
         ProofsFound::Proofs(proofs) => {
@@ -227,6 +241,7 @@ pub fn print_proofs_part_json<R: Threads + Sync, W: Out, P: Watcher + Copy + Syn
     ensures printed { IfOk result (λ b. IsTrue b → HasPrintedPartJson text.now derivation.now first last (W.contents out.old) (W.contents out.new)) }
     ensures told { IfOk result (λ b. b ≡ false → HasToldUnprovedJson text.now derivation.now (W.contents out.old) (W.contents out.new)) }
     ensures failures { OnOk result (W.failures out.new ≡ W.failures out.old) }
+    ensures stopped { IfErr result (IsStopped (IsProvePartRefusal text.now derivation.now first last steps) (W.contents out.old) (W.contents out.new) (W.failures out.old) (W.failures out.new)) }
 {
     let derived = derive_program_all(rt, alloc, threads, text, derivation)?;
     let found = find_part(rt, alloc, threads, &derived, first, last, steps, watcher)?;

@@ -1,8 +1,9 @@
 //! Proofs of conditions, and conditions without a proof, a line each.
 
-ghost use Rattle.std.specs.Prelude.{◌≡◌, map, string_bytes, IfOk, OnOk};
+ghost use Rattle.std.specs.Prelude.{◌≡◌, map, string_bytes, IfOk, IfErr, OnOk};
 ghost use Rattle.std.specs.Io.KnownBytes.{Appends};
 ghost use Rattle.rg_words.specs.Written.{CanCount};
+ghost use Rattle.rg_words.specs.Stopped.{IsFailure};
 ghost use Rattle.serde_json.specs.View.{view, members_view};
 ghost use Rattle.rgc_json.specs.Lines.{json_line};
 ghost use Rattle.rgc_json.specs.Proofs.{proofs_data, part_proofs_data, name_at, why_text, with_pair, with_states, unproved_members, unproved_data, unproved_lines};
@@ -32,6 +33,7 @@ pub(crate) fn write_proofs<W: Out>(
     requires { CanCount (W.failures out.old) }
     ensures printed { OnOk result (Appends (W.contents out.old) (W.contents out.new) (json_line (proofs_data conditions text.now))) }
     ensures failures { OnOk result (W.failures out.new ≡ W.failures out.old) }
+    ensures stopped { IfErr result (IsFailure (W.failures out.old) (W.failures out.new)) }
 {
     let value = proofs_value(alloc, conditions, text)?;
     write_value(alloc, &value, out)
@@ -55,6 +57,7 @@ pub(crate) fn write_part<W: Out>(
     requires { CanCount (W.failures out.old) }
     ensures printed { OnOk result (Appends (W.contents out.old) (W.contents out.new) (json_line (part_proofs_data first last text.now))) }
     ensures failures { OnOk result (W.failures out.new ≡ W.failures out.old) }
+    ensures stopped { IfErr result (IsFailure (W.failures out.old) (W.failures out.new)) }
 {
     let value = part_value(alloc, first, last, text)?;
     write_value(alloc, &value, out)
@@ -151,6 +154,7 @@ fn write_one<W: Out>(
     requires { CanCount (W.failures out.old) }
     ensures printed { OnOk result (Appends (W.contents out.old) (W.contents out.new) (json_line (unproved_data words.now name.now unproved.now))) }
     ensures failures { OnOk result (W.failures out.new ≡ W.failures out.old) }
+    ensures stopped { IfErr result (IsFailure (W.failures out.old) (W.failures out.new)) }
 {
     let value = unproved_value(alloc, words, name, unproved)?;
     write_value(alloc, &value, out)
@@ -177,6 +181,7 @@ pub(crate) fn write_unproved<W: Out>(
     requires { CanCount (W.failures out.old) }
     ensures printed { OnOk result (Appends (W.contents out.old) (W.contents out.new) (unproved_lines words.now (map string_bytes names.now) unproved.now)) }
     ensures failures { OnOk result (W.failures out.new ≡ W.failures out.old) }
+    ensures stopped { IfErr result (IsFailure (W.failures out.old) (W.failures out.new)) }
 {
     for one in unproved {
         let name = name_at(names, one.number);

@@ -1,1 +1,3 @@
 pub mod Proved
+pub mod Stops
+pub mod RunStops

@@ -1,3 +1,5 @@
 pub mod Outlined
 pub mod Written
+pub mod Stopped
 pub mod Inner
+pub mod RunStopped

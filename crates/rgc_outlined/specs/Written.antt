@@ -1,13 +1,15 @@
 -- What was written of an outline.
-use Rattle.std.specs.Prelude.{◌≡◌, ℕ, List, ◌++◌, Bool, true, false, Option}
+use Rattle.std.specs.Prelude.{◌≡◌, ℕ, List, ◌++◌, Bool, true, false, Option, All}
 use Rattle.std.specs.Io.KnownBytes.{Appends}
 use Rattle.rg_tree.specs.Lines.{LineTree}
 use Rattle.rg_tree.specs.Statements.{ProgramTree}
 use Rattle.rg_hints.specs.Proved.{AreProved}
 use Rattle.rgc.specs.declared.proofs_found.ProofsFound.{ProofsFound}
+use Rattle.rgc.specs.declared.proofs_found.ProofsFound.TheVariants.{Proofs, Failures}
+use Rattle.rgc.specs.declared.proofs_found.Unproved.{Unproved}
 use Rattle.rg_accept.specs.Accepted.{conditions_of}
 use Rattle.rgc.specs.Chosen.{AreDerived}
-use Rattle.rgc.specs.Proofs.{AreFoundFor}
+use Rattle.rgc.specs.Proofs.{AreFoundFor, IsUnproved}
 use Rattle.rgc_outlined.specs.declared.write.Wanted.{Wanted}
 use Rattle.rgc_outlined.specs.declared.write.Sides.{Sides}
 
@@ -28,10 +30,11 @@ pub record HasPut (text derivation proofs : List ℕ) (wanted : Wanted) (before 
   pub proofs_put : IsPut wanted.has_proofs proofs before.proofs.items after.proofs.items
   pub printed : IsPrinted wanted.has_text text old new
 
--- what was found where proofs are wanted
+-- what was found where proofs are wanted; no proof is missing where they aren't
 abbrev pub AreFoundWhere : Bool → ProgramTree → List LineTree → ProofsFound → Type 0
 AreFoundWhere true program lines found = AreFoundFor program lines found
-AreFoundWhere false program lines found = Unit {0}
+AreFoundWhere false program lines (Proofs text) = Unit {0}
+AreFoundWhere false program lines (Failures told) = ⊥
 
 -- the proofs prove all conditions, where they are wanted
 abbrev pub AreProvedWhere : Bool → ProgramTree → List LineTree → List ℕ → Type 0
@@ -49,3 +52,17 @@ pub record HasWritten (wanted : Wanted) (before after : Sides) (old new : Option
   pub derived : AreDerived text derivation program lines
   pub proved : AreProvedWhere wanted.has_proofs program lines proofs
   pub put : HasPut text derivation proofs wanted before after old new
+
+-- proofs are wanted, and aren't found: a text spells a program, whose parts a derivation derives, what was found of some of its conditions is so, and a text
+-- went out
+pub record HasToldMissing (wanted : Wanted) (old new : Option (List ℕ)) : Type 0 where
+  pub proofs_wanted : wanted.has_proofs ≡ true
+  pub text : List ℕ
+  pub derivation : List ℕ
+  pub program : ProgramTree
+  pub lines : List LineTree
+  pub derived : AreDerived text derivation program lines
+  pub unproved : List Unproved
+  pub are : All (IsUnproved (conditions_of program lines)) unproved
+  pub told : List ℕ
+  pub printed : Appends old new told

@@ -1,5 +1,9 @@
 //! How an outline names what the records of its program's runs speak of.
 
+ghost use Rattle.std.specs.Prelude.{◌≡◌, IfErr};
+ghost use Rattle.rg_outline_files.specs.declared.files.NoFiles.{NoFiles};
+ghost use Rattle.rgc_outlined.specs.Stopped.{not_done_of};
+
 use crate::stop::NotDone;
 use rg_outline_files::{OutlineSource, outline_places};
 use rg_outline_records::Naming;
@@ -95,7 +99,10 @@ pub(crate) fn naming_of(
     alloc: Global,
     outline: OutlineSource<'_>,
     program: &Program,
-) -> Result<Naming, NotDone> {
+) -> Result<Naming, NotDone>
+    // The outline is refused, or memory.
+    ensures { IfErr result (λ stop. (none : NoFiles) × (stop ≡ not_done_of none)) }
+{
     let places = outline_places(alloc, outline)?;
     let statements = program.numbered(alloc)?;
     let lines = text_lines(alloc, &statements, &places.lines)?;

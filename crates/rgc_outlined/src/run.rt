@@ -1,13 +1,18 @@
 //! A run of an outline's program, in the outline's words.
 
-ghost use Rattle.std.specs.Prelude.{◌≡◌, IsTrue, IfOk, OnOk, OnErr};
+ghost use Rattle.std.specs.Prelude.{◌≡◌, ℕ, List, IsTrue, false, IfOk, IfErr, OnOk, OnErr};
 ghost use Rattle.std.specs.Io.KnownBytes.{Appends};
+ghost use Rattle.rg_words.specs.Stopped.{IsFailure, IsStopped};
 ghost use Rattle.rg_words.specs.Written.{CanCount};
 ghost use Rattle.rg_tree.specs.ProgramTrees.{program as program_tree};
+ghost use Rattle.rg_hints.specs.Proved.{IsProofsRefusal};
+ghost use Rattle.rg_accept.specs.Accepted.{conditions_of};
 ghost use Rattle.rg_accept.specs.Stages.{derived_program, derived_lines, emitted_program, emitted_blocks};
 ghost use Rattle.rg_outline_records.specs.Told.{told_lines};
 ghost use Rattle.rgc_outlined.specs.Outlined.{HasToldRunOf, HasToldRun};
 ghost use Rattle.rgc_outlined.specs.Inner.Proved.{IsEmittedBy, HasToldProved};
+ghost use Rattle.rgc_outlined.specs.RunStopped.{IsUnrun, IsProvedRunRefusal, IsSomeRunRefusal};
+ghost use Rattle.rgc_outlined.specs.Stopped.{IsNotDone};
 
 use crate::naming::naming_of;
 use crate::stop::NotDone;
@@ -18,10 +23,10 @@ use rg_floor::closed::Closed;
 use rg_outline_files::{OutlineFiles, OutlineSource};
 use rg_outline_records::{Naming, push_told};
 use rg_tree::program::Program;
-use rg_words::{Out, Refusal, WriteFault, write_all};
+use rg_words::{Out, Refusal, write_all};
 use rgc::{Derived, Emitted, ProofsFound, find_proofs_all};
 use rgc_pieces::derive_outline;
-use rgc_running::{RunFiles, end_run, play_files};
+use rgc_running::{RunFiles, Unread, end_run, play_files};
 use std::alloc::Global;
 use std::sync::Wait;
 use std::thread::Threads;
@@ -37,22 +42,6 @@ pub struct RunOutline<'a> {
     pub steps: u64,
 }
 
-/// A writer of what nobody reads: the lines of a run in the words of the text.
-#[derive(Drop)]
-struct Unread;
-
-impl Out for Unread {
-    ghost use Rattle.std.specs.Prelude.{None};
-
-    ghost contents = { λ s. None };
-
-    ghost failures = { λ s. 0 };
-
-    fn put(&mut self, bytes: &[u8]) -> Result<usize, WriteFault> {
-        Ok(bytes.len())
-    }
-}
-
 /// Prints the records of a run as an outline names what they speak of.
 fn print_told<W: Out>(
     alloc: Global,
@@ -64,6 +53,7 @@ fn print_told<W: Out>(
     requires { CanCount (W.failures out.old) }
     ensures printed { OnOk result (Appends (W.contents out.old) (W.contents out.new) (told_lines naming.now (program_tree program.now) closed.now.history)) }
     ensures failures { OnOk result (W.failures out.new ≡ W.failures out.old) }
+    ensures stopped { IfErr result (IsFailure (W.failures out.old) (W.failures out.new)) }
 {
     let records = closed.records_from(alloc, 1)?;
     let mut text = Vec::new(alloc);
@@ -87,6 +77,7 @@ fn run_emitted<R: Threads + Wait + Sync, W: Out, F: Out>(
     requires faults { CanCount (F.failures faults.old) }
     ensures printed { OnOk result (HasToldRunOf (emitted_program emitted.now) (emitted_blocks emitted.now) naming.now files.entry.start files.entry.moves files.entry.limit (W.contents out.old) (W.contents out.new)) }
     ensures failures { OnOk result (W.failures out.new ≡ W.failures out.old) }
+    ensures stopped { IfErr result (IsStopped (IsUnrun (emitted_program emitted.now) files.entry.start files.entry.moves files.entry.limit) (W.contents out.old) (W.contents out.new) (W.failures out.old) (W.failures out.new)) }
     ensures quiet { OnErr result (F.failures faults.new ≡ F.failures faults.old) }
 {
     let closed = play_files(rt, alloc, emitted, files, &mut Unread)?;
@@ -111,7 +102,8 @@ fn emitted_by<R: Threads + Sync>(
     derived: Derived,
     proofs: &[u8],
 ) -> Result<Emitted, Refusal>
-    ensures { IfOk result (λ e. IsEmittedBy (derived_program derived) (derived_lines derived) proofs.now (emitted_program e) (emitted_blocks e)) }
+    ensures emitted { IfOk result (λ e. IsEmittedBy (derived_program derived) (derived_lines derived) proofs.now (emitted_program e) (emitted_blocks e)) }
+    ensures refused { IfErr result (IsProofsRefusal (conditions_of (derived_program derived) (derived_lines derived)) proofs.now) }
 {
     let accepted = derived.prove_all(rt, alloc, threads, proofs)?;
     let emitted = accepted.emit(alloc)?;
@@ -133,6 +125,7 @@ fn run_proved<R: Threads + Wait + Sync, W: Out, F: Out>(
     requires faults { CanCount (F.failures faults.old) }
     ensures printed { OnOk result (HasToldProved (derived_program derived) (derived_lines derived) files.entry.proofs.now files.entry.start files.entry.moves files.entry.limit (W.contents out.old) (W.contents out.new)) }
     ensures failures { OnOk result (W.failures out.new ≡ W.failures out.old) }
+    ensures stopped { IfErr result (IsNotDone (IsProvedRunRefusal (derived_program derived) (derived_lines derived) files.entry.proofs.now files.entry.start files.entry.moves files.entry.limit) (W.contents out.old) (W.contents out.new) (W.failures out.old) (W.failures out.new)) }
     ensures quiet { OnErr result (F.failures faults.new ≡ F.failures faults.old) }
 {
     let emitted = emitted_by(rt, alloc, files.threads, derived, files.proofs)?;
@@ -166,6 +159,9 @@ pub fn run_outline<R: Threads + Wait + Sync, W: Out, F: Out, P: Watcher + Copy +
     // It is run only where some text, the pieces of some derivation and some proofs are accepted.
     ensures printed { IfOk result (λ b. IsTrue b → HasToldRun how.entry.start how.entry.moves how.entry.limit (W.contents out.old) (W.contents out.new)) }
     ensures failures { OnOk result (W.failures out.new ≡ W.failures out.old) }
+    // Else a text went out.
+    ensures told { IfOk result (λ b. b ≡ false → (told : List ℕ) × Appends (W.contents out.old) (W.contents out.new) told) }
+    ensures stopped { IfErr result (IsNotDone (IsSomeRunRefusal how.entry.start how.entry.moves how.entry.limit how.entry.steps) (W.contents out.old) (W.contents out.new) (W.failures out.old) (W.failures out.new)) }
     ensures quiet { OnErr result (F.failures faults.new ≡ F.failures faults.old) }
 {
     let files = OutlineFiles::of(alloc, outline)?;

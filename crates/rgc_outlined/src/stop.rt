@@ -14,6 +14,11 @@ pub enum NotDone {
 }
 
 impl From<NoFiles> for NotDone {
+    ghost use Rattle.std.specs.Prelude.{◌≡◌};
+    ghost use Rattle.rgc_outlined.specs.Stopped.{not_done_of};
+
+    ghost from_gives = { λ none stop. stop ≡ not_done_of none };
+
     fn from(none: NoFiles) -> NotDone {
         match none {
             NoFiles::Told(lines) => NotDone::Outline(lines),
@@ -23,18 +28,36 @@ impl From<NoFiles> for NotDone {
 }
 
 impl From<WriteFault> for NotDone {
+    ghost use Rattle.std.specs.Prelude.{◌≡◌};
+    ghost use Rattle.rg_words.specs.Refusals.{refused};
+    ghost use Rattle.rg_words.specs.declared.refusal.RefusalNumber.TheVariants.{Write};
+    ghost use Rattle.rgc_outlined.specs.declared.stop.NotDone.TheVariants.{Refused};
+
+    ghost from_gives = { λ _ stop. stop ≡ Refused (refused Write) };
+
     fn from(fault: WriteFault) -> NotDone {
         NotDone::Refused(Refusal::from(fault))
     }
 }
 
 impl From<AllocError> for NotDone {
+    ghost use Rattle.std.specs.Prelude.{◌≡◌};
+    ghost use Rattle.rg_words.specs.Refusals.{no_memory};
+    ghost use Rattle.rgc_outlined.specs.declared.stop.NotDone.TheVariants.{Refused};
+
+    ghost from_gives = { λ _ stop. stop ≡ Refused no_memory };
+
     fn from(fault: AllocError) -> NotDone {
         NotDone::Refused(Refusal::from(fault))
     }
 }
 
 impl From<Refusal> for NotDone {
+    ghost use Rattle.std.specs.Prelude.{◌≡◌};
+    ghost use Rattle.rgc_outlined.specs.declared.stop.NotDone.TheVariants.{Refused};
+
+    ghost from_gives = { λ refusal stop. stop ≡ Refused refusal };
+
     fn from(refusal: Refusal) -> NotDone {
         NotDone::Refused(refusal)
     }

@@ -1,9 +1,12 @@
 //! The files that an outline stands for, written out.
 
-ghost use Rattle.std.specs.Prelude.{◌≡◌, IsTrue, IfOk, OnOk};
+ghost use Rattle.std.specs.Prelude.{◌≡◌, IsTrue, false, IfOk, IfErr, OnOk};
+ghost use Rattle.rg_words.specs.Stopped.{IsFailure};
 ghost use Rattle.rg_words.specs.Written.{CanCount};
 ghost use Rattle.rg_accept.specs.Stages.{derived_program, derived_lines};
-ghost use Rattle.rgc_outlined.specs.Written.{IsPut, IsPrinted, HasPut, AreFoundWhere, HasWritten};
+ghost use Rattle.rg_outline_files.specs.declared.files.NoFiles.{NoFiles};
+ghost use Rattle.rgc_outlined.specs.Stopped.{not_done_of, IsNotDone, IsSearchRefusalWhere, IsSomeWriteRefusal};
+ghost use Rattle.rgc_outlined.specs.Written.{IsPut, IsPrinted, HasPut, AreFoundWhere, HasWritten, HasToldMissing};
 
 use crate::stop::NotDone;
 use crate::told::print_unproved;
@@ -63,6 +66,7 @@ fn print_text<W: Out>(is_put: bool, text: &[u8], out: &mut W) -> Result<(), Refu
     requires { CanCount (W.failures out.old) }
     ensures printed { OnOk result (IsPrinted is_put text.now (W.contents out.old) (W.contents out.new)) }
     ensures failures { OnOk result (W.failures out.new ≡ W.failures out.old) }
+    ensures stopped { IfErr result (IsFailure (W.failures out.old) (W.failures out.new)) }
 {
     if !is_put {
         write_all(out, text)?;
@@ -82,6 +86,7 @@ fn put<W: Out>(
     requires { CanCount (W.failures out.old) }
     ensures put { OnOk result (HasPut files.now.text.items files.now.derivation.items proofs.now wanted sides.old sides.new (W.contents out.old) (W.contents out.new)) }
     ensures failures { OnOk result (W.failures out.new ≡ W.failures out.old) }
+    ensures stopped { IfErr result (IsFailure (W.failures out.old) (W.failures out.new)) }
 {
     put_one(wanted.has_text, &files.text, &mut sides.text)?;
     put_one(
@@ -104,7 +109,8 @@ fn proofs_where<R: Threads + Sync, P: Watcher + Copy + Sync>(
     steps: u64,
     watcher: &P,
 ) -> Result<ProofsFound, Refusal>
-    ensures { IfOk result (AreFoundWhere is_wanted (derived_program derived.now) (derived_lines derived.now)) }
+    ensures found { IfOk result (AreFoundWhere is_wanted (derived_program derived.now) (derived_lines derived.now)) }
+    ensures refused { IfErr result (IsSearchRefusalWhere is_wanted (derived_program derived.now) (derived_lines derived.now) steps) }
 {
     if is_wanted {
         return find_proofs_all(rt, alloc, threads, derived, steps, watcher);
@@ -113,11 +119,9 @@ fn proofs_where<R: Threads + Sync, P: Watcher + Copy + Sync>(
 }
 
 /// The map of an outline where it is wanted; else nothing.
-fn map_where(
-    alloc: Global,
-    outline: OutlineSource<'_>,
-    is_wanted: bool,
-) -> Result<Vec<u8>, NotDone> {
+fn map_where(alloc: Global, outline: OutlineSource<'_>, is_wanted: bool) -> Result<Vec<u8>, NotDone>
+    ensures { IfErr result (λ stop. (none : NoFiles) × (stop ≡ not_done_of none)) }
+{
     if is_wanted {
         return Ok(outline_map(alloc, outline)?);
     }
@@ -147,7 +151,10 @@ pub fn write_outline<R: Threads + Sync, W: Out, P: Watcher + Copy + Sync>(
 ) -> Result<bool, NotDone>
     requires { CanCount (W.failures out.old) }
     ensures written { IfOk result (λ b. IsTrue b → HasWritten wanted sides.old sides.new (W.contents out.old) (W.contents out.new)) }
+    // Else proofs are wanted; what was found of conditions without one is true of them, and something was told.
+    ensures told { IfOk result (λ b. b ≡ false → HasToldMissing wanted (W.contents out.old) (W.contents out.new)) }
     ensures failures { OnOk result (W.failures out.new ≡ W.failures out.old) }
+    ensures stopped { IfErr result (IsNotDone (IsSomeWriteRefusal wanted.has_proofs steps) (W.contents out.old) (W.contents out.new) (W.failures out.old) (W.failures out.new)) }
 {
     let files = OutlineFiles::of(alloc, outline)?;
     let map = map_where(alloc, outline, wanted.has_map)?;

@@ -1,18 +1,30 @@
 -- Why a command isn't done, from why its files or its library's call stopped it.
-use Rattle.std.proofs.Common.{◌≡◌, ℕ, List, [], ◌++◌, Option, Some, None, Result, Ok, Err, Bool, true, false, refl, sym, ◌∙◌, inl, inr}
-use Rattle.std.specs.Prelude.{IsTrue, IfErr}
+use Rattle.std.proofs.Common.{◌≡◌, ◌⊎◌, ℕ, List, [], Option, Some, None, Result, Ok, Err, Bool, true, false, refl, sym, ◌∙◌, inl, inr, append-nil}
+use Rattle.std.specs.Prelude.{IfErr}
+use Rattle.std.specs.Io.KnownBytes.{Appends, Keeps}
 use Rattle.std.specs.Borrow.{Bor}
-use Rattle.rg_words.proofs.Written.{appends_none}
+use Rattle.rg_words.proofs.Written.{appends_none, appends_keeps}
 use Rattle.rg_words.specs.declared.refusal.Refusal.{Refusal}
+use Rattle.rg_words.specs.Stopped.{IsStopped}
 use Rattle.rgc_line.specs.declared.command.Command.{Command}
 use Rattle.rgc_line.specs.declared.command.Command.TheVariants.{Number, Check, Conditions, Prove, Emit, Run, RunOutline, Valid, Clauses, Find, Outline as the_outline, Verify, Challenge, Explain}
 use Rattle.rgc_line.specs.declared.command.Format.{Format}
 use Rattle.rgc_line.specs.declared.command.Format.TheVariants.{Plain, Json}
+use Rattle.rgc.specs.Proofs.{IsProvePartRefusal}
+use Rattle.rgc_running.specs.Refused.{IsRunRefusal, IsRunStopped}
+use Rattle.rgc_running.specs.Running.{IsRead}
+use Rattle.rgc_walked.specs.NoVerdicts.{IsNoVerdict}
+use Rattle.rgc_walked.specs.declared.no_verdict.NoVerdict.{NoVerdict}
+use Rattle.rgc_walked.specs.declared.no_verdict.NoVerdict.TheVariants.{Outline as no_verdict, Refused as verdict_refused}
+use Rattle.rgc_outlined.specs.Stopped.{IsNotDone}
+use Rattle.rgc_outlined.specs.declared.stop.NotDone.{NotDone}
+use Rattle.rgc_outlined.specs.declared.stop.NotDone.TheVariants.{Outline as not_done, Refused as outline_refused}
 use Rattle.rgc_perform.specs.declared.files.Files.{Files}
 use Rattle.rgc_perform.specs.declared.stops.Stop.{Stop}
 use Rattle.rgc_perform.specs.declared.stops.Stop.TheVariants.{Device, Refused, Outline, Usage, Told}
-use Rattle.rgc_perform.specs.Stopped.{unread_line, unless_read, says_why, TellsOf, TellsWhy, IsOverOutline, IsMisfit, IsUntouched}
-use Rattle.rgc_perform.specs.Inner.Stops.{IsDevice, IsOfOutline, Stops}
+use Rattle.rgc_perform.specs.Done.{IsVerdictDone, SpellsRange}
+use Rattle.rgc_perform.specs.Stopped.{unread_line, unless_read, TellsOf, TellsWhy, IsOverOutline, IsOverRun, IsMisfit, IsUntouched, IsRefusedLate, RefusesFiles, RefusesProofs, RefusesRun}
+use Rattle.rgc_perform.specs.Inner.Stops.{IsDevice, Stops, stop_of_verdict, stop_of_outline}
 
 -- a file can't be read, before anything went out
 pub device_stops : (format : Format) (command : Command) (files : Files) (old : Option (List ℕ)) (m : ℕ) (stop : Stop) → IsDevice (unread_line command files) stop → Stops format command files old old m m stop
@@ -22,13 +34,47 @@ device_stops format command files old m (Outline lines) h = absurd h
 device_stops format command files old m (Usage line) h = absurd h
 device_stops format command files old m Told h = absurd h
 
--- an outline is refused, or not verified; or it has a refusal, of which nothing is said
-pub outline_stops : (format : Format) (command : Command) (files : Files) (old new : Option (List ℕ)) (m n : ℕ) (stop : Stop) → IsOverOutline command → says_why format command ≡ false → IsOfOutline stop → Stops format command files old new m n stop
-outline_stops format command files old new m n (Refused e) over unsaid h = λ (said : IsTrue (says_why format command)). absurd (cc (sym unsaid ∙ said))
-outline_stops format command files old new m n (Outline lines) over unsaid h = over
-outline_stops format command files old new m n (Device line) over unsaid h = absurd h
-outline_stops format command files old new m n (Usage line) over unsaid h = absurd h
-outline_stops format command files old new m n Told over unsaid h = absurd h
+-- there is no verdict on an outline
+pub no_verdict_stops : (format : Format) (command : Command) (files : Files) (P : Refusal → Type 0) (old new : Option (List ℕ)) (m n : ℕ) (none : NoVerdict) → IsOverOutline command → ((e : Refusal) → P e → RefusesFiles command files e) → IsNoVerdict P old new m n none → Stops format command files old new m n (stop_of_verdict none)
+no_verdict_stops format command files P old new m n (no_verdict lines) over f h = (over, (inl h.0, h.1))
+no_verdict_stops format command files P old new m n (verdict_refused e) over f (inl why) = inl (inl (f e why.0, why.1, why.2))
+no_verdict_stops format command files P old new m n (verdict_refused e) over f (inr why) = inl (inr why)
+
+-- nothing is done with an outline
+pub not_done_stops : (format : Format) (command : Command) (files : Files) (P : Refusal → Type 0) (old new : Option (List ℕ)) (m n : ℕ) (none : NotDone) → IsOverOutline command → ((e : Refusal) → P e → RefusesFiles command files e) → IsNotDone P old new m n none → Stops format command files old new m n (stop_of_outline none)
+not_done_stops format command files P old new m n (not_done lines) over f h = (over, (inl h.0, h.1))
+not_done_stops format command files P old new m n (outline_refused e) over f (inl why) = inl (inl (f e why.0, why.1, why.2))
+not_done_stops format command files P old new m n (outline_refused e) over f (inr why) = inl (inr why)
+
+-- what nothing was added to is kept
+keeps_none : (old new : Option (List ℕ)) → Appends old new [] → Keeps old new
+keeps_none None new h = tt
+keeps_none (Some xs) (Some ys) h = h ∙ append-nil xs
+keeps_none (Some xs) None h = absurd h
+
+-- a verdict went out, and nothing behind it
+verdict_kept : (old middle new : Option (List ℕ)) → IsVerdictDone old middle → Appends middle new [] → IsVerdictDone old new
+verdict_kept old middle new (form, verdict) none = (
+  form,
+  record {
+    text = verdict.text;
+    derivation = verdict.derivation;
+    pieces = verdict.pieces;
+    proofs = verdict.proofs;
+    program = verdict.program;
+    cut = verdict.cut;
+    accepted = verdict.accepted;
+    satisfied = verdict.satisfied;
+    found = verdict.found;
+    printed = appends_keeps old middle new _ verdict.printed (keeps_none middle new none);
+  },
+)
+
+-- behind the verdict on an outline, there is none on its changes
+pub challenge_stops : (format : Format) (o : Bor (List ℕ)) (has_refused : Bool) (files : Files) (old middle new : Option (List ℕ)) (m k n : ℕ) (none : NoVerdict) → IsVerdictDone old middle → k ≡ m → IsNoVerdict (λ _. Unit {0}) middle new k n none → Stops format (Challenge o has_refused) files old new m n (stop_of_verdict none)
+challenge_stops format o has_refused files old middle new m k n (no_verdict lines) verdict same h = (tt, (inr (inr (verdict_kept old middle new verdict h.0)), h.1 ∙ same))
+challenge_stops format o has_refused files old middle new m k n (verdict_refused e) verdict same (inl why) = inr (inr (verdict_kept old middle new verdict why.1, why.2 ∙ same))
+challenge_stops format o has_refused files old middle new m k n (verdict_refused e) verdict same (inr why) = inl (inr (rw (← same) why))
 
 -- no proof was found, and the output tells why
 pub told_stops : (format : Format) (command : Command) (files : Files) (old new : Option (List ℕ)) (m n : ℕ) (is_found : Bool) (r : Result (Unit {0}) Stop) → IfErr r (λ stop. (stop ≡ Told) × (is_found ≡ false)) → n ≡ m → (is_found ≡ false → TellsWhy format command files old new) → IfErr r (Stops format command files old new m n)
@@ -39,31 +85,23 @@ told_stops format command files old new m n is_found (Err stop) h same why = rw 
 pub usage_stops : (format : Format) (command : Command) (files : Files) (old : Option (List ℕ)) (m : ℕ) → IsMisfit format command → IsMisfit format command × IsUntouched old old m m
 usage_stops format command files old m h = (h, (appends_none old, refl))
 
--- a call of which nothing is said is refused
-pub unsaid_stops : (format : Format) (command : Command) (files : Files) (old new : Option (List ℕ)) (m n : ℕ) (e : Refusal) → says_why format command ≡ false → Stops format command files old new m n (Refused e)
-unsaid_stops format command files old new m n e unsaid = λ (said : IsTrue (says_why format command)). absurd (cc (sym unsaid ∙ said))
+-- the proofs of a range are refused
+pub range_stops : (text derivation : List ℕ) (range : Bor (List ℕ)) (first last steps : ℕ) (old new : Option (List ℕ)) (m n : ℕ) (e : Refusal) → SpellsRange range.now first last → IsStopped (IsProvePartRefusal text derivation first last steps) old new m n e → IsStopped (RefusesProofs (Some range) text derivation steps) old new m n e
+range_stops text derivation range first last steps old new m n e spells (inl why) = inl ((first, last, spells, why.0), why.1, why.2)
+range_stops text derivation range first last steps old new m n e spells (inr why) = inr why
+
+-- a run is refused, with a start and with moves where the command names such files
+pub named_run_stops : {A : Type 0} (command : Command) (text derivation proofs : List ℕ) (start moves : Option A) (limit : ℕ) (start_bytes moves_bytes first moving : Option (Bor (List ℕ))) (old new : Option (List ℕ)) (m n : ℕ) (e : Refusal)
+    → IsOverRun command → IsRead start start_bytes first → IsRead moves moves_bytes moving → IsRunStopped (IsRunRefusal text derivation proofs first moving limit) old new m n e
+    → IsStopped (RefusesRun text derivation proofs start moves limit start_bytes moves_bytes) old new m n e ⊎ IsRefusedLate command old new m n e
+named_run_stops command text derivation proofs start moves limit start_bytes moves_bytes first moving old new m n e over read read_moves (inl (inl why)) =
+    inl (inl (record { first = first; first_read = read; moving = moving; moving_read = read_moves; refusal = why.0 }, why.1, why.2))
+named_run_stops command text derivation proofs start moves limit start_bytes moves_bytes first moving old new m n e over read read_moves (inl (inr why)) = inl (inr why)
+named_run_stops command text derivation proofs start moves limit start_bytes moves_bytes first moving old new m n e over read read_moves (inr why) = inr (inl (over, why.0, why.1))
 
 -- the next file can't be read, where this one can
 pub read_past : (file : Option (Bor (List ℕ))) (bytes : Bor (List ℕ)) (line : List ℕ) (rest : Option (List ℕ)) (stop : Stop) → file ≡ Some bytes → IsDevice rest stop → IsDevice (unless_read file line rest) stop
 read_past file bytes line rest stop is h = rw is h
-
--- what is said of a command with JSON is said of it with lines
-plain_says : (command : Command) → IsTrue (says_why Json command) → IsTrue (says_why Plain command)
-plain_says (Number a) said = refl
-plain_says (Check a b d) said = refl
-plain_says (Conditions a b false) said = refl
-plain_says (Conditions a b true) said = said
-plain_says (Prove a b d e) said = refl
-plain_says (Emit a b d) said = refl
-plain_says (Valid a b) said = refl
-plain_says (Clauses a b) said = refl
-plain_says (Find a b d) said = refl
-plain_says (Explain a) said = refl
-plain_says (Run a b d e f i j) said = said
-plain_says (RunOutline a b d e f) said = said
-plain_says (the_outline a b d e f) said = said
-plain_says (Verify a b d) said = said
-plain_says (Challenge a b) said = said
 
 -- words that don't fit with lines don't fit with JSON
 plain_misfit : (command : Command) → IsMisfit Plain command → IsMisfit Json command
@@ -114,7 +152,7 @@ plain_tells (Challenge a b) text derivation old new other h = absurd h
 pub plain_stops : (command : Command) (files : Files) (old new : Option (List ℕ)) (m n : ℕ) (r : Result (Unit {0}) Stop) → ((a b : Bor (List ℕ)) (d : ℕ) (e : Option (Bor (List ℕ))) → command ≡ Prove a b d e → ⊥) → IfErr r (Stops Plain command files old new m n) → IfErr r (Stops Json command files old new m n)
 plain_stops command files old new m n (Ok x) other h = tt
 plain_stops command files old new m n (Err (Device line)) other h = h
-plain_stops command files old new m n (Err (Refused e)) other h = λ said. h (plain_says command said)
+plain_stops command files old new m n (Err (Refused e)) other h = h
 plain_stops command files old new m n (Err (Outline lines)) other h = h
 plain_stops command files old new m n (Err (Usage line)) other h = (plain_misfit command h.0, h.1)
 plain_stops command files old new m n (Err Told) other h = (plain_tells command files.text files.derivation old new other h.0, h.1)

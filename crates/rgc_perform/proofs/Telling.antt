@@ -6,12 +6,13 @@ use Rattle.rg_words.specs.declared.refusal.RefusalNumber.TheVariants.{Write}
 use Rattle.rg_words.specs.Refusals.{no_memory, refused}
 use Rattle.rg_words.specs.Written.{AppendsBeginning, IsWritten}
 use Rattle.rg_words.proofs.Written.{written_then, stopped_before}
+use Rattle.rgc_line.specs.declared.command.Command.{Command}
 use Rattle.rgc_line.specs.declared.line.Line.{Line}
-use Rattle.rgc_print.specs.Stopped.{IsFailure, IsStopped}
+use Rattle.rg_words.specs.Stopped.{IsFailure}
 use Rattle.rgc_perform.specs.declared.files.Files.{Files}
 use Rattle.rgc_perform.specs.declared.stops.Stop.{Stop}
 use Rattle.rgc_perform.specs.declared.stops.Stop.TheVariants.{Device, Refused, Outline, Usage, Told}
-use Rattle.rgc_perform.specs.Stopped.{IsUntouched, Writes, RefusesFiles, IsStoppedBy, IsRefusedFor, TellsRefusal, refusal_status, is_failure, IsRefused, HasToldMisfit, HasFailed}
+use Rattle.rgc_perform.specs.Stopped.{Writes, IsStoppedBy, IsRefusedFor, TellsRefusal, refusal_status, is_failure, IsRefused, HasToldMisfit, HasFailed}
 use Rattle.rgc_perform.specs.Inner.Stops.{Stops, IsTold}
 
 -- what a call that writes a text does to a writer
@@ -50,13 +51,11 @@ not_two : (b : Bool) (n : ℕ) → n ≡ (if b then 3 else 1) → n ≡ 2 → �
 not_two true n is two = omega (arith, is, two)
 not_two false n is two = omega (arith, is, two)
 
--- a refusal whose status is 1 is of files, and nothing went out
-status_one : (Refuses : Refusal → Type 0) (old new : Option (List ℕ)) (m n : ℕ) (e : Refusal) → refusal_status e.number ≡ 1 → IsStopped Refuses old new m n e → Refuses e × IsUntouched old new m n
-status_one Refuses old new m n e one h =
-    ⊎_elim
-    (λ (w : Refuses e × Appends old new [] × (n ≡ m)). (w.0, (w.1, w.2)))
-    (λ (w : IsFailure m n e). let three = failure_status m n e w in absurd (omega (arith, one, three)))
-    h
+-- a refusal whose status is 1 isn't a failure
+status_one : (command : Command) (files : Files) (old new : Option (List ℕ)) (m n : ℕ) (e : Refusal) → refusal_status e.number ≡ 1 → IsStoppedBy command files old new m n e → IsRefusedFor command files old new m n e
+status_one command files old new m n e one (inl (inl why)) = inl (why.0, (why.1, why.2))
+status_one command files old new m n e one (inl (inr why)) = let three = failure_status m n e why in absurd (omega (arith, one, three))
+status_one command files old new m n e one (inr late) = inr late
 
 -- a refusal that is told with status 1 has it
 told_one : (line : Line) (e : Refusal) (old new : Option (List ℕ)) (m n : ℕ) → TellsRefusal line.settings e 1 old new m n → refusal_status e.number ≡ 1
@@ -68,11 +67,11 @@ module _ (line : Line) (files : Files) (old new : Option (List ℕ)) (m n : ℕ)
   told_refused (Device words) status why tells one = absurd (omega (arith, tells.0, one))
   told_refused (Usage words) status why tells one = absurd (omega (arith, tells.0, one))
   told_refused Told status why tells one = inl (record { why = why.0; failures = why.1; silent = tells.1; faults = tells.2 })
-  told_refused (Outline lines) status why tells one = inr (inr (record { over = why; lines = lines.items; tells = tells.1 }))
+  told_refused (Outline lines) status why tells one = inr (inr (record { over = why.0; printed = why.1; lines = lines.items; tells = tells.1 }))
   told_refused (Refused e) status why tells one =
       let at_one : TellsRefusal line.settings e 1 quiet told p q = subst (λ (s : ℕ). TellsRefusal line.settings e s quiet told p q) one tells in
       let number : refusal_status e.number ≡ 1 = told_one line e quiet told p q at_one in
-      inr (inl (record { refusal = e; why = λ said. status_one (RefusesFiles line.command files) old new m n e number (why said); tells = at_one }))
+      inr (inl (record { refusal = e; why = status_one line.command files old new m n e number why; tells = at_one }))
 
   -- what is so where it is 2
   pub told_misfit : (stop : Stop) (status : ℕ) → Stops line.settings.format line.command files old new m n stop → IsTold line.settings stop status quiet told p q → status ≡ 2 → HasToldMisfit line old new m n quiet told p q

@@ -1,15 +1,17 @@
 -- What a command says where its status isn't 0: why it isn't done, and what is told of that.
-use Rattle.std.specs.Prelude.{◌≡◌, ◌⊎◌, ◌+◌, ℕ, List, [], ◌++◌, Option, Some, None, Bool, true, false, IsTrue, if◌then◌else◌, codes}
+use Rattle.std.specs.Prelude.{◌≡◌, ◌⊎◌, ◌+◌, ℕ, List, [], ◌++◌, Option, Some, None, Bool, true, false, if◌then◌else◌, is_some, codes}
 use Rattle.std.specs.Borrow.{Bor}
 use Rattle.std.specs.Io.KnownBytes.{Appends}
 use Rattle.rg_words.specs.declared.refusal.Refusal.{Refusal}
 use Rattle.rg_words.specs.declared.refusal.RefusalNumber.{RefusalNumber}
 use Rattle.rg_words.specs.declared.refusal.RefusalNumber.TheVariants.{Write, Memory}
 use Rattle.rg_words.specs.Refusals.{refusal_text}
+use Rattle.rg_words.specs.Stopped.{IsStopped}
 use Rattle.rg_words.specs.Written.{AppendsBeginning}
 use Rattle.rg_parse.specs.Programs.{IsProgramRefusal}
 use Rattle.rg_accept.specs.Accepted.{IsAcceptTextRefusal}
 use Rattle.rgc.specs.Chosen.{IsDeriveRefusal, IsChosenClausesRefusal, IsChosenFindRefusal}
+use Rattle.rgc.specs.Proofs.{IsProveRefusal, IsProvePartRefusal}
 use Rattle.rgc.specs.Valid.{IsClausesRefusal, IsFindRefusal, IsValidRefusal}
 use Rattle.rgc_line.specs.declared.command.Command.{Command}
 use Rattle.rgc_line.specs.declared.command.Command.TheVariants.{Number, Check, Conditions, Prove, Emit, Run, RunOutline, Valid, Clauses, Find, Outline, Verify, Challenge, Explain}
@@ -20,10 +22,18 @@ use Rattle.rgc_line.specs.declared.line.Line.{Line}
 use Rattle.rgc_json.specs.Lines.{json_line}
 use Rattle.rgc_json.specs.Refusals.{refusal_data}
 use Rattle.rgc_json.specs.Printed.{HasToldUnprovedJson}
-use Rattle.rgc_print.specs.Stopped.{IsStopped}
+use Rattle.rgc_running.specs.Refused.{IsUnlike, IsRunRefusal}
+use Rattle.rgc_running.specs.Running.{IsRead}
 use Rattle.rgc_print.specs.Told.{HasToldFormula, HasToldCondition, HasToldUnproved}
+use Rattle.rgc_outlined.specs.RunStopped.{IsSomeRunRefusal}
+use Rattle.rgc_outlined.specs.Stopped.{IsSomeWriteRefusal}
+use Rattle.rgc_outlined.specs.Written.{HasToldMissing}
+use Rattle.rgc_verify.specs.Refused.{IsSomeTextRefusal, IsSomeVerifyRefusal}
+use Rattle.rgc_verify.specs.Unproved.{HasToldUnverified}
 use Rattle.rgc_verify.specs.Verified.{HasBreakingRun, HasPrintedRuns}
 use Rattle.rgc_perform.specs.declared.files.Files.{Files}
+use Rattle.rgc_perform.specs.declared.outlines.TheConstants.{MOST_STEPS}
+use Rattle.rgc_perform.specs.Done.{IsVerdictDone, SpellsRange, wanted_of}
 
 -- a writer is as it was
 abbrev pub IsUntouched : Option (List ℕ) → Option (List ℕ) → ℕ → ℕ → Type 0
@@ -78,57 +88,82 @@ unread_line (Verify _ _ _) files = outline_line files None
 unread_line (Challenge _ _) files = outline_line files None
 unread_line (Explain _) files = None
 
--- why a text, a derivation and proofs are refused, by the command over them
-abbrev pub RefusesTexts : Command → Option (Bor (List ℕ)) → Option (Bor (List ℕ)) → Option (Bor (List ℕ)) → Refusal → Type 0
-RefusesTexts (Number _) (Some text) _ _ e = IsProgramRefusal text.now e
-RefusesTexts (Check _ _ _) (Some text) (Some derivation) (Some proofs) e = IsAcceptTextRefusal text.now derivation.now proofs.now e
-RefusesTexts (Conditions _ _ _) (Some text) (Some derivation) _ e = IsDeriveRefusal text.now derivation.now e
-RefusesTexts (Prove _ _ _ _) (Some text) (Some derivation) _ e = Unit {0}
-RefusesTexts (Emit _ _ _) (Some text) (Some derivation) (Some proofs) e = IsAcceptTextRefusal text.now derivation.now proofs.now e
-RefusesTexts (Valid _ _) (Some text) _ (Some proofs) e = IsValidRefusal text.now proofs.now e
-RefusesTexts (Clauses _ None) (Some text) _ _ e = IsClausesRefusal text.now e
-RefusesTexts (Clauses _ (Some chosen)) (Some text) (Some derivation) _ e = IsChosenClausesRefusal text.now derivation.now chosen.condition e
-RefusesTexts (Find _ steps None) (Some text) _ _ e = IsFindRefusal text.now steps e
-RefusesTexts (Find _ steps (Some chosen)) (Some text) (Some derivation) _ e = IsChosenFindRefusal text.now derivation.now chosen.condition steps e
-RefusesTexts _ _ _ _ e = ⊥
+-- the command runs a program
+abbrev pub IsOverRun : Command → Type 0
+IsOverRun (Run _ _ _ _ _ _ _) = Unit {0}
+IsOverRun (RunOutline _ _ _ _ _) = Unit {0}
+IsOverRun _ = ⊥
 
--- the files of a command are refused so; of `prove` no more is said than that it has its files, and an explanation has none that could be refused
+-- why a search for proofs of all conditions is refused, or of the range that the word names
+abbrev pub RefusesProofs : Option (Bor (List ℕ)) → List ℕ → List ℕ → ℕ → Refusal → Type 0
+RefusesProofs None text derivation steps e = IsProveRefusal text derivation steps e
+RefusesProofs (Some range) text derivation steps e = (first last : ℕ) × SpellsRange range.now first last × IsProvePartRefusal text derivation first last steps e
+
+-- why a run is refused, with a start and with moves where the command names such files
+pub record RefusesRun {A : Type 0} (text derivation proofs : List ℕ) (start moves : Option A) (limit : ℕ) (start_bytes moves_bytes : Option (Bor (List ℕ))) (e : Refusal) : Type 0 where
+  pub first : Option (Bor (List ℕ))
+  pub first_read : IsRead start start_bytes first
+  pub moving : Option (Bor (List ℕ))
+  pub moving_read : IsRead moves moves_bytes moving
+  pub refusal : IsRunRefusal text derivation proofs first moving limit e
+
+-- why a run of an outline is refused, with a start and with moves where the command names such files
+pub record RefusesOutlineRun {A : Type 0} (start moves : Option A) (limit : ℕ) (start_bytes moves_bytes : Option (Bor (List ℕ))) (e : Refusal) : Type 0 where
+  pub first : Option (Bor (List ℕ))
+  pub first_read : IsRead start start_bytes first
+  pub moving : Option (Bor (List ℕ))
+  pub moving_read : IsRead moves moves_bytes moving
+  pub refusal : IsSomeRunRefusal first moving limit MOST_STEPS e
+
+-- why a text, a derivation, proofs, a start and moves are refused, by the command over them; of an outline, why some text and some derivation are
+abbrev pub RefusesTexts : Command → Option (Bor (List ℕ)) → Option (Bor (List ℕ)) → Option (Bor (List ℕ)) → Option (Bor (List ℕ)) → Option (Bor (List ℕ)) → Refusal → Type 0
+RefusesTexts (Number _) (Some text) _ _ _ _ e = IsProgramRefusal text.now e
+RefusesTexts (Check _ _ _) (Some text) (Some derivation) (Some proofs) _ _ e = IsAcceptTextRefusal text.now derivation.now proofs.now e
+RefusesTexts (Conditions _ _ _) (Some text) (Some derivation) _ _ _ e = IsDeriveRefusal text.now derivation.now e
+RefusesTexts (Prove _ _ steps range) (Some text) (Some derivation) _ _ _ e = RefusesProofs range text.now derivation.now steps e
+RefusesTexts (Emit _ _ _) (Some text) (Some derivation) (Some proofs) _ _ e = IsAcceptTextRefusal text.now derivation.now proofs.now e
+RefusesTexts (Run _ _ _ start moves limit _) (Some text) (Some derivation) (Some proofs) first moving e =
+    RefusesRun text.now derivation.now proofs.now start moves limit first moving e
+RefusesTexts (Valid _ _) (Some text) _ (Some proofs) _ _ e = IsValidRefusal text.now proofs.now e
+RefusesTexts (Clauses _ None) (Some text) _ _ _ _ e = IsClausesRefusal text.now e
+RefusesTexts (Clauses _ (Some chosen)) (Some text) (Some derivation) _ _ _ e = IsChosenClausesRefusal text.now derivation.now chosen.condition e
+RefusesTexts (Find _ steps None) (Some text) _ _ _ _ e = IsFindRefusal text.now steps e
+RefusesTexts (Find _ steps (Some chosen)) (Some text) (Some derivation) _ _ _ e = IsChosenFindRefusal text.now derivation.now chosen.condition steps e
+RefusesTexts (RunOutline _ start moves limit _) (Some outline) _ _ first moving e = RefusesOutlineRun start moves limit first moving e
+RefusesTexts (Outline _ _ _ proofs _) (Some outline) _ _ _ _ e = IsSomeWriteRefusal (is_some proofs) MOST_STEPS e
+RefusesTexts (Verify _ steps false) (Some outline) _ _ _ _ e = IsSomeVerifyRefusal steps e
+RefusesTexts (Verify _ steps true) (Some outline) _ _ _ _ e = IsSomeTextRefusal e
+RefusesTexts (Challenge _ _) (Some outline) _ _ _ _ e = IsSomeVerifyRefusal MOST_STEPS e
+RefusesTexts _ _ _ _ _ _ e = ⊥
+
+-- the files of a command are refused so; an explanation has none that could be refused
 abbrev pub RefusesFiles : Command → Files → Refusal → Type 0
-RefusesFiles command files e = RefusesTexts command files.text files.derivation files.proofs e
+RefusesFiles command files e = RefusesTexts command files.text files.derivation files.proofs files.start files.moves e
 
 -- a format is that of lines
 abbrev pub is_plain : Format → Bool
 is_plain Plain = true
 is_plain Json = false
 
--- whether it is said of a command, in a format, why it is refused and what went out until then: of the commands over a text, a derivation and proofs
--- that print lines, but not of conditions as formulas, of runs and of outlines
-abbrev pub says_why : Format → Command → Bool
-says_why format (Number _) = is_plain format
-says_why format (Check _ _ _) = is_plain format
-says_why format (Conditions _ _ false) = is_plain format
-says_why format (Conditions _ _ true) = false
-says_why format (Prove _ _ _ _) = is_plain format
-says_why format (Emit _ _ _) = true
-says_why format (Valid _ _) = true
-says_why format (Clauses _ _) = true
-says_why format (Find _ _ _) = true
-says_why format (Explain _) = true
-says_why format (Run _ _ _ _ _ _ _) = false
-says_why format (RunOutline _ _ _ _ _) = false
-says_why format (Outline _ _ _ _ _) = false
-says_why format (Verify _ _ _) = false
-says_why format (Challenge _ _) = false
+-- behind the verdict on an outline, which went out, a changed program is refused
+abbrev pub IsChangeRefused : Command → Option (List ℕ) → Option (List ℕ) → ℕ → ℕ → Type 0
+IsChangeRefused (Challenge _ _) old new failed after = IsVerdictDone old new × (after ≡ failed)
+IsChangeRefused _ old new failed after = ⊥
 
--- the command prints nothing, since its files are refused so; or what it printed was cut, since the writer failed or memory was refused
-abbrev pub IsStoppedBy : Format → Command → Files → Option (List ℕ) → Option (List ℕ) → ℕ → ℕ → Refusal → Type 0
-IsStoppedBy format command files old new failed after e =
-    IsTrue (says_why format command) → IsStopped (RefusesFiles command files) old new failed after e
+-- a run is unlike what it printed, or a changed program is refused: lines went out before
+abbrev pub IsRefusedLate : Command → Option (List ℕ) → Option (List ℕ) → ℕ → ℕ → Refusal → Type 0
+IsRefusedLate command old new failed after e =
+    (IsOverRun command × IsUnlike e × (after ≡ failed)) ⊎ IsChangeRefused command old new failed after
 
--- the command prints nothing, since its files are refused so
-abbrev pub IsRefusedFor : Format → Command → Files → Option (List ℕ) → Option (List ℕ) → ℕ → ℕ → Refusal → Type 0
-IsRefusedFor format command files old new failed after e =
-    IsTrue (says_why format command) → RefusesFiles command files e × IsUntouched old new failed after
+-- the command prints nothing, since its files are refused so; or it is refused late
+abbrev pub IsRefusedFor : Command → Files → Option (List ℕ) → Option (List ℕ) → ℕ → ℕ → Refusal → Type 0
+IsRefusedFor command files old new failed after e =
+    (RefusesFiles command files e × IsUntouched old new failed after) ⊎ IsRefusedLate command old new failed after e
+
+-- the same; or what it printed was cut, since the writer failed or memory was refused
+abbrev pub IsStoppedBy : Command → Files → Option (List ℕ) → Option (List ℕ) → ℕ → ℕ → Refusal → Type 0
+IsStoppedBy command files old new failed after e =
+    IsStopped (RefusesFiles command files) old new failed after e ⊎ IsRefusedLate command old new failed after e
 
 -- why there are no proofs went out, in the format, and what it tells is so
 abbrev pub HasToldProofs : Format → List ℕ → List ℕ → Option (List ℕ) → Option (List ℕ) → Type 0
@@ -141,11 +176,11 @@ TellsOf format (Prove _ _ _ _) (Some text) (Some derivation) old new = HasToldPr
 TellsOf format (Find _ _ None) (Some text) _ old new = HasToldFormula text.now old new
 TellsOf format (Find _ _ (Some chosen)) (Some text) (Some derivation) old new = HasToldCondition text.now derivation.now chosen.condition old new
 TellsOf format (Verify _ _ true) (Some outline) _ old new = HasBreakingRun × HasPrintedRuns old new
-TellsOf format (RunOutline _ _ _ _ _) (Some outline) _ old new = Unit {0}
-TellsOf format (Outline _ _ _ _ _) (Some outline) _ old new = Unit {0}
+TellsOf format (RunOutline _ _ _ _ _) (Some outline) _ old new = (told : List ℕ) × Appends old new told
+TellsOf format (Outline _ text derivation proofs map) (Some outline) _ old new = HasToldMissing (wanted_of text derivation proofs map) old new
 TellsOf format _ _ _ old new = ⊥
 
--- the output tells why there is no proof, and what it tells is so; of outlines that are run or written that isn't said
+-- the output tells why there is no proof, and what it tells is so; of an outline that is run no more is said than that a text went out
 abbrev pub TellsWhy : Format → Command → Files → Option (List ℕ) → Option (List ℕ) → Type 0
 TellsWhy format command files old new = TellsOf format command files.text files.derivation old new
 
@@ -201,12 +236,23 @@ pub record HasToldWhy (line : Line) (files : Files) (old new : Option (List ℕ)
 -- the files are refused, nothing went out, and the refusal is told on the faults
 pub record HasToldRefusal (line : Line) (files : Files) (old new : Option (List ℕ)) (failed after : ℕ) (quiet told : Option (List ℕ)) (quiet_failed told_failed : ℕ) : Type 0 where
   pub refusal : Refusal
-  pub why : IsRefusedFor line.settings.format line.command files old new failed after refusal
+  pub why : IsRefusedFor line.command files old new failed after refusal
   pub tells : TellsRefusal line.settings refusal 1 quiet told quiet_failed told_failed
 
+-- it went out why an outline isn't verified; or, before its changes are looked at, that it is
+abbrev pub TellsVerdict : Command → Option (List ℕ) → Option (List ℕ) → Type 0
+TellsVerdict (Verify _ _ false) old new = HasToldUnverified old new
+TellsVerdict (Challenge _ _) old new = HasToldUnverified old new ⊎ IsVerdictDone old new
+TellsVerdict _ old new = ⊥
+
+-- nothing went out, or that did; and the writer didn't fail
+abbrev pub WentOut : Command → Option (List ℕ) → Option (List ℕ) → ℕ → ℕ → Type 0
+WentOut command old new failed after = (Appends old new [] ⊎ TellsVerdict command old new) × (after ≡ failed)
+
 -- an outline is refused or not verified, and lines on the faults tell it
-pub record HasToldOutline (line : Line) (quiet told : Option (List ℕ)) (quiet_failed told_failed : ℕ) : Type 0 where
+pub record HasToldOutline (line : Line) (old new : Option (List ℕ)) (failed after : ℕ) (quiet told : Option (List ℕ)) (quiet_failed told_failed : ℕ) : Type 0 where
   pub over : IsOverOutline line.command
+  pub printed : WentOut line.command old new failed after
   pub lines : List ℕ
   pub tells : Writes quiet told quiet_failed told_failed lines
 
@@ -215,7 +261,7 @@ abbrev pub IsRefused : Line → Files → Option (List ℕ) → Option (List ℕ
 IsRefused line files old new failed after quiet told quiet_failed told_failed =
     HasToldWhy line files old new failed after quiet told quiet_failed told_failed
     ⊎ HasToldRefusal line files old new failed after quiet told quiet_failed told_failed
-    ⊎ HasToldOutline line quiet told quiet_failed told_failed
+    ⊎ HasToldOutline line old new failed after quiet told quiet_failed told_failed
 
 -- status 2: the words don't fit, nothing went out, and a line on the faults tells it
 pub record HasToldMisfit (line : Line) (old new : Option (List ℕ)) (failed after : ℕ) (quiet told : Option (List ℕ)) (quiet_failed told_failed : ℕ) : Type 0 where
@@ -234,7 +280,7 @@ pub record HasToldUnread (line : Line) (files : Files) (old new : Option (List �
 -- the output was cut, since the writer failed or memory was refused, or there was no memory before it began; and that is told on the faults
 pub record HasToldCut (line : Line) (files : Files) (old new : Option (List ℕ)) (failed after : ℕ) (quiet told : Option (List ℕ)) (quiet_failed told_failed : ℕ) : Type 0 where
   pub refusal : Refusal
-  pub why : IsStoppedBy line.settings.format line.command files old new failed after refusal
+  pub why : IsStoppedBy line.command files old new failed after refusal
   pub tells : TellsRefusal line.settings refusal 3 quiet told quiet_failed told_failed
 
 -- status 3: a file can't be read, or the writer failed or memory was refused

@@ -2,7 +2,7 @@
 
 ghost use Rattle.std.specs.Prelude.{◌≡◌, OnOk, IfErr};
 ghost use Rattle.rg_words.specs.Written.{CanCount};
-ghost use Rattle.rgc_print.specs.Stopped.{IsFailure};
+ghost use Rattle.rg_words.specs.Stopped.{IsFailure};
 ghost use Rattle.rgc_perform.specs.Done.{HasPrintedExplanation};
 
 use rg_words::{Out, Refusal, write_all};

@@ -1,6 +1,5 @@
 //! Why a command isn't done.
 
-use rg_outline_files::NoFiles;
 use rg_words::{Refusal, WriteFault};
 use rgc_outlined::NotDone;
 use rgc_verify::NoVerdict;
@@ -20,23 +19,11 @@ pub(crate) enum Stop {
     Told,
 }
 
-impl From<NoFiles> for Stop {
-    ghost use Rattle.rgc_perform.specs.Inner.Stops.{IsOfOutline};
-
-    ghost from_gives = { λ _ stop. IsOfOutline stop };
-
-    fn from(none: NoFiles) -> Stop {
-        match none {
-            NoFiles::Told(lines) => Stop::Outline(lines),
-            NoFiles::Memory => Stop::Refused(Refusal::from(AllocError)),
-        }
-    }
-}
-
 impl From<NoVerdict> for Stop {
-    ghost use Rattle.rgc_perform.specs.Inner.Stops.{IsOfOutline};
+    ghost use Rattle.std.specs.Prelude.{◌≡◌};
+    ghost use Rattle.rgc_perform.specs.Inner.Stops.{stop_of_verdict};
 
-    ghost from_gives = { λ _ stop. IsOfOutline stop };
+    ghost from_gives = { λ none stop. stop ≡ stop_of_verdict none };
 
     fn from(none: NoVerdict) -> Stop {
         match none {
@@ -47,9 +34,10 @@ impl From<NoVerdict> for Stop {
 }
 
 impl From<NotDone> for Stop {
-    ghost use Rattle.rgc_perform.specs.Inner.Stops.{IsOfOutline};
+    ghost use Rattle.std.specs.Prelude.{◌≡◌};
+    ghost use Rattle.rgc_perform.specs.Inner.Stops.{stop_of_outline};
 
-    ghost from_gives = { λ _ stop. IsOfOutline stop };
+    ghost from_gives = { λ none stop. stop ≡ stop_of_outline none };
 
     fn from(none: NotDone) -> Stop {
         match none {

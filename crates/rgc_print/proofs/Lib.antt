@@ -2,5 +2,4 @@ pub mod PartNames
 pub mod Found
 pub mod ConditionLines
 pub mod Listings
-pub mod Cuts
 pub mod NumberLines

@@ -7,7 +7,7 @@ ghost use Rattle.serde_json.specs.Written.{compact_text};
 ghost use Rattle.rg_tree.specs.ProgramTrees.{program as program_tree};
 ghost use Rattle.rg_tree.specs.Printed.{formula_text};
 ghost use Rattle.rg_listing.specs.Listing.{listing_data};
-ghost use Rattle.rgc_print.specs.Stopped.{IsCut};
+ghost use Rattle.rg_words.specs.Stopped.{IsCut};
 ghost use Rattle.rgc_print.specs.Conditions.{condition_line, condition_lines, conditions_text};
 ghost use Rattle.rg_accept.specs.Stages.{derived_program, derived_lines};
 

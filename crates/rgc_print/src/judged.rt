@@ -4,7 +4,7 @@ ghost use Rattle.std.specs.Prelude.{◌≡◌, IsTrue, false, IfOk, IfErr, OnOk}
 ghost use Rattle.std.specs.Io.KnownBytes.{Appends};
 ghost use Rattle.rg_words.specs.Written.{CanCount};
 ghost use Rattle.rg_hints.specs.Normal.{section_text};
-ghost use Rattle.rgc_print.specs.Stopped.{IsFailure};
+ghost use Rattle.rg_words.specs.Stopped.{IsFailure};
 ghost use Rattle.rgc_print.specs.Told.{Tells};
 ghost use Rattle.rgc_print.specs.Inner.Lines.{PrintsLines};
 

@@ -4,7 +4,7 @@ ghost use Rattle.std.specs.Prelude.{◌≡◌, map, string_bytes, IfOk, IfErr, O
 ghost use Rattle.std.specs.Io.KnownBytes.{Appends};
 ghost use Rattle.rg_words.specs.Written.{CanCount};
 ghost use Rattle.rg_tree.specs.ProgramView.{part};
-ghost use Rattle.rgc_print.specs.Stopped.{IsCut};
+ghost use Rattle.rg_words.specs.Stopped.{IsCut};
 ghost use Rattle.rgc_print.specs.Numbers.{kind_text, part_name, number_line, lines_text, numbers_text};
 
 use rg_tree::numbered::{Numbered, StatementKind};

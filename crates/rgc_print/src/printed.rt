@@ -1,12 +1,13 @@
 //! What each command over texts prints.
 
 ghost use Rattle.std.specs.Prelude.{◌≡◌, IsTrue, false, IfOk, IfErr, OnOk};
+ghost use Rattle.rg_words.specs.Stopped.{IsFailure, IsStopped};
 ghost use Rattle.rg_words.specs.Written.{CanCount};
 ghost use Rattle.rg_parse.specs.Programs.{IsProgramRefusal};
 ghost use Rattle.rg_accept.specs.Accepted.{IsAcceptTextRefusal};
 ghost use Rattle.rgc.specs.Chosen.{IsDeriveRefusal, IsChosenClausesRefusal, IsChosenFindRefusal};
+ghost use Rattle.rgc.specs.Proofs.{IsProveRefusal, IsProvePartRefusal};
 ghost use Rattle.rgc.specs.Valid.{IsClausesRefusal, IsFindRefusal, IsValidRefusal};
-ghost use Rattle.rgc_print.specs.Stopped.{IsStopped};
 ghost use Rattle.rgc_print.specs.Told.{HasToldFormula, HasToldCondition, HasToldUnproved};
 ghost use Rattle.rgc_print.specs.Inner.Lines.{PrintsFound, TellsFound};
 ghost use Rattle.rgc_print.specs.Printed.{HasPrintedNumbers, HasPrintedAccepted, HasPrintedConditions, HasPrintedProofs, HasPrintedPart, HasPrintedListing, HasPrintedHolds, HasPrintedClauses, HasPrintedConditionClauses, HasPrintedLines, HasPrintedConditionLines};
@@ -96,7 +97,7 @@ fn print_search<W: Out>(
     ensures printed { IfOk result (λ b. IsTrue b → PrintsFound found.now (W.contents out.old) (W.contents out.new)) }
     ensures failures { OnOk result (W.failures out.new ≡ W.failures out.old) }
     ensures told { IfOk result (λ b. b ≡ false → TellsFound found.now (W.contents out.old) (W.contents out.new)) }
-    ensures stopped { IfErr result (IsStopped (λ _. Unit {0}) (W.contents out.old) (W.contents out.new) (W.failures out.old) (W.failures out.new)) }
+    ensures stopped { IfErr result (IsFailure (W.failures out.old) (W.failures out.new)) }
 {
     match found {
         ProofsFound::Proofs(proofs) => {
@@ -131,7 +132,7 @@ pub fn print_proofs<R: Threads + Sync, W: Out, P: Watcher + Copy + Sync>(
     ensures printed { IfOk result (λ b. IsTrue b → HasPrintedProofs text.now derivation.now (W.contents out.old) (W.contents out.new)) }
     ensures failures { OnOk result (W.failures out.new ≡ W.failures out.old) }
     ensures told { IfOk result (λ b. b ≡ false → HasToldUnproved text.now derivation.now (W.contents out.old) (W.contents out.new)) }
-    ensures stopped { IfErr result (IsStopped (λ _. Unit {0}) (W.contents out.old) (W.contents out.new) (W.failures out.old) (W.failures out.new)) }
+    ensures stopped { IfErr result (IsStopped (IsProveRefusal text.now derivation.now steps) (W.contents out.old) (W.contents out.new) (W.failures out.old) (W.failures out.new)) }
 {
     let derived = derive_program_all(rt, alloc, threads, text, derivation)?;
     let found = find_proofs_all(rt, alloc, threads, &derived, steps, watcher)?;
@@ -160,7 +161,7 @@ pub fn print_proofs_part<R: Threads + Sync, W: Out, P: Watcher + Copy + Sync>(
     ensures printed { IfOk result (λ b. IsTrue b → HasPrintedPart text.now derivation.now first last (W.contents out.old) (W.contents out.new)) }
     ensures failures { OnOk result (W.failures out.new ≡ W.failures out.old) }
     ensures told { IfOk result (λ b. b ≡ false → HasToldUnproved text.now derivation.now (W.contents out.old) (W.contents out.new)) }
-    ensures stopped { IfErr result (IsStopped (λ _. Unit {0}) (W.contents out.old) (W.contents out.new) (W.failures out.old) (W.failures out.new)) }
+    ensures stopped { IfErr result (IsStopped (IsProvePartRefusal text.now derivation.now first last steps) (W.contents out.old) (W.contents out.new) (W.failures out.old) (W.failures out.new)) }
 {
     let derived = derive_program_all(rt, alloc, threads, text, derivation)?;
     let found = find_part(rt, alloc, threads, &derived, first, last, steps, watcher)?;

@@ -1,7 +1,8 @@
 //! The printing of what is left of a run.
 
-ghost use Rattle.std.specs.Prelude.{◌≡◌, OnOk};
+ghost use Rattle.std.specs.Prelude.{◌≡◌, IfErr, OnOk};
 ghost use Rattle.std.specs.Io.KnownBytes.{Appends};
+ghost use Rattle.rg_words.specs.Stopped.{IsFailure};
 ghost use Rattle.rg_words.specs.Written.{CanCount};
 ghost use Rattle.rg_tree.specs.ProgramTrees.{program as program_tree};
 ghost use Rattle.rgc_run_json.specs.Records.{line_of, records_text, passed_text, end_data, run_text};
@@ -25,6 +26,7 @@ fn write_records<W: Out>(
     requires { CanCount (W.failures out.old) }
     ensures printed { OnOk result (Appends (W.contents out.old) (W.contents out.new) (records_text (program_tree program.now) records.now)) }
     ensures failures { OnOk result (W.failures out.new ≡ W.failures out.old) }
+    ensures stopped { IfErr result (IsFailure (W.failures out.old) (W.failures out.new)) }
 {
     for step in records {
         let line = record_line(alloc, program, step)?;
@@ -38,6 +40,7 @@ fn write_passed<W: Out>(alloc: Global, passed: &[Passed], out: &mut W) -> Result
     requires { CanCount (W.failures out.old) }
     ensures printed { OnOk result (Appends (W.contents out.old) (W.contents out.new) (passed_text passed.now)) }
     ensures failures { OnOk result (W.failures out.new ≡ W.failures out.old) }
+    ensures stopped { IfErr result (IsFailure (W.failures out.old) (W.failures out.new)) }
 {
     for each in passed {
         let line = passed_line(alloc, *each)?;
@@ -51,6 +54,7 @@ fn write_end<W: Out>(alloc: Global, why: Why, out: &mut W) -> Result<(), Refusal
     requires { CanCount (W.failures out.old) }
     ensures printed { OnOk result (Appends (W.contents out.old) (W.contents out.new) (line_of (end_data why))) }
     ensures failures { OnOk result (W.failures out.new ≡ W.failures out.old) }
+    ensures stopped { IfErr result (IsFailure (W.failures out.old) (W.failures out.new)) }
 {
     let line = end_line(alloc, why)?;
     write_all(out, line.as_bytes())?;
@@ -73,6 +77,7 @@ pub fn write_closed<W: Out>(
     requires { CanCount (W.failures out.old) }
     ensures printed { OnOk result (Appends (W.contents out.old) (W.contents out.new) (run_text (program_tree program.now) closed.now)) }
     ensures failures { OnOk result (W.failures out.new ≡ W.failures out.old) }
+    ensures stopped { IfErr result (IsFailure (W.failures out.old) (W.failures out.new)) }
 {
     let records = closed.records_from(alloc, 1)?;
     write_records(alloc, program, &records, out)?;

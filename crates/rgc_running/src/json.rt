@@ -1,17 +1,18 @@
 //! A run of an accepted program as JSON.
 
-ghost use Rattle.std.specs.Prelude.{◌≡◌, OnOk};
+ghost use Rattle.std.specs.Prelude.{◌≡◌, IfErr, OnOk};
 ghost use Rattle.rg_words.specs.Written.{CanCount};
 ghost use Rattle.rg_accept.specs.Stages.{emitted_program, emitted_blocks};
 ghost use Rattle.rgc_running.specs.RunJson.{HasPrintedRunJsonOf, HasPrintedRunJson};
+ghost use Rattle.rgc_running.specs.Refused.{IsUnbegun, IsRunRefusal, IsRunStopped};
 
 use crate::running::{RunFiles, play_files};
+use crate::unread::Unread;
 use rg_accept::{Emitted, build_all};
 use rg_code::checked::Checked;
-use rg_words::{Device, Out, Refusal};
+use rg_words::{Out, Refusal};
 use rgc_run_json::write_closed;
 use std::alloc::Global;
-use std::io::sink;
 use std::sync::Wait;
 use std::thread::Threads;
 
@@ -26,9 +27,9 @@ fn print_emitted_json<R: Threads + Wait + Sync, W: Out>(
     requires { CanCount (W.failures out.old) }
     ensures printed { OnOk result (HasPrintedRunJsonOf (emitted_program emitted.now) (emitted_blocks emitted.now) files.entry.start files.entry.moves files.entry.limit (W.contents out.old) (W.contents out.new)) }
     ensures failures { OnOk result (W.failures out.new ≡ W.failures out.old) }
+    ensures stopped { IfErr result (IsRunStopped (IsUnbegun (emitted_program emitted.now) files.entry.start files.entry.moves files.entry.limit) (W.contents out.old) (W.contents out.new) (W.failures out.old) (W.failures out.new)) }
 {
-    let mut nowhere = Device::new(sink());
-    let closed = play_files(rt, alloc, emitted, files, &mut nowhere)?;
+    let closed = play_files(rt, alloc, emitted, files, &mut Unread)?;
     write_closed(alloc, emitted.program(), &closed, out)
 }
 
@@ -48,6 +49,7 @@ pub fn print_run_json<R: Threads + Wait + Sync, W: Out>(
     requires { CanCount (W.failures out.old) }
     ensures printed { OnOk result (HasPrintedRunJson files.entry.text.now files.entry.derivation.now files.entry.proofs.now files.entry.start files.entry.moves files.entry.limit (W.contents out.old) (W.contents out.new)) }
     ensures failures { OnOk result (W.failures out.new ≡ W.failures out.old) }
+    ensures stopped { IfErr result (IsRunStopped (IsRunRefusal files.entry.text.now files.entry.derivation.now files.entry.proofs.now files.entry.start files.entry.moves files.entry.limit) (W.contents out.old) (W.contents out.new) (W.failures out.old) (W.failures out.new)) }
 {
     let emitted = build_all(
         rt,

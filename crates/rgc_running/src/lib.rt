@@ -3,6 +3,8 @@
 
 mod json;
 mod running;
+mod unread;
 
 pub use json::print_run_json;
 pub use running::{RunFiles, end_run, play_files, print_run};
+pub use unread::Unread;

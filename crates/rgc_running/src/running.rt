@@ -1,13 +1,16 @@
 //! A run of an accepted program: its lines, what is told of it, and its picture.
 
-ghost use Rattle.std.specs.Prelude.{◌≡◌, map, IfOk, OnOk, OnErr};
+ghost use Rattle.std.specs.Prelude.{◌≡◌, ◌⊎◌, false, map, IfOk, IfErr, OnOk, OnErr};
 ghost use Rattle.std.specs.Io.KnownBytes.{Appends};
 ghost use Rattle.rg_words.specs.Layout.{widths_of};
+ghost use Rattle.rg_words.specs.Refusals.{no_memory, refused};
+ghost use Rattle.rg_words.specs.Stopped.{IsFailure};
 ghost use Rattle.rg_words.specs.Written.{CanCount};
 ghost use Rattle.rg_tree.specs.Moves.{move as move_tree, AreMoves};
 ghost use Rattle.rg_monitor.specs.Lines.{lines_of};
 ghost use Rattle.rg_accept.specs.Stages.{emitted_program, emitted_blocks};
 ghost use Rattle.rgc_running.specs.Running.{StartsAt, AreTheMoves, IsRunLeft, HasPrintedRunOf, HasPrintedRun, why_text};
+ghost use Rattle.rgc_running.specs.Refused.{IsUnreadStart, AreUnreadMoves, opening_refusal, IsUnbegun, IsRunRefusal, IsRunStopped};
 
 use rg_accept::{Emitted, build_all};
 use rg_code::checked::Checked;
@@ -41,6 +44,7 @@ pub struct RunFiles<'a> {
 fn first_state(alloc: Global, layout: &Layout, start: Option<&[u8]>) -> Result<State, Refusal>
     ensures widths { IfOk result (λ s. s.widths ≡ widths_of layout.now) }
     ensures starts { IfOk result (λ s. StartsAt layout.now start.entry s.values) }
+    ensures refused { IfErr result (λ e. IsUnreadStart layout.now start.entry e ⊎ (e ≡ no_memory)) }
 {
     match start {
         Some(bytes) => rg_parse::start(alloc, layout, bytes),
@@ -52,6 +56,7 @@ fn first_state(alloc: Global, layout: &Layout, start: Option<&[u8]>) -> Result<S
 fn all_moves(alloc: Global, layout: &Layout, moves: Option<&[u8]>) -> Result<Vec<Move>, Refusal>
     ensures changes { IfOk result (λ ms. AreMoves layout.now (map move_tree ms.items)) }
     ensures moved { IfOk result (λ ms. AreTheMoves layout.now moves.entry (map move_tree ms.items)) }
+    ensures refused { IfErr result (AreUnreadMoves layout.now moves.entry) }
 {
     match moves {
         Some(bytes) => rg_parse::moves(alloc, layout, bytes),
@@ -72,7 +77,9 @@ fn why_line(why: Why) -> &'static str
 }
 
 /// The refusal of a run, with the place of a start that isn't in the pre.
-fn placed(refusal: Refusal) -> Refusal {
+fn placed(refusal: Refusal) -> Refusal
+    ensures { refusal ≡ refused refusal.number → result ≡ opening_refusal refusal.number }
+{
     match refusal.number {
         RefusalNumber::StartOutsidePre => {
             Refusal::at(refusal.number, SourceFile::Start, Place::Line(1))
@@ -123,6 +130,8 @@ pub fn end_run<W: Out, F: Out>(
     requires faults { CanCount (F.failures faults.old) }
     ensures printed { OnOk result (Appends (W.contents out.old) (W.contents out.new) (why_text closed.now.why)) }
     ensures failures { OnOk result (W.failures out.new ≡ W.failures out.old) }
+    ensures stopped { IfErr result (IsFailure (W.failures out.old) (W.failures out.new)) }
+    ensures undrawn { is_drawn ≡ false → picture.new ≡ picture.old }
     ensures quiet { OnErr result (F.failures faults.new ≡ F.failures faults.old) }
 {
     let lines = passed_lines(alloc, closed.refused())?;
@@ -150,6 +159,7 @@ pub fn play_files<'e, R: Threads + Wait + Sync, W: Out>(
     ensures run { IfOk result (λ c. IsRunLeft (emitted_program emitted.now) (emitted_blocks emitted.now) files.entry.start files.entry.moves files.entry.limit c) }
     ensures printed { IfOk result (λ c. Appends (W.contents out.old) (W.contents out.new) (lines_of (emitted_program emitted.now) c.history)) }
     ensures failures { OnOk result (W.failures out.new ≡ W.failures out.old) }
+    ensures stopped { IfErr result (IsRunStopped (IsUnbegun (emitted_program emitted.now) files.entry.start files.entry.moves files.entry.limit) (W.contents out.old) (W.contents out.new) (W.failures out.old) (W.failures out.new)) }
 {
     let layout = &emitted.program().layout;
     let first = first_state(alloc, layout, files.start)?;
@@ -174,6 +184,7 @@ fn print_emitted<R: Threads + Wait + Sync, W: Out, F: Out>(
     requires faults { CanCount (F.failures faults.old) }
     ensures printed { OnOk result (HasPrintedRunOf (emitted_program emitted.now) (emitted_blocks emitted.now) files.entry.start files.entry.moves files.entry.limit (W.contents out.old) (W.contents out.new)) }
     ensures failures { OnOk result (W.failures out.new ≡ W.failures out.old) }
+    ensures stopped { IfErr result (IsRunStopped (IsUnbegun (emitted_program emitted.now) files.entry.start files.entry.moves files.entry.limit) (W.contents out.old) (W.contents out.new) (W.failures out.old) (W.failures out.new)) }
     ensures quiet { OnErr result (F.failures faults.new ≡ F.failures faults.old) }
 {
     let closed = play_files(rt, alloc, emitted, files, out)?;
@@ -194,7 +205,8 @@ fn print_emitted<R: Threads + Wait + Sync, W: Out, F: Out>(
 /// # Errors
 ///
 /// As `rg_accept::build_all`; then the first fault of the start, and that of the moves; then `Limit` for too many steps, and
-/// `StartOutsidePre`. `Write` where the writer failed, `Memory` where memory is refused, in any thread.
+/// `StartOutsidePre`; nothing is printed then. `Write` where the writer failed, `Memory` where memory is refused, in any thread. `Mismatch` or
+/// `Stranger` where what is left of the run isn't as it was printed; no run has been seen to be so.
 pub fn print_run<R: Threads + Wait + Sync, W: Out, F: Out>(
     rt: &R,
     alloc: Global,
@@ -207,6 +219,7 @@ pub fn print_run<R: Threads + Wait + Sync, W: Out, F: Out>(
     requires faults { CanCount (F.failures faults.old) }
     ensures printed { OnOk result (HasPrintedRun files.entry.text.now files.entry.derivation.now files.entry.proofs.now files.entry.start files.entry.moves files.entry.limit (W.contents out.old) (W.contents out.new)) }
     ensures failures { OnOk result (W.failures out.new ≡ W.failures out.old) }
+    ensures stopped { IfErr result (IsRunStopped (IsRunRefusal files.entry.text.now files.entry.derivation.now files.entry.proofs.now files.entry.start files.entry.moves files.entry.limit) (W.contents out.old) (W.contents out.new) (W.failures out.old) (W.failures out.new)) }
     ensures quiet { OnErr result (F.failures faults.new ≡ F.failures faults.old) }
 {
     let emitted = build_all(

@@ -1,2 +1,4 @@
 pub mod Verified
+pub mod Unproved
+pub mod Refused
 pub mod Inner

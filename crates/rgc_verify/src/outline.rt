@@ -1,7 +1,9 @@
 //! The text and the derivation that an outline stands for.
 
-ghost use Rattle.std.specs.Prelude.{◌≡◌, OnOk};
+ghost use Rattle.std.specs.Prelude.{◌≡◌, IfErr, OnOk};
+ghost use Rattle.rg_words.specs.Stopped.{IsStopped};
 ghost use Rattle.rg_words.specs.Written.{CanCount};
+ghost use Rattle.rgc.specs.Chosen.{IsDeriveRefusal};
 ghost use Rattle.rgc_verify.specs.Verified.{HasPrintedMap, HasPrintedOutline};
 
 use rg_outline_files::OutlineFiles;
@@ -24,6 +26,7 @@ pub fn print_outline<W: Out>(
     requires { CanCount (W.failures out.old) }
     ensures printed { OnOk result (HasPrintedOutline (W.contents out.old) (W.contents out.new)) }
     ensures failures { OnOk result (W.failures out.new ≡ W.failures out.old) }
+    ensures stopped { IfErr result (IsStopped (IsDeriveRefusal files.now.text.items files.now.derivation.items) (W.contents out.old) (W.contents out.new) (W.failures out.old) (W.failures out.new)) }
 {
     let _derived = derive_program(alloc, &files.text, &files.derivation)?;
     side.extend_from_slice(&files.derivation)?;
@@ -46,6 +49,7 @@ pub fn print_map<W: Out>(
     requires { CanCount (W.failures out.old) }
     ensures printed { OnOk result (HasPrintedMap map.now (W.contents out.old) (W.contents out.new)) }
     ensures failures { OnOk result (W.failures out.new ≡ W.failures out.old) }
+    ensures stopped { IfErr result (IsStopped (IsDeriveRefusal files.now.text.items files.now.derivation.items) (W.contents out.old) (W.contents out.new) (W.failures out.old) (W.failures out.new)) }
 {
     let _read = derive_program(alloc, &files.text, &files.derivation)?;
     write_all(out, map)?;

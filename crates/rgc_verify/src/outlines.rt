@@ -1,7 +1,13 @@
 //! An outline as a person gives it: whether it is verified, what isn't proved of it, and what it is perhaps not meant to say.
 
-ghost use Rattle.std.specs.Prelude.{◌≡◌, IsTrue, IfOk, OnOk};
+ghost use Rattle.std.specs.Prelude.{◌≡◌, ℕ, List, IsTrue, false, IfOk, IfErr, OnOk};
+ghost use Rattle.std.specs.Io.KnownBytes.{Appends};
+ghost use Rattle.rg_words.specs.Refusals.{no_memory};
 ghost use Rattle.rg_words.specs.Written.{CanCount};
+ghost use Rattle.rg_parse.specs.Programs.{IsProgramRefusal};
+ghost use Rattle.rgc_walked.specs.NoVerdicts.{IsRefusedBy, IsNoVerdict};
+ghost use Rattle.rgc_verify.specs.Refused.{IsSomeVerifyRefusal};
+ghost use Rattle.rgc_verify.specs.Unproved.{HasToldUnverified};
 ghost use Rattle.rgc_verify.specs.Verified.{HasPrintedVerdict};
 
 use crate::verdict::{Form, push_name};
@@ -45,7 +51,9 @@ fn push_walk(
     files: &OutlineFiles,
     unproved: &[Unproved],
     told: &mut Vec<u8>,
-) -> Result<(), NoVerdict> {
+) -> Result<(), NoVerdict>
+    ensures { IfErr result (IsRefusedBy (IsProgramRefusal files.now.text.items)) }
+{
     let states = states_of(alloc, unproved)?;
     let _ = tell_walk(alloc, outline, files, &states, told)?;
     Ok(())
@@ -61,7 +69,9 @@ fn print_unproved<W: Out>(
     out: &mut W,
 ) -> Result<(), NoVerdict>
     requires { CanCount (W.failures out.old) }
+    ensures told { OnOk result ((told : List ℕ) × Appends (W.contents out.old) (W.contents out.new) told) }
     ensures failures { OnOk result (W.failures out.new ≡ W.failures out.old) }
+    ensures stopped { IfErr result (IsNoVerdict (IsProgramRefusal files.now.text.items) (W.contents out.old) (W.contents out.new) (W.failures out.old) (W.failures out.new)) }
 {
     let mut told = conditions_told(alloc, outline, files, unproved)?;
     push_name(form, &mut told)?;
@@ -84,7 +94,9 @@ fn push_warnings(
     outline: OutlineSource<'_>,
     files: &OutlineFiles,
     warnings: &mut Vec<u8>,
-) -> Result<(), NoVerdict> {
+) -> Result<(), NoVerdict>
+    ensures { IfErr result (IsRefusedBy (λ e. e ≡ no_memory)) }
+{
     let told = warnings_told(alloc, outline, is_shown(alloc, &files.unmet))?;
     warnings.extend_from_slice(&told)?;
     Ok(())
@@ -112,7 +124,10 @@ pub fn verify_outline<R: Threads + Sync, W: Out, P: Watcher + Copy + Sync>(
     requires { CanCount (W.failures out.old) }
     // It is said only where some text, derivation and proofs are accepted.
     ensures printed { IfOk result (λ b. IsTrue b → HasPrintedVerdict form.entry (W.contents out.old) (W.contents out.new)) }
+    // Else what was found of conditions without a proof is true of them, and something was told.
+    ensures told { IfOk result (λ b. b ≡ false → HasToldUnverified (W.contents out.old) (W.contents out.new)) }
     ensures failures { OnOk result (W.failures out.new ≡ W.failures out.old) }
+    ensures stopped { IfErr result (IsNoVerdict (IsSomeVerifyRefusal steps) (W.contents out.old) (W.contents out.new) (W.failures out.old) (W.failures out.new)) }
 {
     let files = OutlineFiles::of(alloc, outline)?;
     push_warnings(alloc, outline, &files, warnings)?;

@@ -1,7 +1,9 @@
 //! The runs of an outline alone: no assertion is asked.
 
-ghost use Rattle.std.specs.Prelude.{◌≡◌, false, IfOk, OnOk};
+ghost use Rattle.std.specs.Prelude.{◌≡◌, false, IfOk, IfErr, OnOk};
 ghost use Rattle.rg_words.specs.Written.{CanCount};
+ghost use Rattle.rgc_walked.specs.NoVerdicts.{IsNoVerdict};
+ghost use Rattle.rgc_verify.specs.Refused.{IsSomeTextRefusal};
 ghost use Rattle.rgc_verify.specs.Verified.{HasPrintedRuns, HasBreakingRun};
 
 use crate::verdict::{Form, push_name};
@@ -28,6 +30,7 @@ pub fn runs_only<W: Out>(
     ensures refuted { IfOk result (λ b. b ≡ false → HasBreakingRun) }
     ensures printed { OnOk result (HasPrintedRuns (W.contents out.old) (W.contents out.new)) }
     ensures failures { OnOk result (W.failures out.new ≡ W.failures out.old) }
+    ensures stopped { IfErr result (IsNoVerdict IsSomeTextRefusal (W.contents out.old) (W.contents out.new) (W.failures out.old) (W.failures out.new)) }
 {
     let files = OutlineFiles::of(alloc, outline)?;
     let mut told = Vec::new(alloc);

@@ -1,8 +1,13 @@
 //! The verification of an outline: its text is read as any file is, and so is each piece of its derivation; proofs are looked for, and checked.
 
-ghost use Rattle.std.specs.Prelude.{◌≡◌, None, IfOk, OnOk};
+ghost use Rattle.std.specs.Prelude.{◌≡◌, None, IfOk, IfErr, IfSome, OnOk};
+ghost use Rattle.rg_words.specs.Stopped.{IsStopped};
 ghost use Rattle.rg_words.specs.Written.{CanCount};
+ghost use Rattle.rg_hints.specs.Proved.{IsProofsRefusal};
+ghost use Rattle.rg_accept.specs.Accepted.{conditions_of};
 ghost use Rattle.rg_accept.specs.Stages.{derived_program, derived_lines};
+ghost use Rattle.rgc_verify.specs.Refused.{IsVerifyRefusal};
+ghost use Rattle.rgc_verify.specs.Unproved.{AreUnprovedOf};
 ghost use Rattle.rgc_verify.specs.Verified.{HasPrintedVerdict};
 ghost use Rattle.rgc_verify.specs.Inner.Counts.{HasPrintedCounts};
 
@@ -33,6 +38,7 @@ fn print_counts<R: Threads + Sync, W: Out>(
     requires { CanCount (W.failures out.old) }
     ensures printed { OnOk result (HasPrintedCounts (derived_program derived) (derived_lines derived) proofs.now form.entry (W.contents out.old) (W.contents out.new)) }
     ensures failures { OnOk result (W.failures out.new ≡ W.failures out.old) }
+    ensures stopped { IfErr result (IsStopped (IsProofsRefusal (conditions_of (derived_program derived) (derived_lines derived)) proofs.now) (W.contents out.old) (W.contents out.new) (W.failures out.old) (W.failures out.new)) }
 {
     let conditions = derived.conditions(alloc)?.len();
     derived.prove_all(rt, alloc, threads, proofs)?;
@@ -60,6 +66,10 @@ pub fn print_verified<R: Threads + Sync, W: Out, P: Watcher + Copy + Sync>(
     requires { CanCount (W.failures out.old) }
     ensures printed { IfOk result (λ unproved. unproved ≡ None → HasPrintedVerdict form.entry (W.contents out.old) (W.contents out.new)) }
     ensures failures { OnOk result (W.failures out.new ≡ W.failures out.old) }
+    // What is handed back of conditions is true of them, and nothing was printed.
+    ensures unproved { IfOk result (λ found. IfSome found (λ unproved. AreUnprovedOf files.now.text.items files.now.derivation.items unproved.items)) }
+    ensures untouched { IfOk result (λ found. IfSome found (λ _. W.contents out.new ≡ W.contents out.old)) }
+    ensures stopped { IfErr result (IsStopped (IsVerifyRefusal files.now.text.items files.now.derivation.items steps) (W.contents out.old) (W.contents out.new) (W.failures out.old) (W.failures out.new)) }
 {
     let derived = derive_outline(alloc, files)?;
     match find_proofs_all(rt, alloc, threads, &derived, steps, watcher)? {

@@ -1,1 +1,2 @@
+pub mod NoVerdicts
 pub mod Refuted

@@ -1,7 +1,9 @@
 //! The walk of an outline's text.
 
-ghost use Rattle.std.specs.Prelude.{IfOk};
+ghost use Rattle.std.specs.Prelude.{IfOk, IfErr};
+ghost use Rattle.rg_parse.specs.Programs.{IsProgramRefusal};
 ghost use Rattle.rg_walk.specs.Breaking.{OnBreaks};
+ghost use Rattle.rgc_walked.specs.NoVerdicts.{IsRefusedBy};
 ghost use Rattle.rgc_walked.specs.Refuted.{IsRefuted, IsTold};
 
 use crate::no_verdict::NoVerdict;
@@ -29,7 +31,8 @@ pub enum WalkTold {
 
 /// Walks the program that a text spells.
 fn walk_text(alloc: Global, text: &[u8], given: &[Vec<u64>]) -> Result<Walked, Refusal>
-    ensures { IfOk result (λ walked. OnBreaks walked (IsRefuted text.now)) }
+    ensures breaks { IfOk result (λ walked. OnBreaks walked (IsRefuted text.now)) }
+    ensures refused { IfErr result (IsProgramRefusal text.now) }
 {
     let program = program(alloc, text)?;
     let walked = walk(alloc, &program, given, BOUNDS)?;
@@ -52,7 +55,8 @@ pub fn tell_walk(
     told: &mut Vec<u8>,
 ) -> Result<WalkTold, NoVerdict>
     // Where a run is told, the program that the text spells doesn't satisfy its specification.
-    ensures { IfOk result (IsTold files.now.text.items) }
+    ensures told { IfOk result (IsTold files.now.text.items) }
+    ensures refused { IfErr result (IsRefusedBy (IsProgramRefusal files.now.text.items)) }
 {
     let walked = walk_text(alloc, &files.text, given)?;
     let lines = walk_told(alloc, outline, &walked)?;

@@ -1,9 +1,12 @@
 -- What a search for proofs of conditions keeps.
-use Rattle.std.specs.Prelude.{◌≡◌, ◌⊎◌, ℕ, ◌+◌, ◌<◌, Option, Some, None, Result, List, [], ◌∷◌, ◌++◌, length, slice_index_or, IfOk, IfSome}
+use Rattle.std.specs.Prelude.{◌≡◌, ◌⊎◌, ℕ, ◌+◌, ◌<◌, ◌≤◌, Option, Some, None, Result, Ok, Err, List, [], ◌∷◌, ◌++◌, length, slice_index_or, IfSome}
+use Rattle.rg_words.specs.declared.limits.TheConstants.{MOST_VARIABLES}
 use Rattle.rg_words.specs.declared.refusal.Refusal.{Refusal}
+use Rattle.rg_words.specs.declared.refusal.SourceFile.TheVariants.{Derivation}
+use Rattle.rg_clauses.specs.Conditions.{clauses_of_condition}
 use Rattle.rg_tree.specs.ConditionTrees.{ConditionTree}
 use Rattle.rg_tree.specs.Programs.{nth}
-use Rattle.rg_find.specs.Judged.{IsJudged}
+use Rattle.rg_find.specs.Judged.{IsJudged, IsJudgeRefusal}
 use Rattle.rg_find.specs.declared.judgement.Judged.{Judged}
 use Rattle.rgc.specs.declared.proofs_found.Unproved.{Unproved}
 use Rattle.rgc.specs.declared.proofs_found.Sought.{Sought}
@@ -23,10 +26,21 @@ Takes number judged old new = (new ≡ old) ⊎ IsKept number judged old new
 abbrev pub IsJudgedAt : List ConditionTree → ℕ → Judged → Type 0
 IsJudgedAt conditions number judged = (c : ConditionTree) → nth conditions number ≡ Some c → IsJudged c judged
 
--- the same of what was sought
+-- the same of what was sought; and the condition keeps the limit of variables
 abbrev pub IsSoughtAt : List ConditionTree → ℕ → Sought → Type 0
-IsSoughtAt conditions number sought = IsJudgedAt conditions number sought.judged
+IsSoughtAt conditions number sought =
+    (c : ConditionTree) → nth conditions number ≡ Some c → IsJudged c sought.judged × ((clauses_of_condition c).variables ≤ MOST_VARIABLES)
+
+-- the condition with this number isn't judged, for this reason
+abbrev pub IsUnsoughtAt : List ConditionTree → ℕ → ℕ → Refusal → Type 0
+IsUnsoughtAt conditions number steps e =
+    (c : ConditionTree) × (nth conditions number ≡ Some c) × IsJudgeRefusal c Derivation number steps e
+
+-- the answer of a search for lines of the condition with this number
+abbrev pub IsAnswerAt : List ConditionTree → ℕ → ℕ → Result Sought Refusal → Type 0
+IsAnswerAt conditions number steps (Ok sought) = IsSoughtAt conditions number sought
+IsAnswerAt conditions number steps (Err e) = IsUnsoughtAt conditions number steps e
 
 -- at each place stands what was sought for the condition there, from one place on, or nothing
-abbrev pub AreSought : List ConditionTree → ℕ → List (Option (Result Sought Refusal)) → Type 0
-AreSought conditions from known = (i : ℕ) → i < length known → IfSome (slice_index_or known i None) (λ r. IfOk r (IsSoughtAt conditions (from + i + 1)))
+abbrev pub AreSought : List ConditionTree → ℕ → ℕ → List (Option (Result Sought Refusal)) → Type 0
+AreSought conditions from steps known = (i : ℕ) → i < length known → IfSome (slice_index_or known i None) (IsAnswerAt conditions (from + i + 1) steps)

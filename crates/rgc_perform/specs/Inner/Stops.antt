@@ -3,27 +3,35 @@ use Rattle.std.specs.Prelude.{◌≡◌, ℕ, List, Option, Some}
 use Rattle.rgc_line.specs.declared.command.Command.{Command}
 use Rattle.rgc_line.specs.declared.command.Format.{Format}
 use Rattle.rgc_line.specs.declared.command.Settings.{Settings}
+use Rattle.rgc_walked.specs.declared.no_verdict.NoVerdict.{NoVerdict}
+use Rattle.rgc_walked.specs.declared.no_verdict.NoVerdict.TheVariants.{Outline as no_verdict, Refused as verdict_refused}
+use Rattle.rgc_outlined.specs.declared.stop.NotDone.{NotDone}
+use Rattle.rgc_outlined.specs.declared.stop.NotDone.TheVariants.{Outline as not_done, Refused as outline_refused}
 use Rattle.rgc_perform.specs.declared.files.Files.{Files}
 use Rattle.rgc_perform.specs.declared.stops.Stop.{Stop}
 use Rattle.rgc_perform.specs.declared.stops.Stop.TheVariants.{Device, Refused, Outline, Usage, Told}
-use Rattle.rgc_perform.specs.Stopped.{IsUntouched, Writes, unread_line, IsStoppedBy, TellsWhy, IsOverOutline, IsMisfit, TellsRefusal}
+use Rattle.rgc_perform.specs.Stopped.{IsUntouched, Writes, unread_line, IsStoppedBy, TellsWhy, IsOverOutline, WentOut, IsMisfit, TellsRefusal}
 
 -- a file can't be read, and this line tells it
 abbrev pub IsDevice : Option (List ℕ) → Stop → Type 0
 IsDevice line (Device told) = line ≡ Some told.now
 IsDevice line _ = ⊥
 
--- an outline is refused, or not verified; or it has a refusal
-abbrev pub IsOfOutline : Stop → Type 0
-IsOfOutline (Outline lines) = Unit {0}
-IsOfOutline (Refused e) = Unit {0}
-IsOfOutline _ = ⊥
+-- no verdict on an outline, as a stop
+abbrev pub stop_of_verdict : NoVerdict → Stop
+stop_of_verdict (no_verdict lines) = Outline lines
+stop_of_verdict (verdict_refused e) = Refused e
+
+-- nothing done with an outline, as a stop
+abbrev pub stop_of_outline : NotDone → Stop
+stop_of_outline (not_done lines) = Outline lines
+stop_of_outline (outline_refused e) = Refused e
 
 -- what is so of the files and of what went out, where a command in a format isn't done
 abbrev pub Stops : Format → Command → Files → Option (List ℕ) → Option (List ℕ) → ℕ → ℕ → Stop → Type 0
 Stops format command files old new failed after (Device line) = (unread_line command files ≡ Some line.now) × IsUntouched old new failed after
-Stops format command files old new failed after (Refused e) = IsStoppedBy format command files old new failed after e
-Stops format command files old new failed after (Outline lines) = IsOverOutline command
+Stops format command files old new failed after (Refused e) = IsStoppedBy command files old new failed after e
+Stops format command files old new failed after (Outline lines) = IsOverOutline command × WentOut command old new failed after
 Stops format command files old new failed after (Usage line) = IsMisfit format command × IsUntouched old new failed after
 Stops format command files old new failed after Told = TellsWhy format command files old new × (after ≡ failed)
 

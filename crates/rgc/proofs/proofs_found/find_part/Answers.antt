@@ -1,11 +1,43 @@
-use Rattle.std.proofs.Common.{arith}
+use Rattle.std.proofs.Common.{◌≡◌, ◌∙◌, ◌+◌, ◌-◌, List, length, map, arith, ap, sym, inr}
 use Rattle.std.specs.Prelude.{string_bytes}
+use Rattle.rg_tree.specs.declared.condition.Condition.{Condition}
+use Rattle.rg_tree.specs.Conditions.{condition_tree}
 use Rattle.rg_accept.specs.Accepted.{conditions_of}
 use Rattle.rg_accept.specs.Stages.{derived_program, derived_lines}
-use Rattle.rgc.proofs.Search.{part_found}
+use Rattle.rgc.proofs.Search.{part_found, part_refused, range_same, range_refused, part_unsought}
 use Rattle.rgc.proofs.proofs_found.find_part.Goals as goal
 
-pub returns : goal.returns
-returns g c =
-    part_found c.in_ok-conditions.conditions.items c.as_slice-2.result.now (conditions_of (derived_program c.args.derived.now) (derived_lines c.args.derived.now)) c.args.first c.args.last c.len-count.result c.as_bytes.result.now (string_bytes c.in_ok-found.found.sections)
-    c.in_ok-conditions.ensures.list c.as_slice-2.ensures.value c.as_bytes.ensures.value c.in_ok-check_range.ensures.range (omega (arith, c.len-count.ensures, c.in_ok-conditions.conditions.ok.0)) c.in_ok-prove_part.ensures.proved
+pub returns-in-Err-clause-refused : goal.returns-in-Err-clause-refused
+returns-in-Err-clause-refused g c =
+    let asked = conditions_of (derived_program c.args.derived.now) (derived_lines c.args.derived.now) in
+    let count : c.len-count.result ≡ length c.in_ok-conditions.conditions.items = omega (arith, c.len-count.ensures, c.in_ok-conditions.conditions.ok.0) in
+    range_refused c.in_ok-conditions.conditions.items asked c.args.first c.args.last c.args.steps c.len-count.result c.in-Err.refusal c.in_ok-conditions.ensures.list count (λ range. absurd (cc (c.in-Err.ensures.accepts range))) c.in-Err.ensures.refused
+
+pub returns-in-Err-search_in-clause-refused : goal.returns-in-Err-search_in-clause-refused
+returns-in-Err-search_in-clause-refused g c =
+    let asked = conditions_of (derived_program c.args.derived.now) (derived_lines c.args.derived.now) in
+    let items = c.in_ok-conditions.conditions.items in
+    let count : c.len-count.result ≡ length items = omega (arith, c.len-count.ensures, c.in_ok-conditions.conditions.ok.0) in
+    let same : map condition_tree c.as_slice-all.result.now ≡ asked = ap (λ (xs : List Condition). map condition_tree xs) c.as_slice-all.ensures.value ∙ c.in_ok-conditions.ensures.list in
+    let range = c.in-Ok.ensures.range in
+    let first : c.args.first - 1 + 1 ≡ c.args.first = omega (arith, range.low) in
+    part_unsought c.as_slice-all.result.now asked c.args.first c.args.last c.args.steps (c.args.first - 1) c.in-Err-search_in.refusal same first
+    (range_same items c.as_slice-all.result.now asked c.args.first c.args.last c.len-count.result c.in_ok-conditions.ensures.list c.as_slice-all.ensures.value range count)
+    c.in-Err-search_in.ensures.refused
+
+pub returns-in-Ok-prove_part-clause-found : goal.returns-in-Ok-prove_part-clause-found
+returns-in-Ok-prove_part-clause-found g c =
+    let asked = conditions_of (derived_program c.args.derived.now) (derived_lines c.args.derived.now) in
+    let count : c.len-count.result ≡ length c.in_ok-conditions.conditions.items = omega (arith, c.len-count.ensures, c.in_ok-conditions.conditions.ok.0) in
+    part_found c.in_ok-conditions.conditions.items c.as_slice-all.result.now asked c.args.first c.args.last c.len-count.result c.in_ok-conditions.ensures.list c.as_slice-all.ensures.value c.in-Ok.ensures.range count
+    c.as_bytes.result.now (string_bytes c.in-Ok-search_in.found.sections) c.as_bytes.ensures.value c.in-Ok-prove_part.ensures.proved
+
+pub returns-clause-refused : goal.returns-clause-refused
+returns-clause-refused g c =
+    let asked = conditions_of (derived_program c.args.derived.now) (derived_lines c.args.derived.now) in
+    let count : c.len-count.result ≡ length c.in_ok-conditions.conditions.items = omega (arith, c.len-count.ensures, c.in_ok-conditions.conditions.ok.0) in
+    inr (inr (inr (
+      c.as_bytes.result.now,
+      part_refused c.in_ok-conditions.conditions.items c.as_slice-all.result.now asked c.args.first c.args.last c.len-count.result c.in_ok-conditions.ensures.list c.as_slice-all.ensures.value c.in-Ok.ensures.range count
+          c.as_bytes.result.now c.in-Err-prove_part.refusal c.in-Err-prove_part.ensures.refused,
+    )))

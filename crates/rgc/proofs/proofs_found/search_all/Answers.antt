@@ -1,6 +1,16 @@
-use Rattle.rgc.proofs.Search.{taken_there}
+use Rattle.std.proofs.Common.{◌+◌, map, inr}
+use Rattle.rg_tree.specs.Conditions.{condition_tree}
+use Rattle.rgc.proofs.Search.{taken_there, keep_more, first_unjudged}
 use Rattle.rgc.proofs.proofs_found.search_all.Goals as goal
 
 pub loop-place-preserved : goal.loop-place-preserved
 loop-place-preserved g c =
-    taken_there c.args.conditions.now c.loop-place.place c.in_ok-sought.sought.judged c.loop-place.found.unproved.items c.take.new.self.unproved.items c.loop-place-test.true c.in_ok-sought.ensures c.loop-place.invariant c.in_ok-take.ensures
+    let cs = map condition_tree c.args.conditions.now in
+    let place = c.loop-place.place in
+    record {
+      told = taken_there c.args.conditions.now place c.in-Ok.sought.judged c.loop-place.found.unproved.items c.take.new.self.unproved.items c.loop-place-test.true (λ t is. (c.in-Ok.ensures t is).0) c.loop-place.invariant.told c.in_ok-take.ensures;
+      keep = keep_more cs 1 (place + 1) c.in-Ok.sought c.loop-place.invariant.keep c.in-Ok.ensures;
+    }
+
+pub returns-in-Err-clause-refused : goal.returns-in-Err-clause-refused
+returns-in-Err-clause-refused g c = inr (first_unjudged (map condition_tree c.args.conditions.now) 1 (c.loop-place.place + 1) c.args.steps c.in-Err.refusal c.loop-place.invariant.keep c.in-Err.ensures)

@@ -1,11 +1,18 @@
-use Rattle.std.proofs.Common.{◌<◌, length, arith}
-use Rattle.rgc.proofs.Search.{taken_there}
+use Rattle.std.proofs.Common.{◌<◌, ◌+◌, length, map, arith, inr}
+use Rattle.rg_tree.specs.Conditions.{condition_tree}
+use Rattle.rgc.proofs.Search.{taken_there, keep_more, first_unjudged}
 use Rattle.rgc.proofs.proofs_found.search_in.Goals as goal
 
 pub loop-place-preserved : goal.loop-place-preserved
 loop-place-preserved g c =
-    let small : c.loop-place.place < length c.args.conditions.now = omega (arith, c.loop-place-test.true, c.requires.bound) in
+    let cs = map condition_tree c.args.conditions.now in
+    let place = c.loop-place.place in
+    let small : place < length c.args.conditions.now = omega (arith, c.loop-place-test.true, c.requires.bound) in
     record {
-      told = taken_there c.args.conditions.now c.loop-place.place c.in_ok-sought.sought.judged c.loop-place.found.unproved.items c.take.new.self.unproved.items small c.in_ok-sought.ensures.judged c.loop-place.invariant.told c.in_ok-take.ensures;
-      known = c.in_ok-sought.ensures.known;
+      told = taken_there c.args.conditions.now place c.in-Ok.sought.judged c.loop-place.found.unproved.items c.take.new.self.unproved.items small (λ t is. (c.in-Ok.ensures.answer t is).0) c.loop-place.invariant.told c.in_ok-take.ensures;
+      known = c.in-Ok.ensures.known;
+      keep = keep_more cs (c.args.from + 1) (place + 1) c.in-Ok.sought c.loop-place.invariant.keep c.in-Ok.ensures.answer;
     }
+
+pub returns-in-Err-clause-refused : goal.returns-in-Err-clause-refused
+returns-in-Err-clause-refused g c = inr (first_unjudged (map condition_tree c.args.conditions.now) (c.args.from + 1) (c.loop-place.place + 1) c.args.steps c.in-Err.refusal c.loop-place.invariant.keep c.in-Err.ensures.answer)

@@ -1,5 +1,5 @@
-use Rattle.std.proofs.Common.{◌≡◌, ◌++◌, ap, subst}
-use Rattle.std.proofs.lemmas.Result.{on_ok_weaker}
+use Rattle.std.proofs.Common.{◌≡◌, ◌++◌, ap, subst, inr, None}
+use Rattle.std.proofs.lemmas.Result.{err_from_is_err_and, on_ok_weaker}
 use Rattle.std.specs.Io.KnownBytes.{Appends}
 use Rattle.rg_words.proofs.Written.{appends_both}
 use Rattle.rg_tree.specs.ProgramTrees.{program as program_tree}
@@ -8,6 +8,9 @@ use Rattle.rg_tree.specs.declared.program.Program.{Program}
 use Rattle.rg_outline_records.specs.Told.{told_lines}
 use Rattle.rg_accept.specs.Stages.{emitted_program}
 use Rattle.rgc_running.specs.Running.{why_text}
+use Rattle.rg_words.proofs.Cuts.{failure_behind, failure_stops}
+use Rattle.rgc_outlined.specs.RunStopped.{IsUnrun}
+use Rattle.rgc_outlined.proofs.Stops.{unprinted_run}
 use Rattle.rgc_outlined.proofs.run.run_emitted.Goals as goal
 
 pub returns-clause-printed : goal.returns-clause-printed
@@ -22,3 +25,18 @@ returns-clause-printed g c =
           (appends_both (g.W.Out.contents c.args.out.now) (g.W.Out.contents c.print_told.new.out) (g.W.Out.contents c.end_run.new.out) _ _ c.in_ok-print_told.ensures.printed went);
     })
     c.end_run.ensures.printed
+
+pub returns-in_err-closed-clause-stopped : goal.returns-in_err-closed-clause-stopped
+returns-in_err-closed-clause-stopped g c =
+    let p = err_from_is_err_and c.from_residual.result c.from_residual.ensures.1 in
+    rw (p.1, p.2) (unprinted_run (emitted_program c.args.emitted.now) c.args.files.start c.args.files.moves c.args.files.limit None None _ 0 _ _ c.in_err-closed.ensures.stopped)
+
+pub returns-in_err-print_told-clause-stopped : goal.returns-in_err-print_told-clause-stopped
+returns-in_err-print_told-clause-stopped g c =
+    let p = err_from_is_err_and c.from_residual-in_err-print_told.result c.from_residual-in_err-print_told.ensures.1 in
+    rw (p.1, p.2) (inr c.in_err-print_told.ensures.stopped)
+
+pub returns-clause-stopped : goal.returns-clause-stopped
+returns-clause-stopped g c =
+    failure_stops (IsUnrun (emitted_program c.args.emitted.now) c.args.files.start c.args.files.moves c.args.files.limit) _ _ _ _ c.end_run.result
+    (failure_behind _ (g.W.Out.failures c.print_told.new.out) _ c.end_run.result c.in_ok-print_told.ensures.failures c.end_run.ensures.stopped)

@@ -1,5 +1,10 @@
+use Rattle.std.proofs.Common.{inl, inr}
+use Rattle.std.proofs.lemmas.Result.{err_from_is_err_and}
+use Rattle.rg_words.proofs.Cuts.{refused_stops}
 use Rattle.rg_accept.specs.Stages.{derived_program, derived_lines}
-use Rattle.rgc_outlined.proofs.Proved.{derived_same, proved_where}
+use Rattle.rgc_outlined.specs.Stopped.{IsSomeWriteRefusal}
+use Rattle.rgc_outlined.proofs.Proved.{derived_same, refused_same, proved_where, unproved_where}
+use Rattle.rgc_outlined.proofs.Stops.{no_files_done, not_done_weaker}
 use Rattle.rgc_outlined.proofs.write.write_outline.Goals as goal
 
 pub returns-in-Proofs-clause-written : goal.returns-in-Proofs-clause-written
@@ -14,6 +19,62 @@ returns-in-Proofs-clause-written g c = λ _.
       program = program;
       lines = lines;
       derived = derived_same c.deref.result.now c.deref-2.result.now files.text.items files.derivation.items program lines c.deref.ensures.value c.deref-2.ensures.value c.in_ok-derived.ensures.derived;
-      proved = proved_where c.args.wanted.has_proofs program lines c.in_ok-proofs.field-0 c.in-Proofs.proofs c.as_bytes.result.now c.in-Proofs.is c.as_bytes.ensures.value c.in_ok-proofs.ensures;
+      proved = proved_where c.args.wanted.has_proofs program lines c.in_ok-proofs.field-0 c.in-Proofs.proofs c.as_bytes.result.now c.in-Proofs.is c.as_bytes.ensures.value c.in_ok-proofs.ensures.found;
       put = c.in_ok-put-in-Proofs.ensures.put;
     }
+
+pub returns-clause-told : goal.returns-clause-told
+returns-clause-told g c = λ _.
+    let files = c.in_ok-files.files in
+    let program = derived_program c.in_ok-derived.derived in
+    let lines = derived_lines c.in_ok-derived.derived in
+    let (told, went) = c.in_ok-print_unproved-in-Failures.ensures.told in
+    let (wanted, are) = unproved_where c.args.wanted.has_proofs program lines c.in_ok-proofs.field-0 c.in-Failures.unproved c.in-Failures.is c.in_ok-proofs.ensures.found in
+    record {
+      proofs_wanted = wanted;
+      text = files.text.items;
+      derivation = files.derivation.items;
+      program = program;
+      lines = lines;
+      derived = derived_same c.deref.result.now c.deref-2.result.now files.text.items files.derivation.items program lines c.deref.ensures.value c.deref-2.ensures.value c.in_ok-derived.ensures.derived;
+      unproved = c.in-Failures.unproved.items;
+      are = are;
+      told = told;
+      printed = went;
+    }
+
+pub returns-in_err-files-clause-stopped : goal.returns-in_err-files-clause-stopped
+returns-in_err-files-clause-stopped g c =
+    let p = err_from_is_err_and c.from_residual.result c.from_residual.ensures.1 in
+    rw (p.1, p.2) (no_files_done (IsSomeWriteRefusal c.args.wanted.has_proofs c.args.steps) _ _ _)
+
+pub returns-in_err-map-clause-stopped : goal.returns-in_err-map-clause-stopped
+returns-in_err-map-clause-stopped g c =
+    let p = err_from_is_err_and c.from_residual-in_err-map.result c.from_residual-in_err-map.ensures.1 in
+    rw (p.1, p.2, c.in_err-map.ensures.1) (no_files_done (IsSomeWriteRefusal c.args.wanted.has_proofs c.args.steps) _ _ _)
+
+pub returns-in_err-derived-clause-stopped : goal.returns-in_err-derived-clause-stopped
+returns-in_err-derived-clause-stopped g c =
+    let p = err_from_is_err_and c.from_residual-in_err-derived.result c.from_residual-in_err-derived.ensures.1 in
+    let files = c.in_ok-files.files in
+    let refused = refused_same c.deref.result.now c.deref-2.result.now files.text.items files.derivation.items _ c.deref.ensures.value c.deref-2.ensures.value c.in_err-derived.ensures.refused in
+    rw (p.1, p.2) (refused_stops (IsSomeWriteRefusal c.args.wanted.has_proofs c.args.steps) _ _ _ (files.text.items, files.derivation.items, inl refused))
+
+pub returns-in_err-proofs-clause-stopped : goal.returns-in_err-proofs-clause-stopped
+returns-in_err-proofs-clause-stopped g c =
+    let p = err_from_is_err_and c.from_residual-in_err-proofs.result c.from_residual-in_err-proofs.ensures.1 in
+    let files = c.in_ok-files.files in
+    let program = derived_program c.in_ok-derived.derived in
+    let lines = derived_lines c.in_ok-derived.derived in
+    let derived = derived_same c.deref.result.now c.deref-2.result.now files.text.items files.derivation.items program lines c.deref.ensures.value c.deref-2.ensures.value c.in_ok-derived.ensures.derived in
+    rw (p.1, p.2) (refused_stops (IsSomeWriteRefusal c.args.wanted.has_proofs c.args.steps) _ _ _ (files.text.items, files.derivation.items, inr (program, lines, derived, c.in_err-proofs.ensures.refused)))
+
+pub returns-in_err-put-in-Proofs-clause-stopped : goal.returns-in_err-put-in-Proofs-clause-stopped
+returns-in_err-put-in-Proofs-clause-stopped g c =
+    let p = err_from_is_err_and c.from_residual-in_err-put-in-Proofs.result c.from_residual-in_err-put-in-Proofs.ensures.1 in
+    rw (p.1, p.2) (inr c.in_err-put-in-Proofs.ensures.stopped)
+
+pub returns-in_err-print_unproved-in-Failures-clause-stopped : goal.returns-in_err-print_unproved-in-Failures-clause-stopped
+returns-in_err-print_unproved-in-Failures-clause-stopped g c =
+    let p = err_from_is_err_and c.from_residual-in_err-print_unproved-in-Failures.result c.from_residual-in_err-print_unproved-in-Failures.ensures.1 in
+    rw (p.1, p.2) (not_done_weaker (λ _. ⊥) (IsSomeWriteRefusal c.args.wanted.has_proofs c.args.steps) _ _ _ _ _ (λ e h. absurd h) c.in_err-print_unproved-in-Failures.ensures.stopped)

@@ -1,4 +1,4 @@
-use Rattle.std.proofs.Common.{None, Some}
+use Rattle.std.proofs.Common.{None, Some, inl}
 use Rattle.std.proofs.lemmas.Result.{err_from_is_err_and}
 use Rattle.rgc_line.specs.declared.command.Command.TheVariants.{Check}
 use Rattle.rgc_line.specs.declared.command.Format.TheVariants.{Plain}
@@ -13,4 +13,4 @@ returns-in_err-text-clause-stopped g c = λ t d p'.
 pub returns-in_err-print_accepted-clause-stopped : goal.returns-in_err-print_accepted-clause-stopped
 returns-in_err-print_accepted-clause-stopped g c = λ t d p'.
     let p = err_from_is_err_and c.from_residual-in_err-print_accepted.result c.from_residual-in_err-print_accepted.ensures.1 in
-    rw (p.1, p.2, c.in_ok-text.ensures.text, c.in_ok-text.ensures.derivation, c.in_ok-text.ensures.proofs) (λ _. c.in_err-print_accepted.ensures.stopped)
+    rw (p.1, p.2, c.in_ok-text.ensures.text, c.in_ok-text.ensures.derivation, c.in_ok-text.ensures.proofs) (inl c.in_err-print_accepted.ensures.stopped)

@@ -1,4 +1,4 @@
-use Rattle.std.proofs.Common.{ℕ, List, Option, Some, None}
+use Rattle.std.proofs.Common.{ℕ, List, Option, Some, None, inl}
 use Rattle.std.specs.Borrow.{Bor}
 use Rattle.std.proofs.lemmas.Result.{err_from_is_err_and}
 use Rattle.rgc_line.specs.declared.command.Chosen.{Chosen}
@@ -19,7 +19,7 @@ chosen_device t (Some chosen) files old m stop h = device_stops Plain (Clauses t
 pub returns-in_err-print_clauses-in-None-clause-stopped : goal.returns-in_err-print_clauses-in-None-clause-stopped
 returns-in_err-print_clauses-in-None-clause-stopped g c = λ t.
     let p = err_from_is_err_and c.from_residual-in_err-print_clauses-in-None.result c.from_residual-in_err-print_clauses-in-None.ensures.1 in
-    rw (p.1, p.2, c.in-None.is, c.in_ok-text.ensures.bytes) (λ _. c.in_err-print_clauses-in-None.ensures.stopped)
+    rw (p.1, p.2, c.in-None.is, c.in_ok-text.ensures.bytes) (inl c.in_err-print_clauses-in-None.ensures.stopped)
 
 pub returns-in_err-derivation-in-Some-clause-stopped : goal.returns-in_err-derivation-in-Some-clause-stopped
 returns-in_err-derivation-in-Some-clause-stopped g c = λ t.
@@ -29,7 +29,7 @@ returns-in_err-derivation-in-Some-clause-stopped g c = λ t.
 pub returns-in_err-print_condition_clauses-in-Some-clause-stopped : goal.returns-in_err-print_condition_clauses-in-Some-clause-stopped
 returns-in_err-print_condition_clauses-in-Some-clause-stopped g c = λ t.
     let p = err_from_is_err_and c.from_residual-in_err-print_condition_clauses-in-Some.result c.from_residual-in_err-print_condition_clauses-in-Some.ensures.1 in
-    rw (p.1, p.2, c.in-Some.is, c.in_ok-text.ensures.bytes, c.in_ok-derivation-in-Some.ensures.bytes) (λ _. c.in_err-print_condition_clauses-in-Some.ensures.stopped)
+    rw (p.1, p.2, c.in-Some.is, c.in_ok-text.ensures.bytes, c.in_ok-derivation-in-Some.ensures.bytes) (inl c.in_err-print_condition_clauses-in-Some.ensures.stopped)
 
 pub returns-in_err-text-clause-stopped : goal.returns-in_err-text-clause-stopped
 returns-in_err-text-clause-stopped g c = λ t.

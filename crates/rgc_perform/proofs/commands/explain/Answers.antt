@@ -1,4 +1,4 @@
-use Rattle.std.proofs.Common.{inr}
+use Rattle.std.proofs.Common.{inr, inl}
 use Rattle.std.proofs.lemmas.Result.{err_from_is_err_and}
 use Rattle.rgc_line.specs.declared.command.Command.TheVariants.{Explain}
 use Rattle.rgc_line.specs.declared.command.Format.TheVariants.{Plain}
@@ -11,4 +11,4 @@ returns-in_default-clause-stopped g c = usage_stops Plain (Explain c.args.number
 pub returns-in_err-print_explanation-clause-stopped : goal.returns-in_err-print_explanation-clause-stopped
 returns-in_err-print_explanation-clause-stopped g c =
     let p = err_from_is_err_and c.from_residual.result c.from_residual.ensures.1 in
-    rw (p.1, p.2) (λ _. inr c.in_err-print_explanation.ensures.stopped)
+    rw (p.1, p.2) (inl (inr c.in_err-print_explanation.ensures.stopped))

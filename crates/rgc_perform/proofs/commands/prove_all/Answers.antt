@@ -1,4 +1,4 @@
-use Rattle.std.proofs.Common.{None, Some}
+use Rattle.std.proofs.Common.{None, Some, inl}
 use Rattle.std.proofs.lemmas.Result.{err_from_is_err_and}
 use Rattle.rgc_line.specs.declared.command.Command.TheVariants.{Prove}
 use Rattle.rgc_line.specs.declared.command.Format.TheVariants.{Plain}
@@ -13,7 +13,7 @@ returns-in_err-text-clause-stopped g c = λ t d.
 pub returns-in_err-print_proofs-clause-stopped : goal.returns-in_err-print_proofs-clause-stopped
 returns-in_err-print_proofs-clause-stopped g c = λ t d.
     let p = err_from_is_err_and c.from_residual-in_err-print_proofs.result c.from_residual-in_err-print_proofs.ensures.1 in
-    rw (p.1, p.2, c.in_ok-text.ensures.text, c.in_ok-text.ensures.derivation) (λ _. c.in_err-print_proofs.ensures.stopped)
+    rw (p.1, p.2, c.in_ok-text.ensures.text, c.in_ok-text.ensures.derivation) (inl c.in_err-print_proofs.ensures.stopped)
 
 pub returns-clause-stopped : goal.returns-clause-stopped
 returns-clause-stopped g c = λ t d.

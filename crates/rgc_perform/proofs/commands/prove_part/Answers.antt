@@ -1,8 +1,8 @@
-use Rattle.std.proofs.Common.{None, Some}
+use Rattle.std.proofs.Common.{None, Some, inl}
 use Rattle.std.proofs.lemmas.Result.{err_from_is_err_and, on_ok_weaker}
 use Rattle.rgc_line.specs.declared.command.Command.TheVariants.{Prove}
 use Rattle.rgc_line.specs.declared.command.Format.TheVariants.{Plain}
-use Rattle.rgc_perform.proofs.Stopping.{device_stops, told_stops, usage_stops}
+use Rattle.rgc_perform.proofs.Stopping.{device_stops, range_stops, told_stops, usage_stops}
 use Rattle.rgc_perform.proofs.commands.prove_part.Goals as goal
 
 pub returns-in_err-text-clause-stopped : goal.returns-in_err-text-clause-stopped
@@ -13,7 +13,7 @@ returns-in_err-text-clause-stopped g c = λ t d.
 pub returns-in_err-print_proofs_part-clause-stopped : goal.returns-in_err-print_proofs_part-clause-stopped
 returns-in_err-print_proofs_part-clause-stopped g c = λ t d.
     let p = err_from_is_err_and c.from_residual-in_err-print_proofs_part.result c.from_residual-in_err-print_proofs_part.ensures.1 in
-    rw (p.1, p.2, c.in_ok-text.ensures.text, c.in_ok-text.ensures.derivation) (λ _. c.in_err-print_proofs_part.ensures.stopped)
+    rw (p.1, p.2, c.in_ok-text.ensures.text, c.in_ok-text.ensures.derivation) (inl (range_stops _ _ c.args.range _ _ _ _ _ _ _ _ c.in-Some.ensures c.in_err-print_proofs_part.ensures.stopped))
 
 pub returns-clause-stopped : goal.returns-clause-stopped
 returns-clause-stopped g c = λ t d.

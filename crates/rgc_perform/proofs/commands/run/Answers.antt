@@ -2,7 +2,7 @@ use Rattle.std.proofs.Common.{refl}
 use Rattle.std.proofs.lemmas.Result.{err_from_is_err_and}
 use Rattle.rgc_line.specs.declared.command.Command.TheVariants.{Run}
 use Rattle.rgc_line.specs.declared.command.Format.TheVariants.{Plain}
-use Rattle.rgc_perform.proofs.Stopping.{device_stops, unsaid_stops}
+use Rattle.rgc_perform.proofs.Stopping.{device_stops, named_run_stops}
 use Rattle.rgc_perform.proofs.commands.run.Goals as goal
 
 pub returns-in_err-text-clause-stopped : goal.returns-in_err-text-clause-stopped
@@ -18,7 +18,8 @@ returns-in_err-first-clause-stopped g c = λ t d p' w.
 pub returns-in_err-print_run-clause-stopped : goal.returns-in_err-print_run-clause-stopped
 returns-in_err-print_run-clause-stopped g c = λ t d p' w.
     let p = err_from_is_err_and c.from_residual-in_err-print_run.result c.from_residual-in_err-print_run.ensures.1 in
-    rw (p.1, p.2) (unsaid_stops Plain (Run t d p' c.args.options.start c.args.options.moves c.args.options.limit w) c.args.files.now _ _ _ _ _ refl)
+    rw (p.1, p.2, c.in_ok-text.ensures.text, c.in_ok-text.ensures.derivation, c.in_ok-text.ensures.proofs)
+    (named_run_stops (Run t d p' c.args.options.start c.args.options.moves c.args.options.limit w) _ _ _ c.args.options.start c.args.options.moves c.args.options.limit c.args.files.now.start c.args.files.now.moves _ _ _ _ _ _ _ tt c.in_ok-first.ensures.start c.in_ok-first.ensures.moves c.in_err-print_run.ensures.stopped)
 
 pub returns-clause-done : goal.returns-clause-done
 returns-clause-done g c = λ t d p' w.

@@ -1,4 +1,4 @@
-use Rattle.std.proofs.Common.{None, Some}
+use Rattle.std.proofs.Common.{None, Some, inl}
 use Rattle.std.proofs.lemmas.Result.{err_from_is_err_and}
 use Rattle.rgc_line.specs.declared.command.Command.TheVariants.{Valid}
 use Rattle.rgc_line.specs.declared.command.Format.TheVariants.{Plain}
@@ -19,4 +19,4 @@ returns-in_err-proofs-clause-stopped g c = λ t p'.
 pub returns-in_err-print_valid-clause-stopped : goal.returns-in_err-print_valid-clause-stopped
 returns-in_err-print_valid-clause-stopped g c = λ t p'.
     let p = err_from_is_err_and c.from_residual-in_err-print_valid.result c.from_residual-in_err-print_valid.ensures.1 in
-    rw (p.1, p.2, c.in_ok-text.ensures.bytes, c.in_ok-proofs.ensures.bytes) (λ _. c.in_err-print_valid.ensures.stopped)
+    rw (p.1, p.2, c.in_ok-text.ensures.bytes, c.in_ok-proofs.ensures.bytes) (inl c.in_err-print_valid.ensures.stopped)

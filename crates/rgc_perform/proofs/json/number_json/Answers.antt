@@ -1,8 +1,8 @@
-use Rattle.std.proofs.Common.{None, refl}
+use Rattle.std.proofs.Common.{None, refl, inl}
 use Rattle.std.proofs.lemmas.Result.{err_from_is_err_and}
 use Rattle.rgc_line.specs.declared.command.Command.TheVariants.{Number}
 use Rattle.rgc_line.specs.declared.command.Format.TheVariants.{Json}
-use Rattle.rgc_perform.proofs.Stopping.{device_stops, unsaid_stops}
+use Rattle.rgc_perform.proofs.Stopping.{device_stops}
 use Rattle.rgc_perform.proofs.json.number_json.Goals as goal
 
 pub returns-in_err-text-clause-stopped : goal.returns-in_err-text-clause-stopped
@@ -13,4 +13,4 @@ returns-in_err-text-clause-stopped g c = λ t.
 pub returns-in_err-print_numbers_json-clause-stopped : goal.returns-in_err-print_numbers_json-clause-stopped
 returns-in_err-print_numbers_json-clause-stopped g c = λ t.
     let p = err_from_is_err_and c.from_residual-in_err-print_numbers_json.result c.from_residual-in_err-print_numbers_json.ensures.1 in
-    rw (p.1, p.2) (unsaid_stops Json (Number t) c.args.files.now _ _ _ _ _ refl)
+    rw (p.1, p.2, c.in_ok-text.ensures.bytes) (inl c.in_err-print_numbers_json.ensures.stopped)

@@ -5,7 +5,7 @@ use Rattle.std.proofs.Common.{◌≡◌, ◌∙◌, ℕ, List, Option, Some, Non
 use Rattle.std.proofs.lemmas.Result.{err_from_is_err_and}
 use Rattle.rgc_line.specs.declared.command.Command.TheVariants.{Run}
 use Rattle.rgc_line.specs.declared.command.Format.TheVariants.{Json}
-use Rattle.rgc_perform.proofs.Stopping.{device_stops, unsaid_stops, usage_stops}
+use Rattle.rgc_perform.proofs.Stopping.{device_stops, named_run_stops, usage_stops}
 use Rattle.rgc_perform.proofs.json.run_json.Goals as goal
 
 -- a picture is asked for
@@ -29,7 +29,8 @@ returns-in_err-first-clause-stopped g c = λ t d p' w drawn.
 pub returns-in_err-print_run_json-clause-stopped : goal.returns-in_err-print_run_json-clause-stopped
 returns-in_err-print_run_json-clause-stopped g c = λ t d p' w drawn.
     let p = err_from_is_err_and c.from_residual-in_err-print_run_json.result c.from_residual-in_err-print_run_json.ensures.1 in
-    rw (p.1, p.2) (unsaid_stops Json (Run t d p' c.args.options.start c.args.options.moves c.args.options.limit w) c.args.files.now _ _ _ _ _ refl)
+    rw (p.1, p.2, c.in_ok-text.ensures.text, c.in_ok-text.ensures.derivation, c.in_ok-text.ensures.proofs)
+    (named_run_stops (Run t d p' c.args.options.start c.args.options.moves c.args.options.limit w) _ _ _ c.args.options.start c.args.options.moves c.args.options.limit c.args.files.now.start c.args.files.now.moves _ _ _ _ _ _ _ tt c.in_ok-first.ensures.start c.in_ok-first.ensures.moves c.in_err-print_run_json.ensures.stopped)
 
 pub returns-clause-done : goal.returns-clause-done
 returns-clause-done g c = λ t d p' w.

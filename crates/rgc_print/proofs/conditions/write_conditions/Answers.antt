@@ -8,8 +8,8 @@ use Rattle.rg_tree.specs.View.{formula}
 use Rattle.rg_accept.specs.Names.{names_of_conditions}
 use Rattle.rg_accept.specs.Stages.{derived_program, derived_lines}
 use Rattle.rgc_print.specs.Conditions.{condition_lines}
-use Rattle.rgc_print.specs.Stopped.{IsCut}
-use Rattle.rgc_print.proofs.Cuts.{cut_within, cut_by_writer, cut_behind}
+use Rattle.rg_words.specs.Stopped.{IsCut}
+use Rattle.rg_words.proofs.Cuts.{cut_within, cut_by_writer, cut_behind}
 use Rattle.rgc_print.proofs.conditions.write_conditions.Goals as goal
 
 pub returns-in_err-write_all-clause-stopped : goal.returns-in_err-write_all-clause-stopped

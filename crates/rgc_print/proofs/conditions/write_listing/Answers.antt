@@ -1,5 +1,5 @@
 use Rattle.std.proofs.lemmas.Result.{err_from_is_err_and}
-use Rattle.rgc_print.proofs.Cuts.{cut_at_once}
+use Rattle.rg_words.proofs.Cuts.{cut_at_once}
 use Rattle.rgc_print.proofs.conditions.write_listing.Goals as goal
 
 pub returns-in_err-listed-clause-stopped : goal.returns-in_err-listed-clause-stopped

@@ -5,7 +5,7 @@ use Rattle.std.specs.Io.KnownBytes.{Appends}
 use Rattle.rg_words.proofs.Written.{appends_both}
 use Rattle.rgc_print.specs.Conditions.{condition_line, condition_lines}
 use Rattle.rgc_print.proofs.ConditionLines.{lines_taken, lines_split}
-use Rattle.rgc_print.proofs.Cuts.{cut_between, cut_within, cut_by_writer}
+use Rattle.rg_words.proofs.Cuts.{cut_between, cut_within, cut_by_writer}
 use Rattle.rgc_print.proofs.conditions.write_names.Goals as goal
 
 pub loop-i-preserved : goal.loop-i-preserved

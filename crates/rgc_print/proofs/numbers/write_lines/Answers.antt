@@ -5,7 +5,7 @@ use Rattle.rg_tree.specs.ProgramView.{part}
 use Rattle.rg_tree.specs.declared.numbered.Numbered.{Numbered}
 use Rattle.rg_tree.specs.declared.numbered.StatementKind.TheVariants.{Skip}
 use Rattle.rgc_print.specs.Numbers.{lines_text}
-use Rattle.rgc_print.proofs.Cuts.{cut_between, cut_within, cut_by_writer}
+use Rattle.rg_words.proofs.Cuts.{cut_between, cut_within, cut_by_writer}
 use Rattle.rgc_print.proofs.NumberLines.{number_lines_split, number_lines_at}
 use Rattle.rgc_print.proofs.numbers.write_lines.Goals as goal
 

@@ -1,5 +1,5 @@
 use Rattle.std.proofs.lemmas.Result.{err_from_is_err_and}
-use Rattle.rgc_print.proofs.Cuts.{refused_stops}
+use Rattle.rg_words.proofs.Cuts.{refused_stops}
 use Rattle.rg_accept.specs.Accepted.{IsAcceptTextRefusal}
 use Rattle.rgc_print.proofs.printed.print_accepted.Goals as goal
 

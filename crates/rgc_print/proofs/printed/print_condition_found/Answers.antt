@@ -1,4 +1,4 @@
-use Rattle.rgc_print.proofs.Cuts.{refused_stops, failure_stops}
+use Rattle.rg_words.proofs.Cuts.{refused_stops, failure_stops}
 use Rattle.std.proofs.lemmas.Result.{err_from_is_err_and}
 use Rattle.std.proofs.lemmas.Result.{IfOk-weaker}
 use Rattle.rg_tree.specs.Conditions.{condition_tree}

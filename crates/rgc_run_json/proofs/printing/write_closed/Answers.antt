@@ -1,4 +1,4 @@
-use Rattle.std.proofs.Common.{◌≡◌, List, rules, subst}
+use Rattle.std.proofs.Common.{◌≡◌, ◌∙◌, List, rules, subst}
 use Rattle.std.specs.Io.KnownBytes.{Appends}
 use Rattle.std.proofs.lemmas.Result.{on_ok_weaker}
 use Rattle.rg_words.proofs.Written.{appends_both}
@@ -7,6 +7,7 @@ use Rattle.rg_monitor.specs.Entry.{Entry}
 use Rattle.rg_floor.specs.declared.closed.Passed.{Passed}
 use Rattle.rg_floor.specs.declared.turn.Why.{Why}
 use Rattle.rgc_run_json.specs.Records.{line_of, records_text, passed_text, end_data}
+use Rattle.rg_words.proofs.Cuts.{failure_behind}
 use Rattle.rgc_run_json.proofs.printing.write_closed.Goals as goal
 
 pub returns-clause-printed : goal.returns-clause-printed
@@ -25,3 +26,8 @@ returns-clause-printed g c =
     on_ok_weaker c.write_end.result
     (λ went. appends_both old middle new _ _ first (appends_both middle later new _ _ second (subst (λ (w : Why). Appends later new (line_of (end_data w))) why went)))
     c.write_end.ensures.printed
+
+pub returns-clause-stopped : goal.returns-clause-stopped
+returns-clause-stopped g c =
+    let old = g.W.Out.failures c.args.out.now in
+    failure_behind old (g.W.Out.failures c.write_passed.new.out) _ c.write_end.result (c.in_ok-write_passed.ensures.failures ∙ c.in_ok-write_records.ensures.failures) c.write_end.ensures.stopped

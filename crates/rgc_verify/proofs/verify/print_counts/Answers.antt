@@ -1,5 +1,8 @@
 use Rattle.std.proofs.Common.{◌≡◌, ◌∙◌, ap, sym, subst, ℕ, List, length, map, rules}
 use Rattle.std.proofs.lemmas.List.{length-map}
+use Rattle.std.proofs.lemmas.Result.{err_from_is_err_and}
+use Rattle.rg_words.proofs.Cuts.{refused_stops}
+use Rattle.rg_hints.specs.Proved.{IsProofsRefusal}
 use Rattle.rg_tree.specs.ConditionTrees.{ConditionTree}
 use Rattle.std.specs.Io.KnownBytes.{Appends}
 use Rattle.rg_tree.specs.Conditions.{condition_tree}
@@ -25,3 +28,9 @@ returns-clause-printed g c =
       found = found;
       printed = subst (λ (t : List ℕ). Appends (g.W.Out.contents c.args.out.now) (g.W.Out.contents c.write_all.new.out) t) (line ∙ ap (λ (n : ℕ). verdict_text c.args.form n found) count) c.in_ok-write_all.ensures.0;
     }
+
+pub returns-in_err-prove_all-clause-stopped : goal.returns-in_err-prove_all-clause-stopped
+returns-in_err-prove_all-clause-stopped g c =
+    let p = err_from_is_err_and c.from_residual-in_err-prove_all.result c.from_residual-in_err-prove_all.ensures.1 in
+    let conditions = conditions_of (derived_program c.args.derived) (derived_lines c.args.derived) in
+    rw (p.1, p.2) (refused_stops (IsProofsRefusal conditions c.args.proofs.now) _ _ _ c.in_err-prove_all.ensures.refused)

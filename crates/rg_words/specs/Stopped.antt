@@ -15,6 +15,6 @@ pub record IsCut (old new : Option (List ℕ)) (failed after : ℕ) (text : List
   pub went : AppendsBeginning old new text
   pub why : IsFailure failed after e
 
--- a command over files printed nothing, since they are refused so; or what it printed was cut
+-- a call over files printed nothing, since they are refused so; or what it printed was cut
 abbrev pub IsStopped : (Refusal → Type 0) → Option (List ℕ) → Option (List ℕ) → ℕ → ℕ → Refusal → Type 0
 IsStopped Refused old new failed after e = (Refused e × Appends old new [] × (after ≡ failed)) ⊎ IsFailure failed after e

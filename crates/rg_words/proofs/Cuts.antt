@@ -7,7 +7,7 @@ use Rattle.rg_words.specs.declared.refusal.RefusalNumber.TheVariants.{Write}
 use Rattle.rg_words.specs.Refusals.{no_memory, refused}
 use Rattle.rg_words.specs.Written.{AppendsBeginning}
 use Rattle.rg_words.proofs.Written.{appends_none, appends_both}
-use Rattle.rgc_print.specs.Stopped.{IsCut, IsFailure, IsStopped}
+use Rattle.rg_words.specs.Stopped.{IsCut, IsFailure, IsStopped}
 
 module _ (old : Option (List ℕ)) (m : ℕ) (text : List ℕ) (e : Refusal) where
   -- before anything went out
@@ -46,3 +46,27 @@ refused_stops Refused old m e why = inl (why, appends_none old, refl)
 pub failure_stops : {A : Type 0} (Refused : Refusal → Type 0) (old new : Option (List ℕ)) (m n : ℕ) (r : Result A Refusal) → IfErr r (IsFailure m n) → IfErr r (IsStopped Refused old new m n)
 failure_stops Refused old new m n (Ok x) h = tt
 failure_stops Refused old new m n (Err e) h = inr h
+
+-- one refusal of files is a kind of another
+pub stops_weaker : {A : Type 0} (P Q : Refusal → Type 0) (old new : Option (List ℕ)) (m n : ℕ) (r : Result A Refusal) → ((e : Refusal) → P e → Q e) → IfErr r (IsStopped P old new m n) → IfErr r (IsStopped Q old new m n)
+stops_weaker P Q old new m n (Ok x) f h = tt
+stops_weaker P Q old new m n (Err e) f (inl why) = inl (f e why.0, why.1, why.2)
+stops_weaker P Q old new m n (Err e) f (inr why) = inr why
+
+-- memory was refused, before anything failed
+pub failure_by_memory : (m n : ℕ) (e : Refusal) → e ≡ no_memory → n ≡ m → IsFailure m n e
+failure_by_memory m n e why same = inr (why, same)
+
+-- the writer failed
+pub failure_by_writer : (m n : ℕ) (e : Refusal) → e ≡ refused Write → n ≡ m + 1 → IsFailure m n e
+failure_by_writer m n e why more = inl (why, more)
+
+-- what came before didn't fail
+pub failure_behind : {A : Type 0} (m k n : ℕ) (r : Result A Refusal) → k ≡ m → IfErr r (IsFailure k n) → IfErr r (IsFailure m n)
+failure_behind m k n (Ok x) same h = tt
+failure_behind m k n (Err e) same h = rw (← same) h
+
+-- a text that was cut was cut by a failure
+pub failure_of_cut : {A : Type 0} (old new : Option (List ℕ)) (m n : ℕ) (text : List ℕ) (r : Result A Refusal) → IfErr r (IsCut old new m n text) → IfErr r (IsFailure m n)
+failure_of_cut old new m n text (Ok x) h = tt
+failure_of_cut old new m n text (Err e) h = h.why
