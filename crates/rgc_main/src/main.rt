@@ -395,11 +395,28 @@ impl Contents {
     }
 }
 
-/// How many threads suit so many processors. Where proofs are checked, each of several processors has two: a thread that reads or
-/// lets go of trees often waits for memory.
-fn suiting(command: &Command<'_>, processors: usize) -> usize {
+/// Files with fewer bytes together are checked in about the time that threads take to start.
+const FEW_BYTES: usize = 36_864;
+
+/// How many bytes a file has.
+fn size_of(file: Option<&[u8]>) -> usize {
+    file.map_or(0, |bytes| bytes.len())
+}
+
+/// Whether a text, a derivation and proofs are small together.
+fn are_small(files: &Files<'_>) -> bool {
+    let size = size_of(files.text).saturating_add(size_of(files.derivation));
+    size.saturating_add(size_of(files.proofs)) < FEW_BYTES
+}
+
+/// How many threads suit so many processors and these files. Where proofs are checked, each of several processors has two: a thread
+/// that reads or lets go of trees often waits for memory.
+fn suiting(command: &Command<'_>, files: &Files<'_>, processors: usize) -> usize {
     match command {
-        Command::Check { .. } | Command::Emit { .. } | Command::Run { .. } if processors > 1 => {
+        Command::Check { .. } | Command::Emit { .. } | Command::Run { .. } => {
+            if are_small(files) || processors < 2 {
+                return 1;
+            }
             processors.saturating_mul(2)
         }
         _ => processors,
@@ -407,12 +424,12 @@ fn suiting(command: &Command<'_>, processors: usize) -> usize {
 }
 
 /// The most threads for a command: those that it asks for, and else as many as suit the processors.
-fn most_threads<R: Threads>(threads: &R, line: &Line<'_>) -> usize {
+fn most_threads<R: Threads>(threads: &R, line: &Line<'_>, files: &Files<'_>) -> usize {
     match line.settings.threads {
         Some(number) => usize::try_from(number).unwrap_or(usize::MAX),
         None => {
             let processors = available_parallelism(threads).map_or(1, |number| number.get());
-            suiting(&line.command, processors)
+            suiting(&line.command, files, processors)
         }
     }
 }
@@ -430,8 +447,9 @@ fn run<R: Threads + Wait + Sync>(
     }
     let mut contents = Contents::empty();
     contents.read(rt, &named)?;
-    let most = most_threads(threads, line);
-    done_and_drawn(&Means { rt, threads, most }, line, &contents.files())
+    let files = contents.files();
+    let most = most_threads(threads, line, &files);
+    done_and_drawn(&Means { rt, threads, most }, line, &files)
 }
 
 /// Over how many files the command is to be done, one after another.
