@@ -6,7 +6,7 @@ mod letting_go;
 mod pieces;
 mod proving;
 
-pub use dealing::deal;
+pub use dealing::{deal, deal_in};
 pub use letting_go::let_both_go;
 pub use pieces::{LEAST_LINES, Pieces, Untold, check_all};
 pub use proving::{InThreads, prove_all, prove_part};

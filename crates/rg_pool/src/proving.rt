@@ -9,7 +9,7 @@ ghost use Rattle.rg_hints.specs.Proved.{AllProvedFrom, AreProved, IsFirstRefusal
 ghost use Rattle.rg_pool.specs.Inner.Verdicts.{IsVerdictAt, AreVerdicts};
 ghost use Rattle.rg_pool.specs.Parts.{ArePartProved, IsPartRefusal};
 
-use crate::dealing::deal;
+use crate::dealing::deal_in;
 use crate::pieces::{Untold, check_all, ran_out};
 use rg_clauses::Clauses;
 use rg_hints::{
@@ -105,6 +105,32 @@ fn settle(
     Ok(())
 }
 
+/// How many bytes the section at this place has.
+fn bytes_at(placed: &[Option<SectionBytes<'_>>], place: usize) -> usize {
+    match placed.get(place) {
+        Some(Some(section)) => section.bytes.len(),
+        _ => 0,
+    }
+}
+
+/// Numbers of so many conditions, from 0, that stand behind so many others: first those with the longest sections, which
+/// mostly take the longest, so that none of them is begun when all else is done.
+fn longest_first(
+    alloc: Global,
+    before: usize,
+    count: usize,
+    placed: &[Option<SectionBytes<'_>>],
+) -> Result<Vec<usize>, AllocError> {
+    let mut order = Vec::with_capacity(alloc, count)?;
+    for index in 0..count {
+        order.push(index)?;
+    }
+    order.sort_by_key(|index: &usize| -> usize {
+        usize::MAX - bytes_at(placed, before.saturating_add(*index))
+    })?;
+    Ok(order)
+}
+
 /// What is told of each condition, in so many threads; nothing of some of them, where one is refused.
 fn prove_some<R: Threads + Sync>(
     rt: &R,
@@ -122,11 +148,13 @@ fn prove_some<R: Threads + Sync>(
 {
     let refused = AtomicBool::new(false);
     let told = &refused;
-    deal(
+    let order = longest_first(alloc, before, conditions.len(), placed)?;
+    deal_in(
         rt,
         alloc,
         threads,
         conditions.len(),
+        &order,
         &|index: usize| -> Option<Result<(), Refusal>>
             requires { (index < length conditions.now) × (before + length conditions.now ≤ length placed.now) × ArePlaced sections.now placed.now }
             ensures { IfSome result (IsVerdictAt (map text_of sections.entry.now) before (map condition_tree conditions.entry.now) index) }
@@ -168,7 +196,7 @@ fn prove_each_all<R: Threads + Sync>(
 }
 
 /// Whether a proofs file for `count` conditions proves these, which stand behind so many others: condition by condition, in
-/// at most so many threads; each takes the first that is left. A large section is checked in pieces.
+/// at most so many threads; each takes that with the longest section of those left. A large section is checked in pieces.
 ///
 /// With 0 or 1 threads all is done in the thread that asks. A thread that can't be had costs time alone. Nothing behind a
 /// condition that is refused is begun.

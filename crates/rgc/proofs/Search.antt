@@ -1,5 +1,5 @@
 -- What a search for proofs of conditions keeps is true.
-use Rattle.std.proofs.Common.{◌≡◌, ◌⊎◌, ℕ, ◌+◌, ◌-◌, ◌<◌, ◌≤◌, zero, suc, take, drop, Some, Result, Ok, Err, List, [], ◌∷◌, length, map, get_or, All, IfOk, rules, subst, sym, ap, ◌∙◌, ⊎_elim, inl, inr, refl, arith}
+use Rattle.std.proofs.Common.{◌≡◌, ◌⊎◌, ℕ, ◌+◌, ◌-◌, ◌<◌, ◌≤◌, zero, suc, take, drop, Some, Result, Ok, Err, List, [], ◌∷◌, ◌++◌, length, map, get_or, All, IfOk, rules, subst, sym, ap, ◌∙◌, ⊎_elim, inl, inr, refl, arith}
 use Rattle.std.specs.Prelude.{IfErr, IfSome, Option, None, slice_index_or}
 use Rattle.rg_words.specs.declared.limits.TheConstants.{MOST_VARIABLES}
 use Rattle.rg_words.specs.declared.refusal.RefusalNumber.TheVariants.{UnknownCondition}
@@ -12,7 +12,7 @@ use Rattle.std.proofs.lemmas.List.Elements.{All-append, All-cons}
 use Rattle.rg_tree.specs.ConditionTrees.{ConditionTree}
 use Rattle.rg_words.specs.declared.refusal.Refusal.{Refusal}
 use Rattle.rg_tree.specs.declared.condition.Condition.{Condition}
-use Rattle.rg_tree.specs.Conditions.{condition_tree}
+use Rattle.rg_tree.specs.Conditions.{condition_tree, ConditionHolds}
 use Rattle.rg_tree.specs.Programs.{nth}
 use Rattle.rg_rules.proofs.Find.{nth-at}
 use Rattle.std.proofs.lemmas.Result.{IfOk-weaker}
@@ -20,11 +20,12 @@ use Rattle.std.proofs.lemmas.List.{length-map, take-map, drop-map}
 use Rattle.rg_find.specs.Judged.{IsJudged, IsJudgeRefusal}
 use Rattle.rg_hints.specs.Proved.{IsProofsRefusal}
 use Rattle.rg_find.specs.declared.judgement.Judged.{Judged}
+use Rattle.rg_find.specs.declared.judgement.Judged.TheVariants.{Holds, Fails, GaveUp, TooLarge}
 use Rattle.rgc.specs.declared.proofs_found.Unproved.{Unproved}
 use Rattle.rgc.specs.declared.proofs_found.Sought.{Sought}
 use Rattle.rg_pool.specs.Parts.{ArePartProved, IsPartRefusal}
-use Rattle.rgc.specs.Proofs.{IsUnproved, IsRange, in_range, outside, KeepLimit, IsFirstUnjudged, IsSearchRefusal, IsPartSearchRefusal}
-use Rattle.rgc.specs.Inner.Search.{IsKept, Takes, IsJudgedAt, IsSoughtAt, IsUnsoughtAt, IsAnswerAt, AreSought}
+use Rattle.rgc.specs.Proofs.{IsUnproved, HoldFrom, IsNextTold, AreToldOrHold, AreUnproved, IsRange, in_range, outside, KeepLimit, IsFirstUnjudged, IsSearchRefusal, IsPartSearchRefusal}
+use Rattle.rgc.specs.Inner.Search.{IsKept, IsHolding, Takes, IsJudgedAt, IsSoughtAt, IsUnsoughtAt, IsAnswerAt, AreSought}
 
 -- what is kept of a condition is true of the condition of its number
 pub kept_true : (cs : List ConditionTree) (number : ℕ) (c : ConditionTree) (judged : Judged) (old new : List Unproved) → nth cs number ≡ Some c → IsJudged c judged → (kept : IsKept number judged old new) → IsUnproved cs kept.one
@@ -38,7 +39,7 @@ kept_true cs number c judged old new is true_ kept = record {
 pub taken : (cs : List ConditionTree) (number : ℕ) (c : ConditionTree) (judged : Judged) (old new : List Unproved) → nth cs number ≡ Some c → IsJudged c judged → All (IsUnproved cs) old → Takes number judged old new → All (IsUnproved cs) new
 taken cs number c judged old new is true_ before took =
     ⊎_elim
-    (λ same. subst (λ (l : List Unproved). All (IsUnproved cs) l) (sym same) before)
+    (λ same. subst (λ (l : List Unproved). All (IsUnproved cs) l) (sym same.1) before)
     (λ kept. subst (λ (l : List Unproved). All (IsUnproved cs) l) (sym kept.added)
     (All-append (IsUnproved cs) old (kept.one ∷ []) before
     (All-cons (IsUnproved cs) kept.one [] (kept_true cs number c judged old new is true_ kept) (search rules))))
@@ -91,6 +92,44 @@ taken_there xs place judged old new small true_ before took =
     let is : nth (map condition_tree xs) (place + 1) ≡ Some (condition_tree e.0) = nth-at condition_tree xs place (place + 1) e.0 refl small e.1 in
     taken (map condition_tree xs) (place + 1) (condition_tree e.0) judged old new is (true_ (condition_tree e.0) is) before took
 
+-- a condition for which lines were found holds
+holds_of : (c : ConditionTree) (judged : Judged) → IsHolding judged → IsJudged c judged → ConditionHolds c
+holds_of c (Holds lines) found is = is.2
+holds_of c (Fails first second) found is = absurd found
+holds_of c GaveUp found is = absurd found
+holds_of c TooLarge found is = absurd found
+
+-- of one condition more nothing is told, as it holds
+one_holds : (cs : List ConditionTree) (first number : ℕ) (told : List Unproved) → ((c : ConditionTree) → nth cs number ≡ Some c → ConditionHolds c) → AreToldOrHold cs first number told → AreToldOrHold cs first (number + 1) told
+one_holds cs first number [] holds all = λ k c low high is.
+    ⊎_elim
+    (λ less. all k c low less is)
+    (λ past. holds c (subst (λ (n : ℕ). nth cs n ≡ Some c) (same_number k number past high) is))
+    (cases_lt k number)
+one_holds cs first number (u ∷ told) holds all =
+    (record { low = all.0.low; high = omega (arith, all.0.high); before = all.0.before }, one_holds cs (u.number + 1) number told holds all.1)
+
+-- of one condition more something is told
+one_told : (cs : List ConditionTree) (first number : ℕ) (told : List Unproved) (one : Unproved) → first ≤ number → one.number ≡ number → AreToldOrHold cs first number told → AreToldOrHold cs first (number + 1) (told ++ one ∷ [])
+one_told cs first number [] one low is all = (
+  record {
+    low = omega (arith, low, is);
+    high = omega (arith, is);
+    before = subst (HoldFrom cs first) (sym is) all;
+  },
+  λ k c from to there. absurd (omega (arith, from, to, is)),
+)
+one_told cs first number (u ∷ told) one low is all =
+    (record { low = all.0.low; high = omega (arith, all.0.high); before = all.0.before }, one_told cs (u.number + 1) number told one (omega (arith, all.0.high)) is all.1)
+
+-- something is told of the conditions so far and of one more, or they hold
+pub taken_or_holds : (cs : List ConditionTree) (first number : ℕ) (judged : Judged) (old new : List Unproved) → first ≤ number → IsJudgedAt cs number judged → AreToldOrHold cs first number old → Takes number judged old new → AreToldOrHold cs first (number + 1) new
+taken_or_holds cs first number judged old new low true_ all took =
+    ⊎_elim
+    (λ same. subst (λ (l : List Unproved). AreToldOrHold cs first (number + 1) l) (sym same.1) (one_holds cs first number old (λ c is. holds_of c judged same.0 (true_ c is)) all))
+    (λ kept. subst (λ (l : List Unproved). AreToldOrHold cs first (number + 1) l) (sym kept.added) (one_told cs first number old kept.one low kept.number_is all))
+    took
+
 -- how many conditions there are
 count_same : (all : List Condition) (cs : List ConditionTree) (count : ℕ) → map condition_tree all ≡ cs → count ≡ length all → count ≡ length cs
 count_same all cs count same is_count = is_count ∙ sym (length-map all condition_tree) ∙ ap length same
@@ -124,6 +163,15 @@ module _ (all items : List Condition) (cs : List ConditionTree) (first last coun
   part_refused bytes e why =
       subst (λ (n : ℕ). IsPartRefusal n (first - 1) (in_range first last cs) bytes e) (count_same all cs count same is_count)
       (subst (λ (xs : List ConditionTree). IsPartRefusal count (first - 1) xs bytes e) part_same why)
+
+-- what was told of conditions without a proof, of one at least
+pub unproved_of : (xs : List Condition) (cs : List ConditionTree) (first end : ℕ) (told : List Unproved) → map condition_tree xs ≡ cs → 0 < length told → All (IsUnproved (map condition_tree xs)) told → AreToldOrHold (map condition_tree xs) first end told → AreUnproved cs first end told
+unproved_of xs cs first end told same some are all = subst (λ (ds : List ConditionTree). AreUnproved ds first end told) same (record { some = some; all = all; are = are })
+
+-- the same of all conditions
+pub all_unproved : (xs : List Condition) (cs : List ConditionTree) (told : List Unproved) → map condition_tree xs ≡ cs → 0 < length told → All (IsUnproved (map condition_tree xs)) told → AreToldOrHold (map condition_tree xs) 1 (length xs + 1) told → AreUnproved cs 1 (length cs + 1) told
+all_unproved xs cs told same some are all =
+    subst (λ (n : ℕ). AreUnproved cs 1 (n + 1) told) (count_same xs cs (length xs) same refl) (unproved_of xs cs 1 (length xs + 1) told same some are all)
 
 -- a search of all conditions is refused
 pub all_refused : (xs : List Condition) (cs : List ConditionTree) (steps : ℕ) (e : Refusal) → map condition_tree xs ≡ cs → ((e ≡ no_memory) ⊎ IsFirstUnjudged (map condition_tree xs) 1 steps e) → IsSearchRefusal cs steps e

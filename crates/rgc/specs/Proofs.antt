@@ -1,5 +1,5 @@
 -- What a search for proofs of all conditions gives, and why it gives nothing.
-use Rattle.std.specs.Prelude.{◌≡◌, ◌⊎◌, ℕ, ◌+◌, ◌-◌, ◌<◌, ◌≤◌, ◌==◌, ◌||◌, List, length, take, drop, All, Some, nat_lt, if◌then◌else◌, string_bytes}
+use Rattle.std.specs.Prelude.{◌≡◌, ◌⊎◌, ℕ, ◌+◌, ◌-◌, ◌<◌, ◌≤◌, ◌==◌, ◌||◌, List, [], ◌∷◌, length, take, drop, All, Some, nat_lt, if◌then◌else◌, string_bytes}
 use Rattle.rg_words.specs.declared.limits.TheConstants.{MOST_VARIABLES}
 use Rattle.rg_words.specs.declared.refusal.Refusal.{Refusal}
 use Rattle.rg_words.specs.declared.refusal.RefusalNumber.TheVariants.{UnknownCondition}
@@ -7,6 +7,7 @@ use Rattle.rg_words.specs.declared.refusal.SourceFile.TheVariants.{Derivation}
 use Rattle.rg_words.specs.declared.refusal.Place.TheVariants.{Condition}
 use Rattle.rg_words.specs.Refusals.{no_memory, refused_in}
 use Rattle.rg_tree.specs.ConditionTrees.{ConditionTree}
+use Rattle.rg_tree.specs.Conditions.{ConditionHolds}
 use Rattle.rg_tree.specs.Lines.{LineTree}
 use Rattle.rg_tree.specs.Statements.{ProgramTree}
 use Rattle.rg_tree.specs.Programs.{nth}
@@ -26,11 +27,32 @@ pub record IsUnproved (conditions : List ConditionTree) (u : Unproved) : Type 0 
   pub is : nth conditions u.number ≡ Some condition
   pub judged : IsJudged condition u.judged
 
--- a text that is given as proofs proves all conditions of the program and the lines of its derivation; and what is told of conditions
--- without a proof is true of them
+-- the conditions with numbers from one on and before another hold
+abbrev pub HoldFrom : List ConditionTree → ℕ → ℕ → Type 0
+HoldFrom conditions first end = (k : ℕ) (c : ConditionTree) → first ≤ k → k < end → nth conditions k ≡ Some c → ConditionHolds c
+
+-- of the conditions with numbers from one on and before another this is the first of which something is told, as those before it hold
+pub record IsNextTold (conditions : List ConditionTree) (first end : ℕ) (u : Unproved) : Type 0 where
+  pub low : first ≤ u.number
+  pub high : u.number < end
+  pub before : HoldFrom conditions first u.number
+
+-- in the order of their numbers, something is told of each condition from one number on and before another, or it holds
+abbrev pub AreToldOrHold : List ConditionTree → ℕ → ℕ → List Unproved → Type 0
+AreToldOrHold conditions first end [] = HoldFrom conditions first end
+AreToldOrHold conditions first end (u ∷ told) = IsNextTold conditions first end u × AreToldOrHold conditions (u.number + 1) end told
+
+-- some of the conditions with numbers from one on and before another have no proof: what is told of these is true, and all others hold
+pub record AreUnproved (conditions : List ConditionTree) (first end : ℕ) (told : List Unproved) : Type 0 where
+  pub some : 0 < length told
+  pub all : AreToldOrHold conditions first end told
+  pub are : All (IsUnproved conditions) told
+
+-- a text that is given as proofs proves all conditions of the program and the lines of its derivation; else what is told of those without a proof, of one
+-- at least, is true of them
 abbrev pub AreFoundFor : ProgramTree → List LineTree → ProofsFound → Type 0
 AreFoundFor p lines (Proofs text) = AreProved (conditions_of p lines) (string_bytes text)
-AreFoundFor p lines (Failures told) = All (IsUnproved (conditions_of p lines)) told.items
+AreFoundFor p lines (Failures told) = AreUnproved (conditions_of p lines) 1 (length (conditions_of p lines) + 1) told.items
 
 -- these are the numbers of the first and the last of some of so many conditions
 pub record IsRange (first last count : ℕ) : Type 0 where
@@ -43,12 +65,12 @@ abbrev pub in_range : {A : Type 0} → ℕ → ℕ → List A → List A
 in_range first last conditions = take (last + 1 - first) (drop (first - 1) conditions)
 
 -- a text that is given as proofs has a section for each of these conditions of the program and the lines of its derivation, that proves it, or none where
--- one of its clauses is empty; and what is told of conditions without a proof is true of them
+-- one of its clauses is empty; else what is told of those without a proof, of one at least, is true of them
 abbrev pub ArePartFoundFor : ProgramTree → List LineTree → ℕ → ℕ → ProofsFound → Type 0
 ArePartFoundFor p lines first last (Proofs text) =
     IsRange first last (length (conditions_of p lines))
     × ArePartProved (length (conditions_of p lines)) (first - 1) (in_range first last (conditions_of p lines)) (string_bytes text)
-ArePartFoundFor p lines first last (Failures told) = All (IsUnproved (conditions_of p lines)) told.items
+ArePartFoundFor p lines first last (Failures told) = IsRange first last (length (conditions_of p lines)) × AreUnproved (conditions_of p lines) first (last + 1) told.items
 
 -- the conditions with numbers from one on and before another keep the limit of variables
 abbrev pub KeepLimit : List ConditionTree → ℕ → ℕ → Type 0

@@ -13,7 +13,7 @@ pub use chosen::{
 pub use failures::failure_text;
 pub use pieces::{derive_in_pieces, one_piece_fits, one_piece_is_accepted};
 pub use proofs_found::{
-    ProofsFound, Unproved, failures_text, find_part, find_proofs, find_proofs_all,
+    ProofsFound, Unproved, failures_text, find_part, find_proofs, find_proofs_all, name_at,
 };
 pub use rg_accept::{
     Accepted, Derived, Emitted, Parsed, accept, accept_all, accept_program, build, build_all,

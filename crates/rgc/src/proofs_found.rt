@@ -1,14 +1,16 @@
 //! A whole proofs file, found by a search for each condition.
 
-ghost use Rattle.std.specs.Prelude.{◌≡◌, ◌⊎◌, ◌+◌, ◌<◌, ◌≤◌, ◌^◌, length, All, map, IsOk, IfOk, IfErr, IfSome, OnOk};
+ghost use Rattle.std.specs.Prelude.{◌≡◌, ◌⊎◌, ◌+◌, ◌<◌, ◌≤◌, ◌^◌, length, All, map, string_bytes, IsOk, IfOk, IfErr, IfSome, OnOk};
 ghost use Rattle.rg_words.specs.declared.refusal.RefusalNumber.TheVariants.{UnknownCondition};
 ghost use Rattle.rg_words.specs.declared.refusal.SourceFile.TheVariants.{Derivation};
 ghost use Rattle.rg_words.specs.declared.refusal.Place.TheVariants.{Condition as the_condition};
 ghost use Rattle.rg_words.specs.Refusals.{no_memory, refused_in};
 ghost use Rattle.rg_tree.specs.Conditions.{condition_tree};
-ghost use Rattle.rgc.specs.Proofs.{AreFoundFor, ArePartFoundFor, IsRange, IsUnproved, IsFirstUnjudged, IsSearchRefusal, IsPartSearchRefusal, outside};
+ghost use Rattle.rgc.specs.Proofs.{AreFoundFor, ArePartFoundFor, AreToldOrHold, IsRange, IsUnproved, IsFirstUnjudged, IsSearchRefusal, IsPartSearchRefusal, outside};
+ghost use Rattle.rgc.specs.Failures.{judged_text, name_at, unproved_text, failures_text};
 ghost use Rattle.rgc.specs.Inner.Search.{Takes, IsAnswerAt, AreSought};
 ghost use Rattle.rg_accept.specs.Accepted.{conditions_of};
+ghost use Rattle.rg_accept.specs.Names.{names_of_conditions};
 ghost use Rattle.rg_accept.specs.Stages.{derived_program, derived_lines};
 
 use crate::failures::failure_text;
@@ -152,6 +154,8 @@ fn search_all<P: Watcher>(
 ) -> Result<Search, Refusal>
     // What is told of a condition for which no lines were found is true of it.
     ensures told { IfOk result (λ s. All (IsUnproved (map condition_tree conditions.now)) s.unproved.items) }
+    // All others hold.
+    ensures others { IfOk result (λ s. AreToldOrHold (map condition_tree conditions.now) 1 (length conditions.now + 1) s.unproved.items) }
     ensures refused { IfErr result (λ e. (e ≡ no_memory) ⊎ IsFirstUnjudged (map condition_tree conditions.now) 1 steps e) }
 {
     let mut found = Search {
@@ -265,6 +269,8 @@ fn search_in<R: Threads + Sync, P: Watcher + Copy + Sync>(
     requires bound { to ≤ length conditions.now }
     // What is told of a condition for which no lines were found is true of it.
     ensures told { IfOk result (λ s. All (IsUnproved (map condition_tree conditions.now)) s.unproved.items) }
+    // All others hold.
+    ensures others { IfOk result (λ s. AreToldOrHold (map condition_tree conditions.now) (from + 1) (to + 1) s.unproved.items) }
     ensures refused { IfErr result (λ e. (e ≡ no_memory) ⊎ IsFirstUnjudged (map condition_tree conditions.now) (from + 1) steps e) }
 {
     let mut known = judge_some(
@@ -313,7 +319,7 @@ pub fn find_proofs<P: Watcher>(
     steps: u64,
     watcher: &mut P,
 ) -> Result<ProofsFound, Refusal>
-    // What is given proves all conditions: it is checked before it is given. What is told of a condition without a proof is true of it.
+    // What is given proves all conditions: it is checked before it is given. Else what is told of conditions without a proof is true, and all others hold.
     ensures found { IfOk result (AreFoundFor (derived_program derived.now) (derived_lines derived.now)) }
     ensures refused { IfErr result (IsSearchRefusal (conditions_of (derived_program derived.now) (derived_lines derived.now)) steps) }
 {
@@ -347,7 +353,7 @@ pub fn find_proofs_all<R: Threads + Sync, P: Watcher + Copy + Sync>(
     steps: u64,
     watcher: &P,
 ) -> Result<ProofsFound, Refusal>
-    // What is given proves all conditions: it is checked before it is given. What is told of a condition without a proof is true of it.
+    // What is given proves all conditions: it is checked before it is given. Else what is told of conditions without a proof is true, and all others hold.
     ensures found { IfOk result (AreFoundFor (derived_program derived.now) (derived_lines derived.now)) }
     ensures refused { IfErr result (IsSearchRefusal (conditions_of (derived_program derived.now) (derived_lines derived.now)) steps) }
 {
@@ -408,7 +414,7 @@ pub fn find_part<R: Threads + Sync, P: Watcher + Copy + Sync>(
     steps: u64,
     watcher: &P,
 ) -> Result<ProofsFound, Refusal>
-    // What is given proves these conditions: it is checked before it is given. What is told of a condition without a proof is true of it.
+    // What is given proves these conditions: it is checked before it is given. Else what is told of those without a proof is true, and all others hold.
     ensures found { IfOk result (ArePartFoundFor (derived_program derived.now) (derived_lines derived.now) first last) }
     ensures refused { IfErr result (IsPartSearchRefusal (conditions_of (derived_program derived.now) (derived_lines derived.now)) first last steps) }
 {
@@ -437,7 +443,9 @@ pub fn find_part<R: Threads + Sync, P: Watcher + Copy + Sync>(
 }
 
 /// What is told of a condition that isn't proved, behind its name.
-fn told_of(alloc: Global, words: &Layout, judged: &Judged) -> Result<String, AllocError> {
+fn told_of(alloc: Global, words: &Layout, judged: &Judged) -> Result<String, AllocError>
+    ensures { IfOk result (λ t. string_bytes t ≡ judged_text words.now judged.now) }
+{
     match judged {
         Judged::Fails(first, second) => {
             let states = failure_text(alloc, words, first, second)?;
@@ -446,6 +454,48 @@ fn told_of(alloc: Global, words: &Layout, judged: &Judged) -> Result<String, All
         Judged::GaveUp => String::from_str(alloc, " gave up\n"),
         _ => String::from_str(alloc, ": its proof is too large\n"),
     }
+}
+
+/// The name at a number, from 1; no text where there is none.
+pub fn name_at(names: &[String], number: usize) -> &str
+    ensures { result.now ≡ name_at (map string_bytes names.now) number }
+{
+    if number == 0 || number > names.len() {
+        return "";
+    }
+    names[number - 1].as_str()
+}
+
+/// A condition without a proof, of those with these names: its number, its name, and what is told of it.
+fn unproved_text(
+    alloc: Global,
+    words: &Layout,
+    names: &[String],
+    unproved: &Unproved,
+) -> Result<String, AllocError>
+    ensures { IfOk result (λ t. string_bytes t ≡ unproved_text words.now (map string_bytes names.now) unproved.now) }
+{
+    let number = unproved.number;
+    let name = name_at(names, number);
+    let told = told_of(alloc, words, &unproved.judged)?;
+    format!(in alloc; "condition {number} {name}{told}")
+}
+
+/// Conditions without a proof, of those with these names, one after another.
+fn unproved_texts(
+    alloc: Global,
+    words: &Layout,
+    names: &[String],
+    unproved: &[Unproved],
+) -> Result<String, AllocError>
+    ensures { IfOk result (λ t. string_bytes t ≡ failures_text words.now (map string_bytes names.now) unproved.now) }
+{
+    let mut text = String::new(alloc);
+    for one in unproved {
+        let told = unproved_text(alloc, words, names, one)?;
+        text.push_str(&told)?;
+    }
+    Ok(text)
 }
 
 /// What is told of conditions without a proof: those that fail, at which states, those for which the search gave up, and those whose
@@ -458,17 +508,9 @@ pub fn failures_text(
     alloc: Global,
     derived: &Derived,
     unproved: &[Unproved],
-) -> Result<String, AllocError> {
+) -> Result<String, AllocError>
+    ensures { IfOk result (λ t. string_bytes t ≡ failures_text (derived_program derived.now).words (names_of_conditions (derived_program derived.now) (derived_lines derived.now)) unproved.now) }
+{
     let names = derived.names(alloc)?;
-    let mut text = String::new(alloc);
-    for one in unproved {
-        let name = names
-            .get(one.number.saturating_sub(1))
-            .map_or("", |name| name.as_str());
-        let told = told_of(alloc, &derived.program().layout, &one.judged)?;
-        let number = one.number;
-        let line = format!(in alloc; "condition {number} {name}{told}")?;
-        text.push_str(&line)?;
-    }
-    Ok(text)
+    unproved_texts(alloc, &derived.program().layout, &names, unproved)
 }

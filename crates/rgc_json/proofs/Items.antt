@@ -1,7 +1,6 @@
 -- Lines of items, one after another.
-use Rattle.std.proofs.Common.{◌≡◌, ◌<◌, ◌+◌, ◌∙◌, ℕ, zero, suc, List, [], ◌∷◌, length, map, take, get_or, Option, String, Global, refl, ap, sym, subst, arith}
+use Rattle.std.proofs.Common.{◌≡◌, ◌<◌, ◌+◌, ◌∙◌, ℕ, List, length, take, get_or, Option, ap, sym, subst}
 use Rattle.std.specs.List.{flat_map}
-use Rattle.std.specs.Prelude.{string_bytes}
 use Rattle.std.specs.Io.KnownBytes.{Appends}
 use Rattle.rg_words.specs.Layout.{Word}
 use Rattle.rg_words.proofs.Written.{appends_both, items_more}
@@ -11,7 +10,8 @@ use Rattle.rgc.specs.declared.proofs_found.Unproved.{Unproved}
 use Rattle.rgc_print.specs.Numbers.{part_name}
 use Rattle.rgc_json.specs.Lines.{json_line}
 use Rattle.rgc_json.specs.Numbers.{statement_data, statement_lines}
-use Rattle.rgc_json.specs.Proofs.{name_at, unproved_data, unproved_lines}
+use Rattle.rgc.specs.Failures.{name_at}
+use Rattle.rgc_json.specs.Proofs.{unproved_data, unproved_lines}
 
 module _ (old middle new : Option (List ℕ)) where
   -- the texts of some items went out, and that of the next
@@ -33,9 +33,3 @@ module _ (old middle new : Option (List ℕ)) where
   unproved_goes words names us i u name within at went named next =
       item_goes (λ (v : Unproved). json_line (unproved_data words (name_at names v.number) v)) us i u _ within went
       (ap (λ (n : List ℕ). json_line (unproved_data words n u)) named ∙ ap (λ (v : Unproved). json_line (unproved_data words (name_at names v.number) v)) at) next
-
--- the name at a place
-pub name_at_place : (names : List (String Global)) (i : ℕ) (s : String Global) → i < length names → s ≡ get_or names i s → name_at (map string_bytes names) (suc i) ≡ string_bytes s
-name_at_place [] i s less at = absurd (omega arith)
-name_at_place (n ∷ names) zero s less at = subst (λ (x : String Global). string_bytes n ≡ string_bytes x) (sym at) refl
-name_at_place (n ∷ names) (suc i) s less at = name_at_place names i s (omega arith) at

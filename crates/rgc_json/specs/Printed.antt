@@ -1,5 +1,5 @@
 -- What a command over texts has printed as JSON where it is done.
-use Rattle.std.specs.Prelude.{ℕ, ◌-◌, List, length, All, Option, codes}
+use Rattle.std.specs.Prelude.{ℕ, ◌+◌, ◌-◌, List, length, Option, codes}
 use Rattle.std.specs.Io.KnownBytes.{Appends}
 use Rattle.serde_json.specs.Data.{Data, object, member, no_members, string}
 use Rattle.rg_tree.specs.Lines.{LineTree}
@@ -11,7 +11,7 @@ use Rattle.rg_pool.specs.Parts.{ArePartProved}
 use Rattle.rg_accept.specs.Accepted.{conditions_of, AreAccepted}
 use Rattle.rgc.specs.Chosen.{AreDerived}
 use Rattle.rg_accept.specs.Names.{names_of_conditions}
-use Rattle.rgc.specs.Proofs.{IsUnproved, IsRange, in_range}
+use Rattle.rgc.specs.Proofs.{AreUnproved, IsRange, in_range}
 use Rattle.rgc.specs.declared.proofs_found.Unproved.{Unproved}
 use Rattle.rgc_json.specs.Lines.{json_line}
 use Rattle.rgc_json.specs.Numbers.{numbers_json}
@@ -61,12 +61,22 @@ pub record HasPrintedPartJson (text derivation : List ℕ) (first last : ℕ) (o
   pub proved : ArePartProved (length (conditions_of program lines)) (first - 1) (in_range first last (conditions_of program lines)) proofs
   pub printed : Appends old new (json_line (part_proofs_data first last proofs))
 
--- the text spells a program, the derivation lines that derive its parts, and some of their conditions went out; what is told of each is so of it:
--- where it fails, it fails at the states
+-- the text spells a program, and the derivation lines that derive its parts; some of their conditions have no proof, and what went out tells of these what is
+-- so, and of no others, which hold
 pub record HasToldUnprovedJson (text derivation : List ℕ) (old new : Option (List ℕ)) : Type 0 where
   pub program : ProgramTree
   pub lines : List LineTree
   pub derived : AreDerived text derivation program lines
   pub unproved : List Unproved
-  pub are : All (IsUnproved (conditions_of program lines)) unproved
+  pub are : AreUnproved (conditions_of program lines) 1 (length (conditions_of program lines) + 1) unproved
+  pub printed : Appends old new (unproved_lines program.words (names_of_conditions program lines) unproved)
+
+-- the same of the conditions from one number to another
+pub record HasToldUnprovedPartJson (text derivation : List ℕ) (first last : ℕ) (old new : Option (List ℕ)) : Type 0 where
+  pub program : ProgramTree
+  pub lines : List LineTree
+  pub derived : AreDerived text derivation program lines
+  pub range : IsRange first last (length (conditions_of program lines))
+  pub unproved : List Unproved
+  pub are : AreUnproved (conditions_of program lines) first (last + 1) unproved
   pub printed : Appends old new (unproved_lines program.words (names_of_conditions program lines) unproved)

@@ -1,12 +1,12 @@
 -- Proofs of conditions, and conditions without a proof, as JSON.
-use Rattle.std.specs.Prelude.{ℕ, List, [], codes, Option, Some, None, unwrap_or}
+use Rattle.std.specs.Prelude.{ℕ, List, codes, Option, Some, None}
 use Rattle.std.specs.List.{flat_map}
 use Rattle.serde_json.specs.Data.{Data, Members, put, object, member, no_members, number, string, unsigned}
 use Rattle.rg_words.specs.Layout.{Word}
 use Rattle.rg_words.specs.States.{Valuation}
-use Rattle.rg_tree.specs.Programs.{nth}
 use Rattle.rg_find.specs.declared.judgement.Judged.{Judged}
 use Rattle.rg_find.specs.declared.judgement.Judged.TheVariants.{Holds, Fails, GaveUp, TooLarge}
+use Rattle.rgc.specs.Failures.{name_at}
 use Rattle.rgc.specs.declared.proofs_found.Unproved.{Unproved}
 use Rattle.rgc_json.specs.Lines.{json_line}
 use Rattle.rgc_json.specs.States.{state_data}
@@ -46,10 +46,6 @@ unproved_members name u ms =
 -- a condition of this name without a proof
 abbrev pub unproved_data : List Word → List ℕ → Unproved → Data
 unproved_data words name u = object (with_states words u.judged (unproved_members name u no_members))
-
--- the name of a number, from 1; no text where there is none
-abbrev pub name_at : List (List ℕ) → ℕ → List ℕ
-name_at names k = unwrap_or (nth names k) []
 
 -- conditions without a proof, of those with these names, a line each
 abbrev pub unproved_lines : List Word → List (List ℕ) → List Unproved → List ℕ

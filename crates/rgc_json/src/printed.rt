@@ -12,7 +12,7 @@ ghost use Rattle.rgc.specs.Proofs.{IsProveRefusal, IsProvePartRefusal};
 ghost use Rattle.rgc_json.specs.Lines.{json_line};
 ghost use Rattle.serde_json.specs.View.{view};
 ghost use Rattle.rgc_json.specs.Inner.Told.{TellsProofs, TellsUnproved, GaveProofs, GavePart, GaveNone};
-ghost use Rattle.rgc_json.specs.Printed.{accepted_data, HasPrintedAcceptedJson, HasPrintedNumbersJson, HasPrintedConditionsJson, HasPrintedProofsJson, HasPrintedPartJson, HasToldUnprovedJson};
+ghost use Rattle.rgc_json.specs.Printed.{accepted_data, HasPrintedAcceptedJson, HasPrintedNumbersJson, HasPrintedConditionsJson, HasPrintedProofsJson, HasPrintedPartJson, HasToldUnprovedJson, HasToldUnprovedPartJson};
 
 use crate::conditions::write_conditions;
 use crate::line::write_value;
@@ -239,7 +239,7 @@ pub fn print_proofs_part_json<R: Threads + Sync, W: Out, P: Watcher + Copy + Syn
 ) -> Result<bool, Refusal>
     requires { CanCount (W.failures out.old) }
     ensures printed { IfOk result (λ b. IsTrue b → HasPrintedPartJson text.now derivation.now first last (W.contents out.old) (W.contents out.new)) }
-    ensures told { IfOk result (λ b. b ≡ false → HasToldUnprovedJson text.now derivation.now (W.contents out.old) (W.contents out.new)) }
+    ensures told { IfOk result (λ b. b ≡ false → HasToldUnprovedPartJson text.now derivation.now first last (W.contents out.old) (W.contents out.new)) }
     ensures failures { OnOk result (W.failures out.new ≡ W.failures out.old) }
     ensures stopped { IfErr result (IsStopped (IsProvePartRefusal text.now derivation.now first last steps) (W.contents out.old) (W.contents out.new) (W.failures out.old) (W.failures out.new)) }
 {

@@ -6,13 +6,13 @@ ghost use Rattle.rg_words.specs.Written.{CanCount};
 ghost use Rattle.rg_words.specs.Stopped.{IsFailure};
 ghost use Rattle.serde_json.specs.View.{view, members_view};
 ghost use Rattle.rgc_json.specs.Lines.{json_line};
-ghost use Rattle.rgc_json.specs.Proofs.{proofs_data, part_proofs_data, name_at, why_text, with_pair, with_states, unproved_members, unproved_data, unproved_lines};
+ghost use Rattle.rgc_json.specs.Proofs.{proofs_data, part_proofs_data, why_text, with_pair, with_states, unproved_members, unproved_data, unproved_lines};
 
 use crate::line::write_value;
 use crate::states::state_value;
 use rg_find::Judged;
 use rg_words::{Layout, Out, Refusal, State};
-use rgc::Unproved;
+use rgc::{Unproved, name_at};
 use serde_json::{Map, Value, json, put};
 use std::alloc::{AllocError, Global};
 
@@ -158,16 +158,6 @@ fn write_one<W: Out>(
 {
     let value = unproved_value(alloc, words, name, unproved)?;
     write_value(alloc, &value, out)
-}
-
-/// The name of the condition of a number, from 1; no text where there is none.
-fn name_at(names: &[String], number: usize) -> &str
-    ensures { result.now ≡ name_at (map string_bytes names.now) number }
-{
-    if number == 0 || number > names.len() {
-        return "";
-    }
-    names[number - 1].as_str()
 }
 
 /// Writes the lines of conditions without a proof, of those with these names.

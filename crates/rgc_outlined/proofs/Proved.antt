@@ -1,5 +1,5 @@
 -- What was found where proofs are wanted.
-use Rattle.std.specs.Prelude.{◌≡◌, Bool, true, false, List, ℕ, String, Vec, string_bytes, All}
+use Rattle.std.specs.Prelude.{◌≡◌, Bool, true, false, List, length, ℕ, ◌+◌, String, Vec, string_bytes}
 use Rattle.std.proofs.Common.{refl, subst, sym}
 use Rattle.std.specs.Global.{Global}
 use Rattle.rg_tree.specs.Lines.{LineTree}
@@ -9,7 +9,7 @@ use Rattle.rgc.specs.Chosen.{AreDerived, IsDeriveRefusal}
 use Rattle.rgc.specs.declared.proofs_found.ProofsFound.{ProofsFound}
 use Rattle.rgc.specs.declared.proofs_found.ProofsFound.TheVariants.{Proofs, Failures}
 use Rattle.rgc.specs.declared.proofs_found.Unproved.{Unproved}
-use Rattle.rgc.specs.Proofs.{IsUnproved}
+use Rattle.rgc.specs.Proofs.{AreUnproved}
 use Rattle.rg_accept.specs.Accepted.{conditions_of}
 use Rattle.rgc_outlined.specs.Written.{AreFoundWhere, AreProvedWhere}
 
@@ -33,10 +33,10 @@ refused_same a b text derivation e first second h =
     subst (λ (t : List ℕ). IsDeriveRefusal t derivation e) first (subst (λ (d : List ℕ). IsDeriveRefusal a d e) second h)
 
 -- where proofs are missing, they are wanted, and what was found of conditions without one is so
-missing_where : (wanted : Bool) (program : ProgramTree) (lines : List LineTree) (unproved : Vec Unproved Global) → AreFoundWhere wanted program lines (Failures unproved) → (wanted ≡ true) × All (IsUnproved (conditions_of program lines)) unproved.items
+missing_where : (wanted : Bool) (program : ProgramTree) (lines : List LineTree) (unproved : Vec Unproved Global) → AreFoundWhere wanted program lines (Failures unproved) → (wanted ≡ true) × AreUnproved (conditions_of program lines) 1 (length (conditions_of program lines) + 1) unproved.items
 missing_where true program lines unproved h = (refl, h)
 missing_where false program lines unproved h = absurd h
 
-pub unproved_where : (wanted : Bool) (program : ProgramTree) (lines : List LineTree) (found : ProofsFound) (unproved : Vec Unproved Global) → found ≡ Failures unproved → AreFoundWhere wanted program lines found → (wanted ≡ true) × All (IsUnproved (conditions_of program lines)) unproved.items
+pub unproved_where : (wanted : Bool) (program : ProgramTree) (lines : List LineTree) (found : ProofsFound) (unproved : Vec Unproved Global) → found ≡ Failures unproved → AreFoundWhere wanted program lines found → (wanted ≡ true) × AreUnproved (conditions_of program lines) 1 (length (conditions_of program lines) + 1) unproved.items
 unproved_where wanted program lines found unproved is h =
     missing_where wanted program lines unproved (subst (λ (f : ProofsFound). AreFoundWhere wanted program lines f) is h)

@@ -1,5 +1,5 @@
 -- What was written of an outline.
-use Rattle.std.specs.Prelude.{◌≡◌, ℕ, List, ◌++◌, Bool, true, false, Option, All}
+use Rattle.std.specs.Prelude.{◌≡◌, ℕ, ◌+◌, List, ◌++◌, length, Bool, true, false, Option}
 use Rattle.std.specs.Io.KnownBytes.{Appends}
 use Rattle.rg_tree.specs.Lines.{LineTree}
 use Rattle.rg_tree.specs.Statements.{ProgramTree}
@@ -9,7 +9,7 @@ use Rattle.rgc.specs.declared.proofs_found.ProofsFound.TheVariants.{Proofs, Fail
 use Rattle.rgc.specs.declared.proofs_found.Unproved.{Unproved}
 use Rattle.rg_accept.specs.Accepted.{conditions_of}
 use Rattle.rgc.specs.Chosen.{AreDerived}
-use Rattle.rgc.specs.Proofs.{AreFoundFor, IsUnproved}
+use Rattle.rgc.specs.Proofs.{AreFoundFor, AreUnproved}
 use Rattle.rgc_outlined.specs.declared.write.Wanted.{Wanted}
 use Rattle.rgc_outlined.specs.declared.write.Sides.{Sides}
 
@@ -53,8 +53,8 @@ pub record HasWritten (wanted : Wanted) (before after : Sides) (old new : Option
   pub proved : AreProvedWhere wanted.has_proofs program lines proofs
   pub put : HasPut text derivation proofs wanted before after old new
 
--- proofs are wanted, and aren't found: a text spells a program, whose parts a derivation derives, what was found of some of its conditions is so, and a text
--- went out
+-- proofs are wanted, and aren't found: a text spells a program, whose parts a derivation derives; some of its conditions have no proof, what was found of these
+-- is so, and all others hold; and a text went out
 pub record HasToldMissing (wanted : Wanted) (old new : Option (List ℕ)) : Type 0 where
   pub proofs_wanted : wanted.has_proofs ≡ true
   pub text : List ℕ
@@ -63,6 +63,6 @@ pub record HasToldMissing (wanted : Wanted) (old new : Option (List ℕ)) : Type
   pub lines : List LineTree
   pub derived : AreDerived text derivation program lines
   pub unproved : List Unproved
-  pub are : All (IsUnproved (conditions_of program lines)) unproved
+  pub are : AreUnproved (conditions_of program lines) 1 (length (conditions_of program lines) + 1) unproved
   pub told : List ℕ
   pub printed : Appends old new told

@@ -1,6 +1,6 @@
 //! A run of an outline's program, in the outline's words.
 
-ghost use Rattle.std.specs.Prelude.{◌≡◌, ℕ, List, IsTrue, false, IfOk, IfErr, OnOk, OnErr};
+ghost use Rattle.std.specs.Prelude.{◌≡◌, IsTrue, false, IfOk, IfErr, OnOk, OnErr};
 ghost use Rattle.std.specs.Io.KnownBytes.{Appends};
 ghost use Rattle.rg_words.specs.Stopped.{IsFailure, IsStopped};
 ghost use Rattle.rg_words.specs.Written.{CanCount};
@@ -9,6 +9,7 @@ ghost use Rattle.rg_hints.specs.Proved.{IsProofsRefusal};
 ghost use Rattle.rg_accept.specs.Accepted.{conditions_of};
 ghost use Rattle.rg_accept.specs.Stages.{derived_program, derived_lines, emitted_program, emitted_blocks};
 ghost use Rattle.rg_outline_records.specs.Told.{told_lines};
+ghost use Rattle.rgc_pieces.specs.Unproved.{HasToldUnverified};
 ghost use Rattle.rgc_outlined.specs.Outlined.{HasToldRunOf, HasToldRun};
 ghost use Rattle.rgc_outlined.specs.Inner.Proved.{IsEmittedBy, HasToldProved};
 ghost use Rattle.rgc_outlined.specs.RunStopped.{IsUnrun, IsProvedRunRefusal, IsSomeRunRefusal};
@@ -159,8 +160,8 @@ pub fn run_outline<R: Threads + Wait + Sync, W: Out, F: Out, P: Watcher + Copy +
     // It is run only where some text, the pieces of some derivation and some proofs are accepted.
     ensures printed { IfOk result (λ b. IsTrue b → HasToldRun how.entry.start how.entry.moves how.entry.limit (W.contents out.old) (W.contents out.new)) }
     ensures failures { OnOk result (W.failures out.new ≡ W.failures out.old) }
-    // Else a text went out.
-    ensures told { IfOk result (λ b. b ≡ false → (told : List ℕ) × Appends (W.contents out.old) (W.contents out.new) told) }
+    // Else some conditions have no proof; what was found of these is true, all others hold, and a text went out.
+    ensures told { IfOk result (λ b. b ≡ false → HasToldUnverified (W.contents out.old) (W.contents out.new)) }
     ensures stopped { IfErr result (IsNotDone (IsSomeRunRefusal how.entry.start how.entry.moves how.entry.limit how.entry.steps) (W.contents out.old) (W.contents out.new) (W.failures out.old) (W.failures out.new)) }
     ensures quiet { OnErr result (F.failures faults.new ≡ F.failures faults.old) }
 {

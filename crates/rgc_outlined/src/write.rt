@@ -151,7 +151,7 @@ pub fn write_outline<R: Threads + Sync, W: Out, P: Watcher + Copy + Sync>(
 ) -> Result<bool, NotDone>
     requires { CanCount (W.failures out.old) }
     ensures written { IfOk result (λ b. IsTrue b → HasWritten wanted sides.old sides.new (W.contents out.old) (W.contents out.new)) }
-    // Else proofs are wanted; what was found of conditions without one is true of them, and something was told.
+    // Else proofs are wanted, and some conditions have none; what was found of these is true, all others hold, and a text went out.
     ensures told { IfOk result (λ b. b ≡ false → HasToldMissing wanted (W.contents out.old) (W.contents out.new)) }
     ensures failures { OnOk result (W.failures out.new ≡ W.failures out.old) }
     ensures stopped { IfErr result (IsNotDone (IsSomeWriteRefusal wanted.has_proofs steps) (W.contents out.old) (W.contents out.new) (W.failures out.old) (W.failures out.new)) }

@@ -8,6 +8,8 @@ use Rattle.rg_words.specs.declared.refusal.Refusal.{Refusal}
 use Rattle.rg_words.specs.Stopped.{IsStopped}
 use Rattle.rgc_line.specs.declared.command.Command.{Command}
 use Rattle.rgc_line.specs.declared.command.Command.TheVariants.{Number, Check, Conditions, Prove, Emit, Run, RunOutline, Valid, Clauses, Find, Outline as the_outline, Verify, Challenge, Explain}
+use Rattle.rgc_line.specs.declared.command.Chosen.{Chosen}
+use Rattle.rgc_line.specs.declared.command.Outlines.{Outlines}
 use Rattle.rgc_line.specs.declared.command.Format.{Format}
 use Rattle.rgc_line.specs.declared.command.Format.TheVariants.{Plain, Json}
 use Rattle.rgc.specs.Proofs.{IsProvePartRefusal}
@@ -24,7 +26,7 @@ use Rattle.rgc_perform.specs.declared.stops.Stop.{Stop}
 use Rattle.rgc_perform.specs.declared.stops.Stop.TheVariants.{Device, Refused, Outline, Usage, Told}
 use Rattle.rgc_perform.specs.Done.{IsVerdictDone, SpellsRange}
 use Rattle.rgc_perform.specs.Stopped.{unread_line, unless_read, TellsOf, TellsWhy, IsOverOutline, IsOverRun, IsMisfit, IsUntouched, IsRefusedLate, RefusesFiles, RefusesProofs, RefusesRun}
-use Rattle.rgc_perform.specs.Inner.Stops.{IsDevice, Stops, stop_of_verdict, stop_of_outline}
+use Rattle.rgc_perform.specs.Inner.Stops.{IsOverVerdict, IsDevice, Stops, stop_of_verdict, stop_of_outline}
 
 -- a file can't be read, before anything went out
 pub device_stops : (format : Format) (command : Command) (files : Files) (old : Option (List ℕ)) (m : ℕ) (stop : Stop) → IsDevice (unread_line command files) stop → Stops format command files old old m m stop
@@ -156,3 +158,56 @@ plain_stops command files old new m n (Err (Refused e)) other h = h
 plain_stops command files old new m n (Err (Outline lines)) other h = h
 plain_stops command files old new m n (Err (Usage line)) other h = (plain_misfit command h.0, h.1)
 plain_stops command files old new m n (Err Told) other h = (plain_tells command files.text files.derivation old new other h.0, h.1)
+
+-- a command that is none of those over texts, and none that explains, is over an outline
+pub over_outline : (command : Command) → ((a : Bor (List ℕ)) → command ≡ Number a → ⊥) → ((a b c : Bor (List ℕ)) → command ≡ Check a b c → ⊥) → ((a b : Bor (List ℕ)) (c : Bool) → command ≡ Conditions a b c → ⊥) → ((a b : Bor (List ℕ)) (d : ℕ) (e : Option (Bor (List ℕ))) → command ≡ Prove a b d e → ⊥)
+    → ((a b c : Bor (List ℕ)) → command ≡ Emit a b c → ⊥) → ((a b c : Bor (List ℕ)) (d e : Option (Bor (List ℕ))) (f : ℕ) (i : Option (Bor (List ℕ))) → command ≡ Run a b c d e f i → ⊥) → ((a b : Bor (List ℕ)) → command ≡ Valid a b → ⊥) → ((a : Bor (List ℕ)) (b : Option Chosen) → command ≡ Clauses a b → ⊥)
+    → ((a : Bor (List ℕ)) (b : ℕ) (c : Option Chosen) → command ≡ Find a b c → ⊥) → ((a : ℕ) → command ≡ Explain a → ⊥) → IsOverOutline command
+over_outline (Number a) number check conditions prove emit run valid clauses find explain = absurd (number a refl)
+over_outline (Check a b d) number check conditions prove emit run valid clauses find explain = absurd (check a b d refl)
+over_outline (Conditions a b d) number check conditions prove emit run valid clauses find explain = absurd (conditions a b d refl)
+over_outline (Prove a b d e) number check conditions prove emit run valid clauses find explain = absurd (prove a b d e refl)
+over_outline (Emit a b d) number check conditions prove emit run valid clauses find explain = absurd (emit a b d refl)
+over_outline (Run a b d e f i j) number check conditions prove emit run valid clauses find explain = absurd (run a b d e f i j refl)
+over_outline (Valid a b) number check conditions prove emit run valid clauses find explain = absurd (valid a b refl)
+over_outline (Clauses a b) number check conditions prove emit run valid clauses find explain = absurd (clauses a b refl)
+over_outline (Find a b d) number check conditions prove emit run valid clauses find explain = absurd (find a b d refl)
+over_outline (Explain a) number check conditions prove emit run valid clauses find explain = absurd (explain a refl)
+over_outline (RunOutline a b d e f) number check conditions prove emit run valid clauses find explain = tt
+over_outline (the_outline a b d e f) number check conditions prove emit run valid clauses find explain = tt
+over_outline (Verify a b d) number check conditions prove emit run valid clauses find explain = tt
+over_outline (Challenge a b) number check conditions prove emit run valid clauses find explain = tt
+
+-- a command over an outline that neither runs it nor writes its files judges it
+pub over_verdict : (command : Command) → ((a : Bor (List ℕ)) (b d : Option (Bor (List ℕ))) (e : ℕ) (f : Option (Bor (List ℕ))) → command ≡ RunOutline a b d e f → ⊥) → ((a : Bor (List ℕ)) (b d e f : Option (Bor (List ℕ))) → command ≡ the_outline a b d e f → ⊥) → IsOverOutline command → IsOverVerdict command
+over_verdict (RunOutline a b d e f) run write over = absurd (run a b d e f refl)
+over_verdict (the_outline a b d e f) run write over = absurd (write a b d e f refl)
+over_verdict (Verify a b d) run write over = tt
+over_verdict (Challenge a b) run write over = tt
+over_verdict (Number a) run write over = absurd over
+over_verdict (Check a b d) run write over = absurd over
+over_verdict (Conditions a b d) run write over = absurd over
+over_verdict (Prove a b d e) run write over = absurd over
+over_verdict (Emit a b d) run write over = absurd over
+over_verdict (Run a b d e f i j) run write over = absurd over
+over_verdict (Valid a b) run write over = absurd over
+over_verdict (Clauses a b) run write over = absurd over
+over_verdict (Find a b d) run write over = absurd over
+over_verdict (Explain a) run write over = absurd over
+
+-- there is no other verdict
+pub no_other_verdict : (command : Command) → ((a : Bor (List ℕ)) (b : Bool) → command ≡ Challenge a b → ⊥) → ((a : Outlines) (b : ℕ) (d : Bool) → command ≡ Verify a b d → ⊥) → IsOverVerdict command → ⊥
+no_other_verdict (Challenge a b) challenge verify over = challenge a b refl
+no_other_verdict (Verify a b d) challenge verify over = verify a b d refl
+no_other_verdict (RunOutline a b d e f) challenge verify over = over
+no_other_verdict (the_outline a b d e f) challenge verify over = over
+no_other_verdict (Number a) challenge verify over = over
+no_other_verdict (Check a b d) challenge verify over = over
+no_other_verdict (Conditions a b d) challenge verify over = over
+no_other_verdict (Prove a b d e) challenge verify over = over
+no_other_verdict (Emit a b d) challenge verify over = over
+no_other_verdict (Run a b d e f i j) challenge verify over = over
+no_other_verdict (Valid a b) challenge verify over = over
+no_other_verdict (Clauses a b) challenge verify over = over
+no_other_verdict (Find a b d) challenge verify over = over
+no_other_verdict (Explain a) challenge verify over = over

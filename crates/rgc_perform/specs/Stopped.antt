@@ -21,15 +21,15 @@ use Rattle.rgc_line.specs.declared.command.Settings.{Settings}
 use Rattle.rgc_line.specs.declared.line.Line.{Line}
 use Rattle.rgc_json.specs.Lines.{json_line}
 use Rattle.rgc_json.specs.Refusals.{refusal_data}
-use Rattle.rgc_json.specs.Printed.{HasToldUnprovedJson}
+use Rattle.rgc_json.specs.Printed.{HasToldUnprovedJson, HasToldUnprovedPartJson}
 use Rattle.rgc_running.specs.Refused.{IsUnlike, IsRunRefusal}
 use Rattle.rgc_running.specs.Running.{IsRead}
-use Rattle.rgc_print.specs.Told.{HasToldFormula, HasToldCondition, HasToldUnproved}
+use Rattle.rgc_print.specs.Told.{HasToldFormula, HasToldCondition, HasToldUnproved, HasToldUnprovedPart}
 use Rattle.rgc_outlined.specs.RunStopped.{IsSomeRunRefusal}
 use Rattle.rgc_outlined.specs.Stopped.{IsSomeWriteRefusal}
 use Rattle.rgc_outlined.specs.Written.{HasToldMissing}
 use Rattle.rgc_verify.specs.Refused.{IsSomeTextRefusal, IsSomeVerifyRefusal}
-use Rattle.rgc_verify.specs.Unproved.{HasToldUnverified}
+use Rattle.rgc_pieces.specs.Unproved.{HasToldUnverified}
 use Rattle.rgc_verify.specs.Verified.{HasBreakingRun, HasPrintedRuns}
 use Rattle.rgc_perform.specs.declared.files.Files.{Files}
 use Rattle.rgc_perform.specs.declared.outlines.TheConstants.{MOST_STEPS}
@@ -165,22 +165,27 @@ abbrev pub IsStoppedBy : Command → Files → Option (List ℕ) → Option (Lis
 IsStoppedBy command files old new failed after e =
     IsStopped (RefusesFiles command files) old new failed after e ⊎ IsRefusedLate command old new failed after e
 
--- why there are no proofs went out, in the format, and what it tells is so
-abbrev pub HasToldProofs : Format → List ℕ → List ℕ → Option (List ℕ) → Option (List ℕ) → Type 0
-HasToldProofs Plain text derivation old new = HasToldUnproved text derivation old new
-HasToldProofs Json text derivation old new = HasToldUnprovedJson text derivation old new
+-- which conditions, or which of a range, have no proof went out, in the format, and what it tells is so
+abbrev pub HasToldRange : Format → List ℕ → List ℕ → ℕ → ℕ → Option (List ℕ) → Option (List ℕ) → Type 0
+HasToldRange Plain text derivation first last old new = HasToldUnprovedPart text derivation first last old new
+HasToldRange Json text derivation first last old new = HasToldUnprovedPartJson text derivation first last old new
+
+abbrev pub HasToldProofs : Format → Option (Bor (List ℕ)) → List ℕ → List ℕ → Option (List ℕ) → Option (List ℕ) → Type 0
+HasToldProofs Plain None text derivation old new = HasToldUnproved text derivation old new
+HasToldProofs Json None text derivation old new = HasToldUnprovedJson text derivation old new
+HasToldProofs format (Some range) text derivation old new = (first last : ℕ) × SpellsRange range.now first last × HasToldRange format text derivation first last old new
 
 -- of a text and a derivation: what went out tells why there are no proofs, and is so
 abbrev pub TellsOf : Format → Command → Option (Bor (List ℕ)) → Option (Bor (List ℕ)) → Option (List ℕ) → Option (List ℕ) → Type 0
-TellsOf format (Prove _ _ _ _) (Some text) (Some derivation) old new = HasToldProofs format text.now derivation.now old new
+TellsOf format (Prove _ _ _ range) (Some text) (Some derivation) old new = HasToldProofs format range text.now derivation.now old new
 TellsOf format (Find _ _ None) (Some text) _ old new = HasToldFormula text.now old new
 TellsOf format (Find _ _ (Some chosen)) (Some text) (Some derivation) old new = HasToldCondition text.now derivation.now chosen.condition old new
 TellsOf format (Verify _ _ true) (Some outline) _ old new = HasBreakingRun × HasPrintedRuns old new
-TellsOf format (RunOutline _ _ _ _ _) (Some outline) _ old new = (told : List ℕ) × Appends old new told
+TellsOf format (RunOutline _ _ _ _ _) (Some outline) _ old new = HasToldUnverified old new
 TellsOf format (Outline _ text derivation proofs map) (Some outline) _ old new = HasToldMissing (wanted_of text derivation proofs map) old new
 TellsOf format _ _ _ old new = ⊥
 
--- the output tells why there is no proof, and what it tells is so; of an outline that is run no more is said than that a text went out
+-- the output tells why there is no proof, and what it tells is so; of an outline it isn't said by which text
 abbrev pub TellsWhy : Format → Command → Files → Option (List ℕ) → Option (List ℕ) → Type 0
 TellsWhy format command files old new = TellsOf format command files.text files.derivation old new
 

@@ -5,8 +5,8 @@ ghost use Rattle.rg_words.specs.Written.{CanCount};
 ghost use Rattle.rgc_line.specs.declared.command.Format.TheVariants.{Plain, Json};
 ghost use Rattle.rgc_perform.specs.Done.{IsDone};
 ghost use Rattle.rgc_perform.specs.DoneAsJson.{IsDoneAs, IsLineDone};
-ghost use Rattle.rgc_perform.specs.Stopped.{IsBelow, Writes, TellsRefusal, refusal_status, told_line, IsRefused, HasToldMisfit, HasFailed};
-ghost use Rattle.rgc_perform.specs.Inner.Stops.{Stops, IsTold};
+ghost use Rattle.rgc_perform.specs.Stopped.{IsBelow, Writes, TellsRefusal, refusal_status, told_line, IsOverOutline, IsRefused, HasToldMisfit, HasFailed};
+ghost use Rattle.rgc_perform.specs.Inner.Stops.{IsOverVerdict, Stops, IsTold};
 
 use crate::commands::{
     RunOptions, check, clauses, conditions, emit, explain, find, number, prove, run, valid,
@@ -23,6 +23,111 @@ use rgc_line::{Command, Format, Line, Settings};
 use std::alloc::{AllocError, Global};
 use std::sync::Wait;
 use std::thread::Threads;
+
+/// Judges an outline, or says why not.
+fn judge_outline<R: Threads + Wait + Sync, W: Out, F: Out, P: Watcher + Copy + Sync>(
+    rt: &R,
+    alloc: Global,
+    threads: usize,
+    line: &Line<'_>,
+    files: &Files<'_>,
+    out: &mut W,
+    faults: &mut F,
+    watcher: &P,
+    sides: &mut Sides,
+) -> Result<(), Stop>
+    requires command { IsOverVerdict line.now.command }
+    requires out { CanCount (W.failures out.old) }
+    requires faults { CanCount (F.failures faults.old) }
+    ensures done { OnOk result (IsDone line.now.command files.now (W.contents out.old) (W.contents out.new)) }
+    ensures failures { OnOk result (W.failures out.new ≡ W.failures out.old) }
+    ensures stopped { IfErr result (Stops Plain line.now.command files.now (W.contents out.old) (W.contents out.new) (W.failures out.old) (W.failures out.new)) }
+    ensures quiet { OnErr result (F.failures faults.new ≡ F.failures faults.old) }
+    ensures silent { OnErr result (F.contents faults.new ≡ F.contents faults.old) }
+{
+    match line.command {
+        Command::Challenge {
+            outline: name,
+            has_refused,
+        } => challenge_outline(rt, alloc, threads, name, has_refused, files, out, watcher),
+        Command::Verify {
+            outlines,
+            steps,
+            is_runs_only,
+        } => {
+            let format = line.settings.format;
+            verify(
+                rt,
+                alloc,
+                threads,
+                outlines,
+                format,
+                steps,
+                is_runs_only,
+                files,
+                out,
+                faults,
+                watcher,
+            )
+        }
+        _ => unreachable!(),
+    }
+}
+
+/// Does a command over an outline, or says why not.
+fn carry_out_outline<R: Threads + Wait + Sync, W: Out, F: Out, P: Watcher + Copy + Sync>(
+    rt: &R,
+    alloc: Global,
+    threads: usize,
+    line: &Line<'_>,
+    files: &Files<'_>,
+    out: &mut W,
+    faults: &mut F,
+    watcher: &P,
+    sides: &mut Sides,
+) -> Result<(), Stop>
+    requires command { IsOverOutline line.now.command }
+    requires out { CanCount (W.failures out.old) }
+    requires faults { CanCount (F.failures faults.old) }
+    ensures done { OnOk result (IsDone line.now.command files.now (W.contents out.old) (W.contents out.new)) }
+    ensures failures { OnOk result (W.failures out.new ≡ W.failures out.old) }
+    ensures stopped { IfErr result (Stops Plain line.now.command files.now (W.contents out.old) (W.contents out.new) (W.failures out.old) (W.failures out.new)) }
+    ensures quiet { OnErr result (F.failures faults.new ≡ F.failures faults.old) }
+    ensures silent { OnErr result (F.contents faults.new ≡ F.contents faults.old) }
+{
+    match line.command {
+        Command::RunOutline {
+            outline: name,
+            start,
+            moves,
+            limit,
+            draw,
+        } => {
+            let options = RunOptions::new(start, moves, limit, draw.is_some());
+            run_outline_of(
+                rt, alloc, threads, name, options, files, out, faults, watcher, sides,
+            )
+        }
+        Command::Outline {
+            outline: name,
+            text,
+            derivation,
+            proofs,
+            map,
+        } => {
+            let written = Written {
+                text,
+                derivation,
+                proofs,
+                map,
+            };
+            outline(
+                rt, alloc, threads, name, written, files, out, watcher, sides,
+            )
+        }
+        _ => judge_outline(rt, alloc, threads, line, files, out, faults, watcher, sides),
+    }
+}
 
 /// Does the command, or says why not.
 fn carry_out<R: Threads + Wait + Sync, W: Out, F: Out, P: Watcher + Copy + Sync>(
@@ -71,60 +176,8 @@ fn carry_out<R: Threads + Wait + Sync, W: Out, F: Out, P: Watcher + Copy + Sync>
             let mut own = *watcher;
             find(alloc, steps, chosen, files, out, &mut own)
         }
-        Command::RunOutline {
-            outline: name,
-            start,
-            moves,
-            limit,
-            draw,
-        } => {
-            let options = RunOptions::new(start, moves, limit, draw.is_some());
-            run_outline_of(
-                rt, alloc, threads, name, options, files, out, faults, watcher, sides,
-            )
-        }
-        Command::Outline {
-            outline: name,
-            text,
-            derivation,
-            proofs,
-            map,
-        } => {
-            let written = Written {
-                text,
-                derivation,
-                proofs,
-                map,
-            };
-            outline(
-                rt, alloc, threads, name, written, files, out, watcher, sides,
-            )
-        }
-        Command::Challenge {
-            outline: name,
-            has_refused,
-        } => challenge_outline(rt, alloc, threads, name, has_refused, files, out, watcher),
-        Command::Verify {
-            outlines,
-            steps,
-            is_runs_only,
-        } => {
-            let format = line.settings.format;
-            verify(
-                rt,
-                alloc,
-                threads,
-                outlines,
-                format,
-                steps,
-                is_runs_only,
-                files,
-                out,
-                faults,
-                watcher,
-            )
-        }
         Command::Explain { number } => explain(alloc, number, files, out),
+        _ => carry_out_outline(rt, alloc, threads, line, files, out, faults, watcher, sides),
     }
 }
 

@@ -15,7 +15,7 @@ use Rattle.rgc.specs.Proofs.{AreFoundFor, ArePartFoundFor}
 use Rattle.rgc.specs.declared.proofs_found.ProofsFound.{ProofsFound}
 use Rattle.rgc.specs.declared.proofs_found.ProofsFound.TheVariants.{Proofs, Failures}
 use Rattle.rgc_print.specs.Inner.Lines.{PrintsFound, PrintsLines, TellsFound}
-use Rattle.rgc_print.specs.Told.{HasToldUnproved}
+use Rattle.rgc_print.specs.Told.{HasToldUnproved, HasToldUnprovedPart}
 use Rattle.rgc_print.specs.Printed.{HasPrintedLines, HasPrintedConditionLines, HasPrintedPart, HasPrintedProofs}
 
 -- lines that a search gave for the formula of a text went out
@@ -74,7 +74,7 @@ proofs_of_part text derivation p lines first last (Proofs proofs) old new derive
 proofs_of_part text derivation p lines first last (Failures told) old new derived are went = absurd went
 
 -- what is told where there is none went out
-pub told_of_all : (text derivation : List ℕ) (p : ProgramTree) (lines : List LineTree) (found : ProofsFound) (old new : Option (List ℕ)) → AreDerived text derivation p lines → AreFoundFor p lines found → TellsFound found old new → HasToldUnproved text derivation old new
+pub told_of_all : (text derivation : List ℕ) (p : ProgramTree) (lines : List LineTree) (found : ProofsFound) (old new : Option (List ℕ)) → AreDerived text derivation p lines → AreFoundFor p lines found → TellsFound p lines found old new → HasToldUnproved text derivation old new
 told_of_all text derivation p lines (Proofs proofs) old new derived are went = absurd went
 told_of_all text derivation p lines (Failures unproved) old new derived are went = record {
   program = p;
@@ -82,18 +82,18 @@ told_of_all text derivation p lines (Failures unproved) old new derived are went
   derived = derived;
   unproved = unproved.items;
   are = are;
-  told = went.0;
-  printed = went.1;
+  printed = went;
 }
 
-pub told_of_part : (text derivation : List ℕ) (p : ProgramTree) (lines : List LineTree) (first last : ℕ) (found : ProofsFound) (old new : Option (List ℕ)) → AreDerived text derivation p lines → ArePartFoundFor p lines first last found → TellsFound found old new → HasToldUnproved text derivation old new
+-- the same of a range
+pub told_of_part : (text derivation : List ℕ) (p : ProgramTree) (lines : List LineTree) (first last : ℕ) (found : ProofsFound) (old new : Option (List ℕ)) → AreDerived text derivation p lines → ArePartFoundFor p lines first last found → TellsFound p lines found old new → HasToldUnprovedPart text derivation first last old new
 told_of_part text derivation p lines first last (Proofs proofs) old new derived are went = absurd went
 told_of_part text derivation p lines first last (Failures unproved) old new derived are went = record {
   program = p;
   lines = lines;
   derived = derived;
+  range = are.0;
   unproved = unproved.items;
-  are = are;
-  told = went.0;
-  printed = went.1;
+  are = are.1;
+  printed = went;
 }

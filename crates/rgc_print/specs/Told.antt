@@ -1,5 +1,5 @@
 -- What a command over texts has told where no proof was found.
-use Rattle.std.specs.Prelude.{ℕ, List, Option, All, codes}
+use Rattle.std.specs.Prelude.{ℕ, ◌+◌, List, length, Option, codes}
 use Rattle.std.specs.Io.KnownBytes.{Appends}
 use Rattle.rg_words.specs.Layout.{Word}
 use Rattle.rg_tree.specs.ConditionTrees.{ConditionTree}
@@ -9,9 +9,10 @@ use Rattle.rg_find.specs.Judged.{IsJudged}
 use Rattle.rg_find.specs.declared.judgement.Judged.{Judged}
 use Rattle.rg_find.specs.declared.judgement.Judged.TheVariants.{Holds, Fails, GaveUp, TooLarge}
 use Rattle.rg_accept.specs.Accepted.{conditions_of}
+use Rattle.rg_accept.specs.Names.{names_of_conditions}
 use Rattle.rgc.specs.Chosen.{AreDerived, IsChosen}
-use Rattle.rgc.specs.Failures.{failure_text}
-use Rattle.rgc.specs.Proofs.{IsUnproved}
+use Rattle.rgc.specs.Failures.{failure_text, failures_text}
+use Rattle.rgc.specs.Proofs.{AreUnproved, IsRange}
 use Rattle.rgc.specs.Valid.{IsShown}
 use Rattle.rgc.specs.declared.proofs_found.Unproved.{Unproved}
 
@@ -38,12 +39,22 @@ pub record HasToldCondition (text derivation : List ℕ) (number : ℕ) (old new
   pub is : IsJudged condition judged
   pub told : Tells condition.words judged old new
 
--- the text spells a program, the derivation lines that derive its parts, and what was found of some of their conditions is so; a text went out
+-- the text spells a program, and the derivation lines that derive its parts; some of their conditions have no proof, and what went out tells of these what is
+-- so, and of no others, which hold
 pub record HasToldUnproved (text derivation : List ℕ) (old new : Option (List ℕ)) : Type 0 where
   pub program : ProgramTree
   pub lines : List LineTree
   pub derived : AreDerived text derivation program lines
   pub unproved : List Unproved
-  pub are : All (IsUnproved (conditions_of program lines)) unproved
-  pub told : List ℕ
-  pub printed : Appends old new told
+  pub are : AreUnproved (conditions_of program lines) 1 (length (conditions_of program lines) + 1) unproved
+  pub printed : Appends old new (failures_text program.words (names_of_conditions program lines) unproved)
+
+-- the same of the conditions from one number to another
+pub record HasToldUnprovedPart (text derivation : List ℕ) (first last : ℕ) (old new : Option (List ℕ)) : Type 0 where
+  pub program : ProgramTree
+  pub lines : List LineTree
+  pub derived : AreDerived text derivation program lines
+  pub range : IsRange first last (length (conditions_of program lines))
+  pub unproved : List Unproved
+  pub are : AreUnproved (conditions_of program lines) first (last + 1) unproved
+  pub printed : Appends old new (failures_text program.words (names_of_conditions program lines) unproved)

@@ -5,10 +5,11 @@ ghost use Rattle.rg_words.specs.Stopped.{IsFailure, IsStopped};
 ghost use Rattle.rg_words.specs.Written.{CanCount};
 ghost use Rattle.rg_parse.specs.Programs.{IsProgramRefusal};
 ghost use Rattle.rg_accept.specs.Accepted.{IsAcceptTextRefusal};
+ghost use Rattle.rg_accept.specs.Stages.{derived_program, derived_lines};
 ghost use Rattle.rgc.specs.Chosen.{IsDeriveRefusal, IsChosenClausesRefusal, IsChosenFindRefusal};
 ghost use Rattle.rgc.specs.Proofs.{IsProveRefusal, IsProvePartRefusal};
 ghost use Rattle.rgc.specs.Valid.{IsClausesRefusal, IsFindRefusal, IsValidRefusal};
-ghost use Rattle.rgc_print.specs.Told.{HasToldFormula, HasToldCondition, HasToldUnproved};
+ghost use Rattle.rgc_print.specs.Told.{HasToldFormula, HasToldCondition, HasToldUnproved, HasToldUnprovedPart};
 ghost use Rattle.rgc_print.specs.Inner.Lines.{PrintsFound, TellsFound};
 ghost use Rattle.rgc_print.specs.Printed.{HasPrintedNumbers, HasPrintedAccepted, HasPrintedConditions, HasPrintedProofs, HasPrintedPart, HasPrintedListing, HasPrintedHolds, HasPrintedClauses, HasPrintedConditionClauses, HasPrintedLines, HasPrintedConditionLines};
 
@@ -96,7 +97,7 @@ fn print_search<W: Out>(
     requires { CanCount (W.failures out.old) }
     ensures printed { IfOk result (λ b. IsTrue b → PrintsFound found.now (W.contents out.old) (W.contents out.new)) }
     ensures failures { OnOk result (W.failures out.new ≡ W.failures out.old) }
-    ensures told { IfOk result (λ b. b ≡ false → TellsFound found.now (W.contents out.old) (W.contents out.new)) }
+    ensures told { IfOk result (λ b. b ≡ false → TellsFound (derived_program derived.now) (derived_lines derived.now) found.now (W.contents out.old) (W.contents out.new)) }
     ensures stopped { IfErr result (IsFailure (W.failures out.old) (W.failures out.new)) }
 {
     match found {
@@ -160,7 +161,7 @@ pub fn print_proofs_part<R: Threads + Sync, W: Out, P: Watcher + Copy + Sync>(
     requires { CanCount (W.failures out.old) }
     ensures printed { IfOk result (λ b. IsTrue b → HasPrintedPart text.now derivation.now first last (W.contents out.old) (W.contents out.new)) }
     ensures failures { OnOk result (W.failures out.new ≡ W.failures out.old) }
-    ensures told { IfOk result (λ b. b ≡ false → HasToldUnproved text.now derivation.now (W.contents out.old) (W.contents out.new)) }
+    ensures told { IfOk result (λ b. b ≡ false → HasToldUnprovedPart text.now derivation.now first last (W.contents out.old) (W.contents out.new)) }
     ensures stopped { IfErr result (IsStopped (IsProvePartRefusal text.now derivation.now first last steps) (W.contents out.old) (W.contents out.new) (W.failures out.old) (W.failures out.new)) }
 {
     let derived = derive_program_all(rt, alloc, threads, text, derivation)?;

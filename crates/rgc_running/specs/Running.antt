@@ -1,8 +1,13 @@
 -- What `run` printed.
-use Rattle.std.specs.Prelude.{◌≡◌, ℕ, List, [], ◌++◌, codes, length, replicate, Option, Some, None}
+use Rattle.std.specs.Prelude.{◌≡◌, ◌⊎◌, ℕ, ◌+◌, List, [], ◌++◌, codes, length, replicate, Option, Some, None}
+use Rattle.std.specs.List.{flat_map}
 use Rattle.std.specs.Borrow.{Bor}
 use Rattle.std.specs.Io.KnownBytes.{Appends}
 use Rattle.rg_words.specs.Layout.{Word}
+use Rattle.rg_words.specs.Refusals.{refused_in, refusal_text}
+use Rattle.rg_words.specs.Written.{AppendsBeginning}
+use Rattle.rg_words.specs.declared.refusal.SourceFile.TheVariants.{Moves}
+use Rattle.rg_words.specs.declared.refusal.Place.TheVariants.{Move}
 use Rattle.rg_tree.specs.Moves.{MoveTree}
 use Rattle.rg_tree.specs.Statements.{ProgramTree}
 use Rattle.rg_tree.specs.Traces.{State}
@@ -10,6 +15,7 @@ use Rattle.rg_code.specs.Code.{BlockTree}
 use Rattle.rg_parse.specs.Inputs.{SpellsStart, SpellsMoves}
 use Rattle.rg_monitor.specs.Lines.{lines_of}
 use Rattle.rg_floor.specs.Turns.{ClosedView}
+use Rattle.rg_floor.specs.declared.closed.Passed.{Passed}
 use Rattle.rg_floor.specs.declared.turn.Why.{Why}
 use Rattle.rg_floor.specs.declared.turn.Why.TheVariants.{Ended, Limit, Stuck, Stopped}
 use Rattle.rg_runner.specs.Running.{IsLeftOf}
@@ -31,6 +37,20 @@ why_text Ended = codes "ended\n"
 why_text Limit = codes "limit\n"
 why_text Stuck = codes "stuck\n"
 why_text Stopped = codes "stopped\n"
+
+-- a move that was passed over: why, and its number in the file
+abbrev pub passed_line : Passed → List ℕ
+passed_line p = refusal_text (refused_in p.refusal Moves (Move p.number)) ++ codes "\n"
+
+-- moves that were passed over, a line each
+abbrev pub passed_text : List Passed → List ℕ
+passed_text = flat_map passed_line
+
+-- these lines went out on the faults; or a beginning of them, and then the writer failed, once more than before
+abbrev pub HasToldPassed : List Passed → Option (List ℕ) → Option (List ℕ) → ℕ → ℕ → Type 0
+HasToldPassed passed quiet told quiet_failed told_failed =
+    (Appends quiet told (passed_text passed) × (told_failed ≡ quiet_failed))
+    ⊎ (AppendsBeginning quiet told (passed_text passed) × (told_failed ≡ quiet_failed + 1))
 
 -- this is left of a run of the code from the start, with these moves and so many steps of parts at most
 pub record IsRunLeft (program : ProgramTree) (blocks : List (List BlockTree)) (start moves : Option (Bor (List ℕ))) (limit : ℕ) (closed : ClosedView) : Type 0 where

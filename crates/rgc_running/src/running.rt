@@ -1,6 +1,6 @@
 //! A run of an accepted program: its lines, what is told of it, and its picture.
 
-ghost use Rattle.std.specs.Prelude.{◌≡◌, ◌⊎◌, false, map, IfOk, IfErr, OnOk, OnErr};
+ghost use Rattle.std.specs.Prelude.{◌≡◌, ◌⊎◌, false, map, string_bytes, IfOk, IfErr, OnOk, OnErr};
 ghost use Rattle.std.specs.Io.KnownBytes.{Appends};
 ghost use Rattle.rg_words.specs.Layout.{widths_of};
 ghost use Rattle.rg_words.specs.Refusals.{no_memory, refused};
@@ -9,7 +9,7 @@ ghost use Rattle.rg_words.specs.Written.{CanCount};
 ghost use Rattle.rg_tree.specs.Moves.{move as move_tree, AreMoves};
 ghost use Rattle.rg_monitor.specs.Lines.{lines_of};
 ghost use Rattle.rg_accept.specs.Stages.{emitted_program, emitted_blocks};
-ghost use Rattle.rgc_running.specs.Running.{StartsAt, AreTheMoves, IsRunLeft, HasPrintedRunOf, HasPrintedRun, why_text};
+ghost use Rattle.rgc_running.specs.Running.{StartsAt, AreTheMoves, IsRunLeft, HasPrintedRunOf, HasPrintedRun, why_text, passed_line, passed_text, HasToldPassed};
 ghost use Rattle.rgc_running.specs.Refused.{IsUnreadStart, AreUnreadMoves, opening_refusal, IsUnbegun, IsRunRefusal, IsRunStopped};
 
 use rg_accept::{Emitted, build_all};
@@ -88,12 +88,25 @@ fn placed(refusal: Refusal) -> Refusal
     }
 }
 
+/// The line that tells a move that was passed over.
+fn passed_line(alloc: Global, passed: &Passed) -> Result<String, AllocError>
+    ensures { IfOk result (λ line. string_bytes line ≡ passed_line passed.now) }
+{
+    let refusal = Refusal::at(
+        passed.refusal,
+        SourceFile::Moves,
+        Place::Move(passed.number),
+    );
+    format!(in alloc; "{refusal}\n")
+}
+
 /// The lines that tell the moves that were passed over.
-fn passed_lines(alloc: Global, passed: &[Passed]) -> Result<String, AllocError> {
+fn passed_lines(alloc: Global, passed: &[Passed]) -> Result<String, AllocError>
+    ensures { IfOk result (λ lines. string_bytes lines ≡ passed_text passed.now) }
+{
     let mut lines = String::new(alloc);
     for each in passed {
-        let refusal = Refusal::at(each.refusal, SourceFile::Moves, Place::Move(each.number));
-        let line = format!(in alloc; "{refusal}\n")?;
+        let line = passed_line(alloc, each)?;
         lines.push_str(&line)?;
     }
     Ok(lines)
@@ -132,6 +145,7 @@ pub fn end_run<W: Out, F: Out>(
     ensures failures { OnOk result (W.failures out.new ≡ W.failures out.old) }
     ensures stopped { IfErr result (IsFailure (W.failures out.old) (W.failures out.new)) }
     ensures undrawn { is_drawn ≡ false → picture.new ≡ picture.old }
+    ensures told { OnOk result (HasToldPassed closed.now.refused (F.contents faults.old) (F.contents faults.new) (F.failures faults.old) (F.failures faults.new)) }
     ensures quiet { OnErr result (F.failures faults.new ≡ F.failures faults.old) }
 {
     let lines = passed_lines(alloc, closed.refused())?;

@@ -14,7 +14,7 @@ use Rattle.rgc_walked.specs.declared.no_verdict.NoVerdict.{NoVerdict}
 use Rattle.rgc_walked.specs.NoVerdicts.{IsNoVerdict}
 use Rattle.rgc_walked.proofs.NoVerdicts.{said_weaker}
 use Rattle.rgc_verify.specs.Refused.{IsVerifyRefusal, IsSomeVerifyRefusal}
-use Rattle.rgc_verify.specs.Unproved.{AreUnprovedOf}
+use Rattle.rgc_pieces.specs.Unproved.{AreUnprovedOf}
 
 -- files are refused that are these by other names
 pub refused_same : (a b text derivation : List ℕ) (e : Refusal) → a ≡ text → b ≡ derivation → IsDeriveRefusal a b e → IsDeriveRefusal text derivation e

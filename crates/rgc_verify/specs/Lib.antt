@@ -1,4 +1,3 @@
 pub mod Verified
-pub mod Unproved
 pub mod Refused
 pub mod Inner

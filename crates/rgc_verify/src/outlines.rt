@@ -7,7 +7,7 @@ ghost use Rattle.rg_words.specs.Written.{CanCount};
 ghost use Rattle.rg_parse.specs.Programs.{IsProgramRefusal};
 ghost use Rattle.rgc_walked.specs.NoVerdicts.{IsRefusedBy, IsNoVerdict};
 ghost use Rattle.rgc_verify.specs.Refused.{IsSomeVerifyRefusal};
-ghost use Rattle.rgc_verify.specs.Unproved.{HasToldUnverified};
+ghost use Rattle.rgc_pieces.specs.Unproved.{HasToldUnverified};
 ghost use Rattle.rgc_verify.specs.Verified.{HasPrintedVerdict};
 
 use crate::verdict::{Form, push_name};
@@ -124,7 +124,7 @@ pub fn verify_outline<R: Threads + Sync, W: Out, P: Watcher + Copy + Sync>(
     requires { CanCount (W.failures out.old) }
     // It is said only where some text, derivation and proofs are accepted.
     ensures printed { IfOk result (λ b. IsTrue b → HasPrintedVerdict form.entry (W.contents out.old) (W.contents out.new)) }
-    // Else what was found of conditions without a proof is true of them, and something was told.
+    // Else some conditions have no proof; what was found of these is true, all others hold, and a text went out.
     ensures told { IfOk result (λ b. b ≡ false → HasToldUnverified (W.contents out.old) (W.contents out.new)) }
     ensures failures { OnOk result (W.failures out.new ≡ W.failures out.old) }
     ensures stopped { IfErr result (IsNoVerdict (IsSomeVerifyRefusal steps) (W.contents out.old) (W.contents out.new) (W.failures out.old) (W.failures out.new)) }

@@ -7,7 +7,7 @@ ghost use Rattle.rg_hints.specs.Proved.{IsProofsRefusal};
 ghost use Rattle.rg_accept.specs.Accepted.{conditions_of};
 ghost use Rattle.rg_accept.specs.Stages.{derived_program, derived_lines};
 ghost use Rattle.rgc_verify.specs.Refused.{IsVerifyRefusal};
-ghost use Rattle.rgc_verify.specs.Unproved.{AreUnprovedOf};
+ghost use Rattle.rgc_pieces.specs.Unproved.{AreUnprovedOf};
 ghost use Rattle.rgc_verify.specs.Verified.{HasPrintedVerdict};
 ghost use Rattle.rgc_verify.specs.Inner.Counts.{HasPrintedCounts};
 

@@ -8,6 +8,7 @@ use Rattle.rg_tree.specs.ConditionTrees.{ConditionTree}
 use Rattle.rg_tree.specs.Programs.{nth}
 use Rattle.rg_find.specs.Judged.{IsJudged, IsJudgeRefusal}
 use Rattle.rg_find.specs.declared.judgement.Judged.{Judged}
+use Rattle.rg_find.specs.declared.judgement.Judged.TheVariants.{Holds, Fails, GaveUp, TooLarge}
 use Rattle.rgc.specs.declared.proofs_found.Unproved.{Unproved}
 use Rattle.rgc.specs.declared.proofs_found.Sought.{Sought}
 
@@ -18,9 +19,16 @@ pub record IsKept (number : ℕ) (judged : Judged) (old new : List Unproved) : T
   pub true_of : (c : ConditionTree) → IsJudged c judged → IsJudged c one.judged
   pub added : new ≡ old ++ one ∷ []
 
--- a condition is kept as unproved, or nothing is
+-- lines were found
+abbrev pub IsHolding : Judged → Type 0
+IsHolding (Holds lines) = Unit {0}
+IsHolding (Fails first second) = ⊥
+IsHolding GaveUp = ⊥
+IsHolding TooLarge = ⊥
+
+-- a condition is kept as unproved; or nothing is, where it holds
 abbrev pub Takes : ℕ → Judged → List Unproved → List Unproved → Type 0
-Takes number judged old new = (new ≡ old) ⊎ IsKept number judged old new
+Takes number judged old new = (IsHolding judged × (new ≡ old)) ⊎ IsKept number judged old new
 
 -- what is said of the condition with this number, from 1, is true of it
 abbrev pub IsJudgedAt : List ConditionTree → ℕ → Judged → Type 0

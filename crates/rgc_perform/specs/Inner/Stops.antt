@@ -1,6 +1,7 @@
 -- Why a command isn't done, before it is told.
 use Rattle.std.specs.Prelude.{◌≡◌, ℕ, List, Option, Some}
 use Rattle.rgc_line.specs.declared.command.Command.{Command}
+use Rattle.rgc_line.specs.declared.command.Command.TheVariants.{Verify, Challenge}
 use Rattle.rgc_line.specs.declared.command.Format.{Format}
 use Rattle.rgc_line.specs.declared.command.Settings.{Settings}
 use Rattle.rgc_walked.specs.declared.no_verdict.NoVerdict.{NoVerdict}
@@ -11,6 +12,12 @@ use Rattle.rgc_perform.specs.declared.files.Files.{Files}
 use Rattle.rgc_perform.specs.declared.stops.Stop.{Stop}
 use Rattle.rgc_perform.specs.declared.stops.Stop.TheVariants.{Device, Refused, Outline, Usage, Told}
 use Rattle.rgc_perform.specs.Stopped.{IsUntouched, Writes, unread_line, IsStoppedBy, TellsWhy, IsOverOutline, WentOut, IsMisfit, TellsRefusal}
+
+-- the command judges an outline
+abbrev pub IsOverVerdict : Command → Type 0
+IsOverVerdict (Verify _ _ _) = Unit {0}
+IsOverVerdict (Challenge _ _) = Unit {0}
+IsOverVerdict _ = ⊥
 
 -- a file can't be read, and this line tells it
 abbrev pub IsDevice : Option (List ℕ) → Stop → Type 0

@@ -3,7 +3,7 @@ use Rattle.std.proofs.lemmas.Result.{IfOk-weaker, err_from_is_err_and}
 use Rattle.rg_words.proofs.Cuts.{refused_stops, failure_stops}
 use Rattle.rg_accept.specs.Stages.{derived_program, derived_lines}
 use Rattle.rgc.specs.Proofs.{IsProvePartRefusal}
-use Rattle.rgc_json.proofs.Found.{part_went}
+use Rattle.rgc_json.proofs.Found.{part_went, none_of_part}
 use Rattle.rgc_json.proofs.printed.print_proofs_part_json.Goals as goal
 
 pub returns-clause-printed : goal.returns-clause-printed
@@ -12,6 +12,13 @@ returns-clause-printed g c =
     (λ _ gave proved.
     part_went c.args.text.now c.args.derivation.now (derived_program c.in_ok-derived.derived) (derived_lines c.in_ok-derived.derived) (g.W.Out.contents c.args.out.now) (g.W.Out.contents c.tell_part.new.out) c.in_ok-derived.ensures.derived c.args.first c.args.last c.in_ok-found.found c.in_ok-found.ensures.found (gave proved))
     c.tell_part.ensures.printed
+
+pub returns-clause-told : goal.returns-clause-told
+returns-clause-told g c =
+    IfOk-weaker c.tell_part.result _ _
+    (λ _ gave none.
+    none_of_part c.args.text.now c.args.derivation.now (derived_program c.in_ok-derived.derived) (derived_lines c.in_ok-derived.derived) (g.W.Out.contents c.args.out.now) (g.W.Out.contents c.tell_part.new.out) c.in_ok-derived.ensures.derived c.args.first c.args.last c.in_ok-found.found c.in_ok-found.ensures.found (gave none))
+    c.tell_part.ensures.told
 
 pub returns-in_err-derived-clause-stopped : goal.returns-in_err-derived-clause-stopped
 returns-in_err-derived-clause-stopped g c =

@@ -1,7 +1,9 @@
-use Rattle.std.proofs.Common.{inl, inr}
+use Rattle.std.proofs.Common.{inl, inr, subst}
 use Rattle.std.proofs.lemmas.Result.{err_from_is_err_and}
 use Rattle.rg_words.proofs.Cuts.{refused_stops}
 use Rattle.rg_accept.specs.Stages.{derived_program, derived_lines}
+use Rattle.rgc.specs.Proofs.{AreFoundFor}
+use Rattle.rgc.specs.declared.proofs_found.ProofsFound.{ProofsFound}
 use Rattle.rgc_outlined.specs.RunStopped.{IsProvedRunRefusal, IsSomeRunRefusal}
 use Rattle.rgc_outlined.proofs.Stops.{no_files_done, not_done_weaker}
 use Rattle.rgc_outlined.proofs.RunStops.{proved_refused}
@@ -31,6 +33,26 @@ returns-in-Proofs-clause-printed g c = λ _.
       };
       naming = told.naming;
       run = told.run;
+    }
+
+pub returns-clause-told : goal.returns-clause-told
+returns-clause-told g c = λ _.
+    let files = c.in_ok-files.files in
+    let program = derived_program c.in_ok-derived.derived in
+    let lines = derived_lines c.in_ok-derived.derived in
+    let (told, went) = c.in_ok-print_unproved-in-Failures.ensures.told in
+    record {
+      text = files.text.items;
+      derivation = files.derivation.items;
+      unproved = c.in-Failures.unproved.items;
+      are = record {
+        program = program;
+        lines = lines;
+        derived = c.in_ok-derived.ensures.derived;
+        are = subst (λ (found : ProofsFound). AreFoundFor program lines found) c.in-Failures.is c.in_ok-proofs.ensures.found;
+      };
+      told = told;
+      printed = went;
     }
 
 pub returns-in_err-files-clause-stopped : goal.returns-in_err-files-clause-stopped

@@ -1,4 +1,9 @@
+use Rattle.rgc_perform.proofs.Stopping.{over_outline}
 use Rattle.rgc_perform.proofs.dispatch.carry_out.Goals as goal
+
+pub carry_out_outline-requires-clause-command : goal.carry_out_outline-requires-clause-command
+carry_out_outline-requires-clause-command g c = λ _ _.
+    over_outline c.args.line.now.command c.in_default.not-Number c.in_default.not-Check c.in_default.not-Conditions c.in_default.not-Prove c.in_default.not-Emit c.in_default.not-Run c.in_default.not-Valid c.in_default.not-Clauses c.in_default.not-Find c.in_default.not-Explain
 
 pub returns-in-Number-clause-done : goal.returns-in-Number-clause-done
 returns-in-Number-clause-done g c = rw c.in-Number.is (c.number.ensures.done c.in-Number.text)
@@ -29,17 +34,6 @@ returns-in-Clauses-clause-done g c = rw c.in-Clauses.is (c.clauses.ensures.done 
 pub returns-in-Find-clause-done : goal.returns-in-Find-clause-done
 returns-in-Find-clause-done g c = rw c.in-Find.is (c.find.ensures.done c.in-Find.text)
 
-pub returns-in-RunOutline-clause-done : goal.returns-in-RunOutline-clause-done
-returns-in-RunOutline-clause-done g c =
-    let done = rw c.new-options-in-RunOutline.ensures at c.run_outline_of.ensures.done in
-    rw c.in-RunOutline.is (done c.in-RunOutline.name c.in-RunOutline.draw)
-
-pub returns-in-Outline-clause-done : goal.returns-in-Outline-clause-done
-returns-in-Outline-clause-done g c = rw c.in-Outline.is (c.outline.ensures.done c.in-Outline.name)
-
-pub returns-in-Challenge-clause-done : goal.returns-in-Challenge-clause-done
-returns-in-Challenge-clause-done g c = rw c.in-Challenge.is (c.challenge_outline.ensures.done c.in-Challenge.name)
-
 pub returns-in-Number-clause-stopped : goal.returns-in-Number-clause-stopped
 returns-in-Number-clause-stopped g c = rw c.in-Number.is (c.number.ensures.stopped c.in-Number.text)
 
@@ -64,18 +58,7 @@ returns-in-Clauses-clause-stopped g c = rw c.in-Clauses.is (c.clauses.ensures.st
 pub returns-in-Find-clause-stopped : goal.returns-in-Find-clause-stopped
 returns-in-Find-clause-stopped g c = rw c.in-Find.is (c.find.ensures.stopped c.in-Find.text)
 
-pub returns-in-Outline-clause-stopped : goal.returns-in-Outline-clause-stopped
-returns-in-Outline-clause-stopped g c = rw c.in-Outline.is (c.outline.ensures.stopped c.in-Outline.name)
-
-pub returns-in-Challenge-clause-stopped : goal.returns-in-Challenge-clause-stopped
-returns-in-Challenge-clause-stopped g c = rw c.in-Challenge.is (c.challenge_outline.ensures.stopped c.in-Challenge.name)
-
 pub returns-in-Run-clause-stopped : goal.returns-in-Run-clause-stopped
 returns-in-Run-clause-stopped g c =
     let stopped = rw c.new-options.ensures at c.run.ensures.stopped in
     rw c.in-Run.is (stopped c.in-Run.text c.in-Run.derivation c.in-Run.proofs c.in-Run.draw)
-
-pub returns-in-RunOutline-clause-stopped : goal.returns-in-RunOutline-clause-stopped
-returns-in-RunOutline-clause-stopped g c =
-    let stopped = rw c.new-options-in-RunOutline.ensures at c.run_outline_of.ensures.stopped in
-    rw c.in-RunOutline.is (stopped c.in-RunOutline.name c.in-RunOutline.draw)

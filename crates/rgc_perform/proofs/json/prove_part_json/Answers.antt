@@ -18,7 +18,7 @@ returns-in_err-print_proofs_part_json-clause-stopped g c = λ t d.
 pub returns-clause-stopped : goal.returns-clause-stopped
 returns-clause-stopped g c = λ t d.
     told_stops Json (Prove t d c.args.steps (Some c.args.range)) c.args.files.now _ _ _ _ _ _ c.proved.ensures.told c.in_ok-print_proofs_part_json.ensures.failures
-    (λ none. rw (c.in_ok-text.ensures.text, c.in_ok-text.ensures.derivation) (c.in_ok-print_proofs_part_json.ensures.told none))
+    (λ none. rw (c.in_ok-text.ensures.text, c.in_ok-text.ensures.derivation) (_, _, c.in-Some.ensures, c.in_ok-print_proofs_part_json.ensures.told none))
 
 pub returns-in_default-clause-stopped : goal.returns-in_default-clause-stopped
 returns-in_default-clause-stopped g c = λ t d. usage_stops Json (Prove t d c.args.steps (Some c.args.range)) c.args.files.now _ _ tt

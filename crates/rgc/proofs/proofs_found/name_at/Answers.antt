@@ -1,8 +1,8 @@
 use Rattle.std.proofs.Common.{◌≡◌, ◌∙◌, ◌-◌, suc, map, ap, sym, arith, rules}
 use Rattle.std.specs.Prelude.{string_bytes}
-use Rattle.rgc_json.specs.Proofs.{name_at}
-use Rattle.rgc_json.proofs.Items.{name_at_place}
-use Rattle.rgc_json.proofs.proofs.name_at.Goals as goal
+use Rattle.rgc.specs.Failures.{name_at}
+use Rattle.rgc.proofs.Told.{name_at_place}
+use Rattle.rgc.proofs.proofs_found.name_at.Goals as goal
 
 pub returns : goal.returns
 returns c =

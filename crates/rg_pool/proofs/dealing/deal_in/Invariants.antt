@@ -1,6 +1,6 @@
 use Rattle.std.proofs.Common.{◌≡◌, Some, vec_len}
 use Rattle.rg_pool.proofs.DealSteps.{AreParts, AreKept}
-use Rattle.rg_pool.proofs.dealing.deal.Given as goal
+use Rattle.rg_pool.proofs.dealing.deal_in.Given as goal
 
 -- what is put so far are answers, and so is what is left
 abbrev pub invariant-loop-part : goal.invariant-loop-part

@@ -1,6 +1,6 @@
 use Rattle.std.proofs.Common.{arith}
 use Rattle.rg_pool.proofs.DealSteps.{part_below, parts_left, kept_more}
-use Rattle.rg_pool.proofs.dealing.deal.Goals as goal
+use Rattle.rg_pool.proofs.dealing.deal_in.Goals as goal
 
 pub put_all-requires : goal.put_all-requires
 put_all-requires g c = λ k d small.
