@@ -222,7 +222,7 @@ stamping = threading.local()
 
 def each_library_once(of):
     """Has a crate's stamp, the sum of all that it is made from, ask each library below it once. The toolchain's own asks a library once for each
-    way down to it, of which there are 35,000 below `rgc_perform`. A stamp that is asked for reads all files anew, as before."""
+    way down to it, of which there are tens of thousands below `rgc_perform`. A stamp that is asked for reads all files anew, as before."""
     plain = of.stamp
 
     def stamp(crate):

@@ -22,11 +22,21 @@ use std::alloc::{AllocError, Global};
 use std::sync::atomic::{AtomicBool, Ordering};
 use std::thread::Threads;
 
-/// What is told of the condition at this place, from 0; nothing, where another condition was refused before.
+/// How many bytes the section at this place has.
+fn bytes_at(placed: &[Option<SectionBytes<'_>>], place: usize) -> usize {
+    match placed.get(place) {
+        Some(Some(section)) => section.bytes.len(),
+        _ => 0,
+    }
+}
+
+/// What is told of the condition at this place, from 0; nothing, where another condition was refused before. A section of more than `share` bytes may be
+/// checked in pieces.
 fn prove_one<R: Threads + Sync>(
     rt: &R,
     alloc: Global,
     threads: usize,
+    share: usize,
     before: usize,
     conditions: &[Condition],
     sections: &[SectionBytes<'_>],
@@ -44,6 +54,11 @@ fn prove_one<R: Threads + Sync>(
     }
     let place = before + index;
     let number = place as u64 + 1;
+    let threads = if bytes_at(placed, place) > share {
+        threads
+    } else {
+        1
+    };
     let checker = InThreads { rt, threads };
     let proved = prove_condition(&checker, alloc, &conditions[index], number, placed[place]);
     if proved.is_err() {
@@ -105,12 +120,19 @@ fn settle(
     Ok(())
 }
 
-/// How many bytes the section at this place has.
-fn bytes_at(placed: &[Option<SectionBytes<'_>>], place: usize) -> usize {
-    match placed.get(place) {
-        Some(Some(section)) => section.bytes.len(),
-        _ => 0,
+/// The share of each of so many threads in the bytes of so many sections, which stand behind so many others. To cut a section that is no longer costs
+/// more than it gains, since the threads have others to do beside it.
+fn share_of(
+    threads: usize,
+    before: usize,
+    count: usize,
+    placed: &[Option<SectionBytes<'_>>],
+) -> usize {
+    let mut bytes = 0_usize;
+    for index in 0..count {
+        bytes = bytes.saturating_add(bytes_at(placed, before.saturating_add(index)));
     }
+    bytes / threads.max(1)
 }
 
 /// Numbers of so many conditions, from 0, that stand behind so many others: first those with the longest sections, which
@@ -149,6 +171,7 @@ fn prove_some<R: Threads + Sync>(
     let refused = AtomicBool::new(false);
     let told = &refused;
     let order = longest_first(alloc, before, conditions.len(), placed)?;
+    let share = share_of(threads, before, conditions.len(), placed);
     deal_in(
         rt,
         alloc,
@@ -160,7 +183,7 @@ fn prove_some<R: Threads + Sync>(
             ensures { IfSome result (IsVerdictAt (map text_of sections.entry.now) before (map condition_tree conditions.entry.now) index) }
         {
             prove_one(
-                rt, alloc, threads, before, conditions, sections, placed, told, index,
+                rt, alloc, threads, share, before, conditions, sections, placed, told, index,
             )
         },
     )
@@ -196,7 +219,7 @@ fn prove_each_all<R: Threads + Sync>(
 }
 
 /// Whether a proofs file for `count` conditions proves these, which stand behind so many others: condition by condition, in
-/// at most so many threads; each takes that with the longest section of those left. A large section is checked in pieces.
+/// at most so many threads; each takes that with the longest section of those left. A section that is longer than a thread's share is checked in pieces.
 ///
 /// With 0 or 1 threads all is done in the thread that asks. A thread that can't be had costs time alone. Nothing behind a
 /// condition that is refused is begun.

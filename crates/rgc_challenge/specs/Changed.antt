@@ -2,9 +2,9 @@
 use Rattle.std.specs.Prelude.{ℕ, List}
 use Rattle.rg_tree.specs.Statements.{ProgramTree}
 use Rattle.rg_tree.specs.Programs.{IsSatisfied}
-use Rattle.rg_parse.specs.Programs.{SpellsProgram}
 use Rattle.rgc.specs.Pieces.{AreAcceptedInPieces}
 use Rattle.rgc_pieces.specs.Cut.{ArePiecesOf}
+use Rattle.rgc_walked.specs.Refuted.{IsRefuted}
 use Rattle.rgc_challenge.specs.declared.answers.Answer.{Answer}
 use Rattle.rgc_challenge.specs.declared.answers.Answer.TheVariants.{Survives, Breaks, Unfit, Undecided}
 use Rattle.rgc_challenge.specs.declared.answers.Answered.{Answered}
@@ -19,16 +19,10 @@ pub record IsProvedText (text : List ℕ) : Type 0 where
   pub accepted : AreAcceptedInPieces text pieces proofs program
   pub satisfied : IsSatisfied program
 
--- the text spells a program that doesn't satisfy its specification
-pub record IsRefutedText (text : List ℕ) : Type 0 where
-  pub program : ProgramTree
-  pub spells : SpellsProgram text program
-  pub unsatisfied : IsSatisfied program → ⊥
-
 -- what is said of a text is so; where only the assertions don't fit, or it is undecided, that says nothing
 abbrev pub IsSaid : List ℕ → Answer → Type 0
 IsSaid text Survives = IsProvedText text
-IsSaid text Breaks = IsRefutedText text
+IsSaid text Breaks = IsRefuted text
 IsSaid text Unfit = Unit {0}
 IsSaid text Undecided = Unit {0}
 

@@ -4,7 +4,7 @@ ghost use Rattle.std.specs.Prelude.{◌<◌, IfOk, IfSome, OnOk, All, length};
 ghost use Rattle.rgc_challenge.specs.Changed.{IsAnswered};
 ghost use Rattle.rgc_challenge.specs.Inner.Answers.{AreAnswered};
 
-use crate::asked::{is_proved, walk_text};
+use crate::asked::is_proved;
 use crate::candidates::{Candidate, files_with};
 use crate::known::Known;
 use crate::told::run_told;
@@ -12,10 +12,17 @@ use rg_find::Watcher;
 use rg_outline_challenge::{Between, Change, changed_outline};
 use rg_outline_files::OutlineFiles;
 use rg_pool::deal;
-use rg_walk::Walked;
-use rgc_walked::NoVerdict;
+use rg_walk::{Bounds, Walked};
+use rgc_walked::{NoVerdict, walk_text};
 use std::alloc::{AllocError, Global};
 use std::thread::Threads;
+
+/// How far the walk of a changed program goes.
+const BOUNDS: Bounds = Bounds {
+    configurations: 20_000,
+    work: 2_000_000,
+    with_parts: false,
+};
 
 /// What is known of a changed program.
 #[derive(Clone, Copy, PartialEq, Eq)]
@@ -106,7 +113,7 @@ fn walked(
 {
     let change = candidate.change;
     let text = Vec::from_slice(alloc, &candidate.text)?;
-    match walk_text(alloc, &text)? {
+    match walk_text(alloc, &text, &[], BOUNDS)? {
         Walked::Breaks(run) => {
             let changed = changed_outline(alloc, source, &change, candidate.between)?;
             let told = run_told(alloc, &changed, &run)?;

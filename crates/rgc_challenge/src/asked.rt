@@ -1,28 +1,24 @@
-//! Whether the program that a text spells is proved, and whether a run breaks it.
+//! Whether the program that a text spells is proved.
 
-ghost use Rattle.std.specs.Prelude.{IsTrue, IfOk};
-ghost use Rattle.rg_walk.specs.Breaking.{OnBreaks};
+ghost use Rattle.std.specs.Prelude.{◌≡◌, ◌⊎◌, map, IsTrue, IfOk, IfErr};
+ghost use Rattle.rg_words.specs.Refusals.{no_memory};
+ghost use Rattle.rg_words.specs.declared.refusal.SourceFile.TheVariants.{Derivation};
+ghost use Rattle.rg_tree.specs.Conditions.{condition_tree};
+ghost use Rattle.rg_find.specs.Judged.{IsJudgeRefusal};
+ghost use Rattle.rg_accept.specs.Accepted.{conditions_of};
 ghost use Rattle.rg_accept.specs.Stages.{derived_program, derived_lines};
-ghost use Rattle.rgc_challenge.specs.Changed.{IsProvedText, IsRefutedText};
+ghost use Rattle.rgc_challenge.specs.Changed.{IsProvedText};
+ghost use Rattle.rgc_challenge.specs.Unproved.{IsUnjudged, IsUnprovedRefusal};
 ghost use Rattle.rgc_challenge.specs.Inner.Proved.{HasProofs};
 
 use crate::known::Known;
 use rg_find::{Judged, Watcher, judge};
 use rg_outline_files::OutlineFiles;
-use rg_parse::program;
 use rg_tree::condition::Condition;
-use rg_walk::{Bounds, Walked, walk};
 use rg_words::{Refusal, RefusalNumber, SourceFile};
 use rgc::Derived;
 use rgc_pieces::derive_outline;
 use std::alloc::{AllocError, Global};
-
-/// How far each walk goes.
-const BOUNDS: Bounds = Bounds {
-    configurations: 20_000,
-    work: 2_000_000,
-    with_parts: false,
-};
 
 /// What searches say of conditions.
 #[derive(Clone, Copy, PartialEq, Eq)]
@@ -59,17 +55,20 @@ fn search<P: Watcher + Copy>(
     steps: u64,
     watcher: &P,
     proofs: &mut Vec<u8>,
-) -> Result<Judgement, Refusal> {
+) -> Result<Judgement, Refusal>
+    ensures { IfErr result (IsJudgeRefusal (condition_tree condition.now) Derivation number steps) }
+{
     let mut own = *watcher;
     let file = SourceFile::Derivation;
-    match judge(alloc, condition, file, number, steps, &mut own)? {
-        Judged::Holds(lines) => {
+    match judge(alloc, condition, file, number, steps, &mut own) {
+        Ok(Judged::Holds(lines)) => {
             let text = lines.text(alloc)?;
             push_section(alloc, proofs, number, text.as_bytes())?;
             Ok(Judgement::True)
         }
-        Judged::Fails(..) => Ok(Judgement::Fails),
-        Judged::GaveUp | Judged::TooLarge => Ok(Judgement::Open),
+        Ok(Judged::Fails(..)) => Ok(Judgement::Fails),
+        Ok(Judged::GaveUp | Judged::TooLarge) => Ok(Judgement::Open),
+        Err(refusal) => Err(refusal),
     }
 }
 
@@ -82,7 +81,9 @@ fn judge_one<P: Watcher + Copy>(
     steps: u64,
     watcher: &P,
     proofs: &mut Vec<u8>,
-) -> Result<Judgement, Refusal> {
+) -> Result<Judgement, Refusal>
+    ensures { IfErr result (IsJudgeRefusal (condition_tree condition.now) Derivation number steps) }
+{
     match known.lines_of(condition) {
         Some(lines) => {
             push_section(alloc, proofs, number, lines)?;
@@ -100,14 +101,18 @@ fn judge_all<P: Watcher + Copy>(
     steps: u64,
     watcher: &P,
     proofs: &mut Vec<u8>,
-) -> Result<Judgement, Refusal> {
+) -> Result<Judgement, Refusal>
+    ensures { IfErr result (IsUnjudged (map condition_tree conditions.now) steps) }
+{
     let mut all = Judgement::True;
-    for (index, condition) in conditions.iter().enumerate() {
-        let number = (index as u64).saturating_add(1);
-        match judge_one(alloc, condition, number, known, steps, watcher, proofs)? {
-            Judgement::True => {}
-            Judgement::Fails => return Ok(Judgement::Fails),
-            Judgement::Open => all = Judgement::Open,
+    for place in 0..conditions.len() {
+        let condition = &conditions[place];
+        let number = place as u64 + 1;
+        match judge_one(alloc, condition, number, known, steps, watcher, proofs) {
+            Ok(Judgement::True) => {}
+            Ok(Judgement::Fails) => return Ok(Judgement::Fails),
+            Ok(Judgement::Open) => all = Judgement::Open,
+            Err(refusal) => return Err(refusal),
         }
     }
     Ok(all)
@@ -121,14 +126,20 @@ fn judge_derived<P: Watcher + Copy>(
     steps: u64,
     watcher: &P,
     proofs: &mut Vec<u8>,
-) -> Result<Judgement, Refusal> {
+) -> Result<Judgement, Refusal>
+    ensures { IfErr result (λ e. (e ≡ no_memory) ⊎ IsUnjudged (conditions_of (derived_program derived.now) (derived_lines derived.now)) steps e) }
+{
     let conditions = derived.conditions(alloc)?;
-    judge_all(alloc, &conditions, known, steps, watcher, proofs)
+    match judge_all(alloc, &conditions, known, steps, watcher, proofs) {
+        Ok(judgement) => Ok(judgement),
+        Err(refusal) => Err(refusal),
+    }
 }
 
 /// Whether these proofs prove all conditions of a program.
 fn has_proofs(alloc: Global, derived: Derived, proofs: &[u8]) -> Result<bool, Refusal>
-    ensures { IfOk result (λ b. IsTrue b → HasProofs (derived_program derived) (derived_lines derived)) }
+    ensures proved { IfOk result (λ b. IsTrue b → HasProofs (derived_program derived) (derived_lines derived)) }
+    ensures refused { IfErr result (λ e. e ≡ no_memory) }
 {
     match derived.prove(alloc, proofs) {
         Ok(_) => Ok(true),
@@ -153,28 +164,21 @@ pub fn is_proved<P: Watcher + Copy>(
     is_open: &mut bool,
 ) -> Result<bool, Refusal>
     // It is said only where the text, the pieces of a derivation and some proofs are accepted.
-    ensures { IfOk result (λ b. IsTrue b → IsProvedText files.now.text.items) }
+    ensures proved { IfOk result (λ b. IsTrue b → IsProvedText files.now.text.items) }
+    ensures refused { IfErr result (IsUnprovedRefusal files.now.text.items files.now.derivation.items steps) }
 {
-    let derived = derive_outline(alloc, files)?;
+    let derived = match derive_outline(alloc, files) {
+        Ok(derived) => derived,
+        Err(refusal) => return Err(refusal),
+    };
     let mut proofs = Vec::new(alloc);
-    let judgement = judge_derived(alloc, &derived, known, steps, watcher, &mut proofs)?;
+    let judgement = match judge_derived(alloc, &derived, known, steps, watcher, &mut proofs) {
+        Ok(judgement) => judgement,
+        Err(refusal) => return Err(refusal),
+    };
     if judgement == Judgement::True && has_proofs(alloc, derived, &proofs)? {
         return Ok(true);
     }
     *is_open = *is_open || judgement != Judgement::Fails;
     Ok(false)
-}
-
-/// Walks the program that a text spells, for a short while.
-///
-/// # Errors
-///
-/// As `rg_parse::program`; `Memory` where memory is refused.
-pub fn walk_text(alloc: Global, text: &[u8]) -> Result<Walked, Refusal>
-    // A run is given only where the text's program doesn't satisfy its specification.
-    ensures { IfOk result (λ walked. OnBreaks walked (IsRefutedText text.now)) }
-{
-    let program = program(alloc, text)?;
-    let walked = walk(alloc, &program, &[], BOUNDS)?;
-    Ok(walked)
 }

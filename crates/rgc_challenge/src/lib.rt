@@ -9,6 +9,6 @@ mod known;
 mod told;
 
 pub use answers::{Answer, Answered};
-pub use asked::{is_proved, walk_text};
+pub use asked::is_proved;
 pub use challenges::{Options, challenge};
 pub use known::Known;

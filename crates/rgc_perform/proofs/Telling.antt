@@ -9,11 +9,11 @@ use Rattle.rg_words.proofs.Written.{written_then, stopped_before}
 use Rattle.rgc_line.specs.declared.command.Command.{Command}
 use Rattle.rgc_line.specs.declared.line.Line.{Line}
 use Rattle.rg_words.specs.Stopped.{IsFailure}
-use Rattle.rgc_perform.specs.declared.files.Files.{Files}
-use Rattle.rgc_perform.specs.declared.stops.Stop.{Stop}
-use Rattle.rgc_perform.specs.declared.stops.Stop.TheVariants.{Device, Refused, Outline, Usage, Told}
-use Rattle.rgc_perform.specs.Stopped.{Writes, IsStoppedBy, IsRefusedFor, TellsRefusal, refusal_status, is_failure, IsRefused, HasToldMisfit, HasFailed}
-use Rattle.rgc_perform.specs.Inner.Stops.{Stops, IsTold}
+use Rattle.rgc_commands.specs.declared.files.Files.{Files}
+use Rattle.rgc_commands.specs.declared.stops.Stop.{Stop}
+use Rattle.rgc_commands.specs.declared.stops.Stop.TheVariants.{Device, Refused, Outline, Usage, Told}
+use Rattle.rgc_perform.specs.Stopped.{Writes, IsLineStoppedBy, IsRefusedFor, TellsRefusal, refusal_status, is_failure, IsRefused, HasToldMisfit, HasFailed}
+use Rattle.rgc_perform.specs.Inner.Stops.{StopsLine, IsTold}
 
 -- what a call that writes a text does to a writer
 pub written_writes : {A E : Type 0} (old new : Option (List ℕ)) (m n : ℕ) (text : List ℕ) (r : Result A E) → IsWritten old new m n text r → Writes old new m n text
@@ -52,7 +52,7 @@ not_two true n is two = omega (arith, is, two)
 not_two false n is two = omega (arith, is, two)
 
 -- a refusal whose status is 1 isn't a failure
-status_one : (command : Command) (files : Files) (old new : Option (List ℕ)) (m n : ℕ) (e : Refusal) → refusal_status e.number ≡ 1 → IsStoppedBy command files old new m n e → IsRefusedFor command files old new m n e
+status_one : (command : Command) (files : Files) (old new : Option (List ℕ)) (m n : ℕ) (e : Refusal) → refusal_status e.number ≡ 1 → IsLineStoppedBy command files old new m n e → IsRefusedFor command files old new m n e
 status_one command files old new m n e one (inl (inl why)) = inl (why.0, (why.1, why.2))
 status_one command files old new m n e one (inl (inr why)) = let three = failure_status m n e why in absurd (omega (arith, one, three))
 status_one command files old new m n e one (inr late) = inr late
@@ -63,7 +63,7 @@ told_one line e old new m n h = ⊎_elim (λ w. sym w.2) (λ w. absurd (omega (a
 
 module _ (line : Line) (files : Files) (old new : Option (List ℕ)) (m n : ℕ) (quiet told : Option (List ℕ)) (p q : ℕ) where
   -- what is so where the status is 1
-  pub told_refused : (stop : Stop) (status : ℕ) → Stops line.settings.format line.command files old new m n stop → IsTold line.settings stop status quiet told p q → status ≡ 1 → IsRefused line files old new m n quiet told p q
+  pub told_refused : (stop : Stop) (status : ℕ) → StopsLine line.settings.format line.command files old new m n stop → IsTold line.settings stop status quiet told p q → status ≡ 1 → IsRefused line files old new m n quiet told p q
   told_refused (Device words) status why tells one = absurd (omega (arith, tells.0, one))
   told_refused (Usage words) status why tells one = absurd (omega (arith, tells.0, one))
   told_refused Told status why tells one = inl (record { why = why.0; failures = why.1; silent = tells.1; faults = tells.2 })
@@ -74,7 +74,7 @@ module _ (line : Line) (files : Files) (old new : Option (List ℕ)) (m n : ℕ)
       inr (inl (record { refusal = e; why = status_one line.command files old new m n e number why; tells = at_one }))
 
   -- what is so where it is 2
-  pub told_misfit : (stop : Stop) (status : ℕ) → Stops line.settings.format line.command files old new m n stop → IsTold line.settings stop status quiet told p q → status ≡ 2 → HasToldMisfit line old new m n quiet told p q
+  pub told_misfit : (stop : Stop) (status : ℕ) → StopsLine line.settings.format line.command files old new m n stop → IsTold line.settings stop status quiet told p q → status ≡ 2 → HasToldMisfit line old new m n quiet told p q
   told_misfit (Device words) status why tells two = absurd (omega (arith, tells.0, two))
   told_misfit (Usage words) status why tells two = record { misfit = why.0; untouched = why.1; words = words.now; tells = tells.1 }
   told_misfit Told status why tells two = absurd (omega (arith, tells.0, two))
@@ -82,7 +82,7 @@ module _ (line : Line) (files : Files) (old new : Option (List ℕ)) (m n : ℕ)
   told_misfit (Refused e) status why tells two = absurd (⊎_elim (λ w. not_two (is_failure e.number) status w.2 two) (λ w. omega (arith, w.0, two)) tells)
 
   -- what is so where it is 3
-  pub told_failed : (stop : Stop) (status : ℕ) → Stops line.settings.format line.command files old new m n stop → IsTold line.settings stop status quiet told p q → status ≡ 3 → HasFailed line files old new m n quiet told p q
+  pub told_failed : (stop : Stop) (status : ℕ) → StopsLine line.settings.format line.command files old new m n stop → IsTold line.settings stop status quiet told p q → status ≡ 3 → HasFailed line files old new m n quiet told p q
   told_failed (Device words) status why tells three = inl (record { words = words.now; unread = why.0; untouched = why.1; tells = tells.1 })
   told_failed (Usage words) status why tells three = absurd (omega (arith, tells.0, three))
   told_failed Told status why tells three = absurd (omega (arith, tells.0, three))

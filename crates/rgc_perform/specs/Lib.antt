@@ -1,4 +1,3 @@
 pub mod Done
-pub mod DoneAsJson
 pub mod Stopped
 pub mod Inner

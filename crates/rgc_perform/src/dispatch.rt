@@ -2,30 +2,24 @@
 
 ghost use Rattle.std.specs.Prelude.{◌≡◌, ◌≤◌, ◌++◌, string_bytes, IfOk, IfErr, OnOk, OnErr};
 ghost use Rattle.rg_words.specs.Written.{CanCount};
-ghost use Rattle.rgc_line.specs.declared.command.Format.TheVariants.{Plain, Json};
-ghost use Rattle.rgc_perform.specs.Done.{IsDone};
-ghost use Rattle.rgc_perform.specs.DoneAsJson.{IsDoneAs, IsLineDone};
-ghost use Rattle.rgc_perform.specs.Stopped.{IsBelow, Writes, TellsRefusal, refusal_status, told_line, IsOverOutline, IsRefused, HasToldMisfit, HasFailed};
-ghost use Rattle.rgc_perform.specs.Inner.Stops.{IsOverVerdict, Stops, IsTold};
+ghost use Rattle.rgc_perform.specs.Done.{IsLineDone};
+ghost use Rattle.rgc_perform.specs.Stopped.{IsBelow, Writes, TellsRefusal, refusal_status, told_line, IsRefused, HasToldMisfit, HasFailed};
+ghost use Rattle.rgc_perform.specs.Inner.Stops.{StopsLine, IsTold};
 
-use crate::commands::{
-    RunOptions, check, clauses, conditions, emit, explain, find, number, prove, run, valid,
-};
 use crate::explained::explained;
-use crate::files::{Files, Sides};
-use crate::json::{check_json, conditions_json, number_json, prove_json, run_json};
 use crate::outlines::{Written, challenge_outline, outline, run_outline_of, verify};
-use crate::stops::Stop;
+use crate::sides::Sides;
 use rg_find::Watcher;
 use rg_words::{Out, Refusal, RefusalNumber, write_all};
+use rgc_commands::{Files, RunOptions, Stop, carry_out};
 use rgc_json::refusal_json;
 use rgc_line::{Command, Format, Line, Settings};
 use std::alloc::{AllocError, Global};
 use std::sync::Wait;
 use std::thread::Threads;
 
-/// Judges an outline, or says why not.
-fn judge_outline<R: Threads + Wait + Sync, W: Out, F: Out, P: Watcher + Copy + Sync>(
+/// Does what the line asks for, over texts or over an outline, in the form that it asks for; or says why not.
+fn carry_out_line<R: Threads + Wait + Sync, W: Out, F: Out, P: Watcher + Copy + Sync>(
     rt: &R,
     alloc: Global,
     threads: usize,
@@ -36,62 +30,11 @@ fn judge_outline<R: Threads + Wait + Sync, W: Out, F: Out, P: Watcher + Copy + S
     watcher: &P,
     sides: &mut Sides,
 ) -> Result<(), Stop>
-    requires command { IsOverVerdict line.now.command }
     requires out { CanCount (W.failures out.old) }
     requires faults { CanCount (F.failures faults.old) }
-    ensures done { OnOk result (IsDone line.now.command files.now (W.contents out.old) (W.contents out.new)) }
+    ensures done { OnOk result (IsLineDone line.now files.now (W.contents out.old) (W.contents out.new)) }
     ensures failures { OnOk result (W.failures out.new ≡ W.failures out.old) }
-    ensures stopped { IfErr result (Stops Plain line.now.command files.now (W.contents out.old) (W.contents out.new) (W.failures out.old) (W.failures out.new)) }
-    ensures quiet { OnErr result (F.failures faults.new ≡ F.failures faults.old) }
-    ensures silent { OnErr result (F.contents faults.new ≡ F.contents faults.old) }
-{
-    match line.command {
-        Command::Challenge {
-            outline: name,
-            has_refused,
-        } => challenge_outline(rt, alloc, threads, name, has_refused, files, out, watcher),
-        Command::Verify {
-            outlines,
-            steps,
-            is_runs_only,
-        } => {
-            let format = line.settings.format;
-            verify(
-                rt,
-                alloc,
-                threads,
-                outlines,
-                format,
-                steps,
-                is_runs_only,
-                files,
-                out,
-                faults,
-                watcher,
-            )
-        }
-        _ => unreachable!(),
-    }
-}
-
-/// Does a command over an outline, or says why not.
-fn carry_out_outline<R: Threads + Wait + Sync, W: Out, F: Out, P: Watcher + Copy + Sync>(
-    rt: &R,
-    alloc: Global,
-    threads: usize,
-    line: &Line<'_>,
-    files: &Files<'_>,
-    out: &mut W,
-    faults: &mut F,
-    watcher: &P,
-    sides: &mut Sides,
-) -> Result<(), Stop>
-    requires command { IsOverOutline line.now.command }
-    requires out { CanCount (W.failures out.old) }
-    requires faults { CanCount (F.failures faults.old) }
-    ensures done { OnOk result (IsDone line.now.command files.now (W.contents out.old) (W.contents out.new)) }
-    ensures failures { OnOk result (W.failures out.new ≡ W.failures out.old) }
-    ensures stopped { IfErr result (Stops Plain line.now.command files.now (W.contents out.old) (W.contents out.new) (W.failures out.old) (W.failures out.new)) }
+    ensures stopped { IfErr result (StopsLine line.now.settings.format line.now.command files.now (W.contents out.old) (W.contents out.new) (W.failures out.old) (W.failures out.new)) }
     ensures quiet { OnErr result (F.failures faults.new ≡ F.failures faults.old) }
     ensures silent { OnErr result (F.contents faults.new ≡ F.contents faults.old) }
 {
@@ -125,131 +68,35 @@ fn carry_out_outline<R: Threads + Wait + Sync, W: Out, F: Out, P: Watcher + Copy
                 rt, alloc, threads, name, written, files, out, watcher, sides,
             )
         }
-        _ => judge_outline(rt, alloc, threads, line, files, out, faults, watcher, sides),
-    }
-}
-
-/// Does the command, or says why not.
-fn carry_out<R: Threads + Wait + Sync, W: Out, F: Out, P: Watcher + Copy + Sync>(
-    rt: &R,
-    alloc: Global,
-    threads: usize,
-    line: &Line<'_>,
-    files: &Files<'_>,
-    out: &mut W,
-    faults: &mut F,
-    watcher: &P,
-    sides: &mut Sides,
-) -> Result<(), Stop>
-    requires out { CanCount (W.failures out.old) }
-    requires faults { CanCount (F.failures faults.old) }
-    ensures done { OnOk result (IsDone line.now.command files.now (W.contents out.old) (W.contents out.new)) }
-    ensures failures { OnOk result (W.failures out.new ≡ W.failures out.old) }
-    ensures stopped { IfErr result (Stops Plain line.now.command files.now (W.contents out.old) (W.contents out.new) (W.failures out.old) (W.failures out.new)) }
-    ensures quiet { OnErr result (F.failures faults.new ≡ F.failures faults.old) }
-    ensures silent { OnErr result (F.contents faults.new ≡ F.contents faults.old) }
-{
-    match line.command {
-        Command::Number { .. } => number(alloc, files, out),
-        Command::Check { .. } => check(rt, alloc, threads, files, out),
-        Command::Conditions { has_formulas, .. } => conditions(alloc, has_formulas, files, out),
-        Command::Prove {
+        Command::Challenge {
+            outline: name,
+            has_refused,
+        } => challenge_outline(rt, alloc, threads, name, has_refused, files, out, watcher),
+        Command::Verify {
+            outlines,
             steps,
-            conditions,
-            ..
-        } => prove(rt, alloc, threads, steps, conditions, files, out, watcher),
-        Command::Emit { .. } => emit(rt, alloc, threads, files, out),
-        Command::Run {
-            start,
-            moves,
-            limit,
-            draw,
-            ..
+            is_runs_only,
         } => {
-            let options = RunOptions::new(start, moves, limit, draw.is_some());
+            let format = line.settings.format;
+            verify(
+                rt,
+                alloc,
+                threads,
+                outlines,
+                format,
+                steps,
+                is_runs_only,
+                files,
+                out,
+                faults,
+                watcher,
+            )
+        }
+        _ => {
             let picture = &mut sides.picture;
-            run(rt, alloc, threads, options, files, out, faults, picture)
-        }
-        Command::Valid { .. } => valid(rt, alloc, threads, files, out),
-        Command::Clauses { chosen, .. } => clauses(alloc, chosen, files, out),
-        Command::Find { steps, chosen, .. } => {
-            let mut own = *watcher;
-            find(alloc, steps, chosen, files, out, &mut own)
-        }
-        Command::Explain { number } => explain(alloc, number, files, out),
-        _ => carry_out_outline(rt, alloc, threads, line, files, out, faults, watcher, sides),
-    }
-}
-
-/// Does the command with JSON in the place of its lines, or says why not.
-fn carry_out_json<R: Threads + Wait + Sync, W: Out, F: Out, P: Watcher + Copy + Sync>(
-    rt: &R,
-    alloc: Global,
-    threads: usize,
-    line: &Line<'_>,
-    files: &Files<'_>,
-    out: &mut W,
-    faults: &mut F,
-    watcher: &P,
-    sides: &mut Sides,
-) -> Result<(), Stop>
-    requires out { CanCount (W.failures out.old) }
-    requires faults { CanCount (F.failures faults.old) }
-    ensures done { OnOk result (IsDoneAs Json line.now.command files.now (W.contents out.old) (W.contents out.new)) }
-    ensures failures { OnOk result (W.failures out.new ≡ W.failures out.old) }
-    ensures stopped { IfErr result (Stops Json line.now.command files.now (W.contents out.old) (W.contents out.new) (W.failures out.old) (W.failures out.new)) }
-    ensures quiet { OnErr result (F.failures faults.new ≡ F.failures faults.old) }
-    ensures silent { OnErr result (F.contents faults.new ≡ F.contents faults.old) }
-{
-    match line.command {
-        Command::Number { .. } => number_json(alloc, files, out),
-        Command::Check { .. } => check_json(rt, alloc, threads, files, out),
-        Command::Conditions { has_formulas, .. } => {
-            conditions_json(alloc, has_formulas, files, out)
-        }
-        Command::Prove {
-            steps,
-            conditions,
-            ..
-        } => prove_json(rt, alloc, threads, steps, conditions, files, out, watcher),
-        Command::Run {
-            start,
-            moves,
-            limit,
-            draw,
-            ..
-        } => {
-            let options = RunOptions::new(start, moves, limit, draw.is_some());
-            run_json(rt, alloc, threads, options, files, out)
-        }
-        _ => carry_out(rt, alloc, threads, line, files, out, faults, watcher, sides),
-    }
-}
-
-/// Does what the line asks for, in the form that it asks for, or says why not.
-fn carry_out_as<R: Threads + Wait + Sync, W: Out, F: Out, P: Watcher + Copy + Sync>(
-    rt: &R,
-    alloc: Global,
-    threads: usize,
-    line: &Line<'_>,
-    files: &Files<'_>,
-    out: &mut W,
-    faults: &mut F,
-    watcher: &P,
-    sides: &mut Sides,
-) -> Result<(), Stop>
-    requires out { CanCount (W.failures out.old) }
-    requires faults { CanCount (F.failures faults.old) }
-    ensures done { OnOk result (IsLineDone line.now files.now (W.contents out.old) (W.contents out.new)) }
-    ensures failures { OnOk result (W.failures out.new ≡ W.failures out.old) }
-    ensures stopped { IfErr result (Stops line.now.settings.format line.now.command files.now (W.contents out.old) (W.contents out.new) (W.failures out.old) (W.failures out.new)) }
-    ensures quiet { OnErr result (F.failures faults.new ≡ F.failures faults.old) }
-    ensures silent { OnErr result (F.contents faults.new ≡ F.contents faults.old) }
-{
-    match line.settings.format {
-        Format::Plain => carry_out(rt, alloc, threads, line, files, out, faults, watcher, sides),
-        Format::Json => {
-            carry_out_json(rt, alloc, threads, line, files, out, faults, watcher, sides)
+            carry_out(
+                rt, alloc, threads, line, files, out, faults, watcher, picture,
+            )
         }
     }
 }
@@ -398,7 +245,7 @@ pub fn perform<R: Threads + Wait + Sync, W: Out, F: Out, P: Watcher + Copy + Syn
     // A file can't be read; or the writer failed, or memory was refused; and that is told.
     ensures failed { result ≡ 3 → HasFailed line.now files.now (W.contents out.old) (W.contents out.new) (W.failures out.old) (W.failures out.new) (F.contents faults.old) (F.contents faults.new) (F.failures faults.old) (F.failures faults.new) }
 {
-    match carry_out_as(rt, alloc, threads, line, files, out, faults, watcher, sides) {
+    match carry_out_line(rt, alloc, threads, line, files, out, faults, watcher, sides) {
         Ok(()) => 0,
         Err(stop) => tell(alloc, line, files, &stop, faults),
     }

@@ -1,7 +1,7 @@
 //! What is told below a refusal, where that is asked.
 
-use crate::files::Files;
 use rg_words::Refusal;
+use rgc_commands::Files;
 use rgc_explain::entry_of;
 use rgc_line::Command;
 use rgc_told::{Sources, told};

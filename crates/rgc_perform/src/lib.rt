@@ -1,15 +1,13 @@
-//! The commands of `rgc` over files in memory.
+//! The commands of `rgc` over files in memory: those over texts, which `rgc_commands` carries out, those over outlines, and what is told where one isn't
+//! done.
 #![tactic(auto)]
 
-mod commands;
 mod dispatch;
 mod explained;
-mod explaining;
-mod files;
-mod json;
 mod outlines;
-mod ranges;
+mod sides;
 mod stops;
 
 pub use dispatch::perform;
-pub use files::{Files, Sides};
+pub use rgc_commands::Files;
+pub use sides::Sides;

@@ -4,18 +4,19 @@ ghost use Rattle.std.specs.Prelude.{◌≡◌, ℕ, List, Option, Some, true, fa
 ghost use Rattle.std.specs.Borrow.{Bor};
 ghost use Rattle.rg_words.specs.Written.{CanCount};
 ghost use Rattle.rgc_line.specs.declared.command.Command.TheVariants.{Challenge, Outline, RunOutline, Verify};
-ghost use Rattle.rgc_line.specs.declared.command.Format.TheVariants.{Plain};
-ghost use Rattle.rgc_perform.specs.Done.{IsDone, wanted_of};
-ghost use Rattle.rgc_perform.specs.Stopped.{outline_line};
-ghost use Rattle.rgc_perform.specs.Inner.Stops.{IsDevice, Stops};
+ghost use Rattle.rgc_line.specs.declared.command.Format.{Format as LineFormat};
+ghost use Rattle.rgc_commands.specs.Stopped.{outline_line};
+ghost use Rattle.rgc_commands.specs.Stops.{IsDevice};
+ghost use Rattle.rgc_perform.specs.Done.{IsDoneOver, wanted_of};
+ghost use Rattle.rgc_perform.specs.Inner.Stops.{StopsLine};
 
-use crate::commands::{RunOptions, proved};
-use crate::files::{Files, Sides, inputs, needed};
-use crate::stops::Stop;
+use crate::sides::Sides;
+use crate::stops::{of_outline, of_verdict};
 use rg_find::Watcher;
 use rg_outline_files::{Format, OutlineSource};
 use rg_words::{Out, Taker, write_all};
 use rgc_challenge::{Options, challenge};
+use rgc_commands::{Files, RunOptions, Stop, inputs, proved};
 use rgc_line::Outlines;
 use rgc_outlined::{RunOutline as OutlineRun, Wanted, run_outline, write_outline};
 use rgc_verify::{Form, runs_only, verify_outline};
@@ -32,9 +33,8 @@ fn outline_source<'a>(
     ensures source { IfOk result (λ o. files.now.text ≡ Some o.source) }
     ensures unread { (rest : Option (List ℕ)) → IfErr result (IsDevice (outline_line files.now rest)) }
 {
-    let source = match needed(files.text, "device outline\n") {
-        Ok(source) => source,
-        Err(stop) => return Err(stop),
+    let Some(source) = files.text else {
+        return Err(Stop::Device("device outline\n"));
     };
     let format = match format {
         rgc_line::Format::Plain => Format::Plain,
@@ -89,16 +89,19 @@ pub(crate) fn outline<R: Threads + Sync, W: Out, P: Watcher + Copy + Sync>(
     sides: &mut Sides,
 ) -> Result<(), Stop>
     requires { CanCount (W.failures out.old) }
-    ensures done { (o : Bor (List ℕ)) → OnOk result (IsDone (Outline o written.entry.text written.entry.derivation written.entry.proofs written.entry.map) files.now (W.contents out.old) (W.contents out.new)) }
+    ensures done { (o : Bor (List ℕ)) → OnOk result (IsDoneOver (Outline o written.entry.text written.entry.derivation written.entry.proofs written.entry.map) files.now (W.contents out.old) (W.contents out.new)) }
     ensures failures { OnOk result (W.failures out.new ≡ W.failures out.old) }
-    ensures stopped { (o : Bor (List ℕ)) → IfErr result (Stops Plain (Outline o written.entry.text written.entry.derivation written.entry.proofs written.entry.map) files.now (W.contents out.old) (W.contents out.new) (W.failures out.old) (W.failures out.new)) }
+    ensures stopped { (f : LineFormat) → (o : Bor (List ℕ)) → IfErr result (StopsLine f (Outline o written.entry.text written.entry.derivation written.entry.proofs written.entry.map) files.now (W.contents out.old) (W.contents out.new) (W.failures out.old) (W.failures out.new)) }
 {
     let source = outline_source(name, rgc_line::Format::Plain, files)?;
     let side = &mut sides.outline;
     let wanted = written.wanted();
-    proved(write_outline(
+    match write_outline(
         rt, alloc, threads, source, wanted, MOST_STEPS, out, watcher, side,
-    )?)
+    ) {
+        Ok(is_found) => proved(is_found),
+        Err(none) => Err(of_outline(none)),
+    }
 }
 
 /// Verifies an outline, and runs its program.
@@ -116,9 +119,9 @@ pub(crate) fn run_outline_of<R: Threads + Wait + Sync, W: Out, F: Out, P: Watche
 ) -> Result<(), Stop>
     requires out { CanCount (W.failures out.old) }
     requires faults { CanCount (F.failures faults.old) }
-    ensures done { (o : Bor (List ℕ)) → (w : Option (Bor (List ℕ))) → OnOk result (IsDone (RunOutline o options.entry.start options.entry.moves options.entry.limit w) files.now (W.contents out.old) (W.contents out.new)) }
+    ensures done { (o : Bor (List ℕ)) → (w : Option (Bor (List ℕ))) → OnOk result (IsDoneOver (RunOutline o options.entry.start options.entry.moves options.entry.limit w) files.now (W.contents out.old) (W.contents out.new)) }
     ensures failures { OnOk result (W.failures out.new ≡ W.failures out.old) }
-    ensures stopped { (o : Bor (List ℕ)) → (w : Option (Bor (List ℕ))) → IfErr result (Stops Plain (RunOutline o options.entry.start options.entry.moves options.entry.limit w) files.now (W.contents out.old) (W.contents out.new) (W.failures out.old) (W.failures out.new)) }
+    ensures stopped { (f : LineFormat) → (o : Bor (List ℕ)) → (w : Option (Bor (List ℕ))) → IfErr result (StopsLine f (RunOutline o options.entry.start options.entry.moves options.entry.limit w) files.now (W.contents out.old) (W.contents out.new) (W.failures out.old) (W.failures out.new)) }
     ensures quiet { OnErr result (F.failures faults.new ≡ F.failures faults.old) }
     ensures silent { OnErr result (F.contents faults.new ≡ F.contents faults.old) }
 {
@@ -135,7 +138,10 @@ pub(crate) fn run_outline_of<R: Threads + Wait + Sync, W: Out, F: Out, P: Watche
     // What is told of moves goes out only behind a run.
     let mut passed = Taker::new(alloc, usize::MAX);
     let told = &mut passed;
-    proved(run_outline(rt, alloc, threads, source, how, out, told, watcher, picture)?)?;
+    match run_outline(rt, alloc, threads, source, how, out, told, watcher, picture) {
+        Ok(is_found) => proved(is_found)?,
+        Err(none) => return Err(of_outline(none)),
+    }
     let _ = write_all(faults, passed.bytes());
     Ok(())
 }
@@ -165,9 +171,9 @@ fn prove_outline<R: Threads + Sync, W: Out, F: Out, P: Watcher + Copy + Sync>(
 ) -> Result<(), Stop>
     requires out { CanCount (W.failures out.old) }
     requires faults { CanCount (F.failures faults.old) }
-    ensures done { OnOk result (IsDone (Verify outlines.entry steps false) files.now (W.contents out.old) (W.contents out.new)) }
+    ensures done { OnOk result (IsDoneOver (Verify outlines.entry steps false) files.now (W.contents out.old) (W.contents out.new)) }
     ensures failures { OnOk result (W.failures out.new ≡ W.failures out.old) }
-    ensures stopped { IfErr result (Stops Plain (Verify outlines.entry steps false) files.now (W.contents out.old) (W.contents out.new) (W.failures out.old) (W.failures out.new)) }
+    ensures stopped { (f : LineFormat) → IfErr result (StopsLine f (Verify outlines.entry steps false) files.now (W.contents out.old) (W.contents out.new) (W.failures out.old) (W.failures out.new)) }
     ensures quiet { OnErr result (F.failures faults.new ≡ F.failures faults.old) }
     ensures silent { OnErr result (F.contents faults.new ≡ F.contents faults.old) }
 {
@@ -175,9 +181,13 @@ fn prove_outline<R: Threads + Sync, W: Out, F: Out, P: Watcher + Copy + Sync>(
     let form = form_of(outlines, format);
     let mut told = Vec::new(alloc);
     let warnings = &mut told;
-    if verify_outline(
+    let is_verified = match verify_outline(
         rt, alloc, threads, source, form, steps, out, watcher, warnings,
-    )? {
+    ) {
+        Ok(is_verified) => is_verified,
+        Err(none) => return Err(of_verdict(none)),
+    };
+    if is_verified {
         let _ = write_all(faults, &told);
         return Ok(());
     }
@@ -194,16 +204,16 @@ fn walk_outline<W: Out>(
     out: &mut W,
 ) -> Result<(), Stop>
     requires { CanCount (W.failures out.old) }
-    ensures done { OnOk result (IsDone (Verify outlines.entry steps true) files.now (W.contents out.old) (W.contents out.new)) }
+    ensures done { OnOk result (IsDoneOver (Verify outlines.entry steps true) files.now (W.contents out.old) (W.contents out.new)) }
     ensures failures { OnOk result (W.failures out.new ≡ W.failures out.old) }
-    ensures stopped { IfErr result (Stops Plain (Verify outlines.entry steps true) files.now (W.contents out.old) (W.contents out.new) (W.failures out.old) (W.failures out.new)) }
+    ensures stopped { (f : LineFormat) → IfErr result (StopsLine f (Verify outlines.entry steps true) files.now (W.contents out.old) (W.contents out.new) (W.failures out.old) (W.failures out.new)) }
 {
     let _ = steps;
     let source = outline_source(outlines.outline, format, files)?;
-    if runs_only(alloc, source, form_of(outlines, format), out)? {
-        return Ok(());
+    match runs_only(alloc, source, form_of(outlines, format), out) {
+        Ok(is_unbroken) => proved(is_unbroken),
+        Err(none) => Err(of_verdict(none)),
     }
-    Err(Stop::Told)
 }
 
 /// Verifies an outline, or follows the runs of its program alone.
@@ -222,9 +232,9 @@ pub(crate) fn verify<R: Threads + Sync, W: Out, F: Out, P: Watcher + Copy + Sync
 ) -> Result<(), Stop>
     requires out { CanCount (W.failures out.old) }
     requires faults { CanCount (F.failures faults.old) }
-    ensures done { OnOk result (IsDone (Verify outlines.entry steps is_runs_only) files.now (W.contents out.old) (W.contents out.new)) }
+    ensures done { OnOk result (IsDoneOver (Verify outlines.entry steps is_runs_only) files.now (W.contents out.old) (W.contents out.new)) }
     ensures failures { OnOk result (W.failures out.new ≡ W.failures out.old) }
-    ensures stopped { IfErr result (Stops Plain (Verify outlines.entry steps is_runs_only) files.now (W.contents out.old) (W.contents out.new) (W.failures out.old) (W.failures out.new)) }
+    ensures stopped { (f : LineFormat) → IfErr result (StopsLine f (Verify outlines.entry steps is_runs_only) files.now (W.contents out.old) (W.contents out.new) (W.failures out.old) (W.failures out.new)) }
     ensures quiet { OnErr result (F.failures faults.new ≡ F.failures faults.old) }
     ensures silent { OnErr result (F.contents faults.new ≡ F.contents faults.old) }
 {
@@ -248,32 +258,30 @@ pub(crate) fn challenge_outline<R: Threads + Sync, W: Out, P: Watcher + Copy + S
     watcher: &P,
 ) -> Result<(), Stop>
     requires { CanCount (W.failures out.old) }
-    ensures done { (o : Bor (List ℕ)) → OnOk result (IsDone (Challenge o has_refused) files.now (W.contents out.old) (W.contents out.new)) }
+    ensures done { (o : Bor (List ℕ)) → OnOk result (IsDoneOver (Challenge o has_refused) files.now (W.contents out.old) (W.contents out.new)) }
     ensures failures { OnOk result (W.failures out.new ≡ W.failures out.old) }
-    ensures stopped { (o : Bor (List ℕ)) → IfErr result (Stops Plain (Challenge o has_refused) files.now (W.contents out.old) (W.contents out.new) (W.failures out.old) (W.failures out.new)) }
+    ensures stopped { (f : LineFormat) → (o : Bor (List ℕ)) → IfErr result (StopsLine f (Challenge o has_refused) files.now (W.contents out.old) (W.contents out.new) (W.failures out.old) (W.failures out.new)) }
 {
     let source = outline_source(name, rgc_line::Format::Plain, files)?;
     let mut told = Vec::new(alloc);
     let warnings = &mut told;
     let form = Form::Alone;
-    if !verify_outline(
+    let is_verified = match verify_outline(
         rt, alloc, threads, source, form, MOST_STEPS, out, watcher, warnings,
-    )? {
+    ) {
+        Ok(is_verified) => is_verified,
+        Err(none) => return Err(of_verdict(none)),
+    };
+    if !is_verified {
         return Err(Stop::Outline(told));
     }
     let options = Options {
         steps: MOST_STEPS_FOR_CHANGES,
         with_refused: has_refused,
     };
-    challenge(
-        rt,
-        alloc,
-        threads,
-        name,
-        source.source,
-        options,
-        out,
-        watcher,
-    )?;
-    Ok(())
+    let outline = source.source;
+    match challenge(rt, alloc, threads, name, outline, options, out, watcher) {
+        Ok(_) => Ok(()),
+        Err(none) => Err(of_verdict(none)),
+    }
 }

@@ -34,15 +34,15 @@ impl Texts {
 }
 
 /// A program of two parts that set a word each.
-pub(crate) const TEXT: &str =
+const TEXT: &str =
     "words x:1 y:1\npre true\nrely ((x' = x) and (y' = y))\nguar true\npost ((x = 1) and (y = 1))\npart a\npre true rely (x' = x) guar (y' = y) post (x = 1)\nbegin x := 1 end\npart b\npre true rely (y' = y) guar (x' = x) post (y = 1)\nbegin y := 1 end\n";
 
 /// A line for each part.
-pub(crate) const DERIVATION: &str =
+const DERIVATION: &str =
     "line 1 basic 1 pre true rely (x' = x) guar (y' = y) post (x = 1)\nline 2 basic 2 pre true rely (y' = y) guar (x' = x) post (y = 1)\n";
 
 /// The sections of the six conditions, of seventeen, that need one.
-pub(crate) const PROOFS: &str =
+const PROOFS: &str =
     "section 4\n17 0 16 13 14 10 11 8 6 0\nsection 8\n17 0 16 13 14 10 11 8 6 0\nsection 11\n29 0 28 25 26 23 0\nsection 12\n29 0 28 25 26 23 0\nsection 13\n29 0 28 25 26 22 0\nsection 14\n29 0 28 25 26 22 0\n";
 
 const PROGRAM: Texts = Texts {

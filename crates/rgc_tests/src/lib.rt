@@ -1,4 +1,4 @@
-//! What no command shows of the library: writers that fail, refused memory, the stages, typed programs, counts of decisions, runs whose parts are held.
+//! What no row shows of commands: writers that fail, refused memory, counts of decisions.
 #![tactic(auto)]
 
 #[cfg(test)]
@@ -7,11 +7,5 @@ mod commands;
 mod line;
 #[cfg(test)]
 mod memory;
-#[cfg(test)]
-mod programs;
-#[cfg(test)]
-mod runs;
-#[cfg(test)]
-mod stages;
 #[cfg(test)]
 mod writers;

@@ -1,10 +1,8 @@
-//! Refused memory is told. These tests allocate nothing of their own: under `rt try --test --fail-alloc N` what is refused is the call's.
+//! Refused memory is told. This test allocates nothing of its own: under `rt try --test --fail-alloc N` what is refused is the call's.
 
-use crate::commands::{DERIVATION, PROOFS, Printed, TEXT, rows};
-use rg_code::checked::Checked;
+use crate::commands::{Printed, rows};
 use rg_find::Unwatched;
-use rg_words::{Device, RefusalNumber};
-use rgc::build;
+use rg_words::Device;
 use rgc_line::{Line, PLAIN};
 use rgc_perform::{Sides, perform};
 use std::alloc::Global;
@@ -47,28 +45,5 @@ fn refused_memory_is_told_of_commands(rt: HostRuntime) -> Result<(), Fail> {
     for row in &rows() {
         assert!(rt; prints_or_tells(&rt, rt.alloc(), row));
     }
-    Ok(())
-}
-
-/// A program's text comes to code, or its refusal is that of memory, without a file and a place.
-fn builds_or_tells(alloc: Global) -> bool {
-    match build(
-        alloc,
-        TEXT.as_bytes(),
-        DERIVATION.as_bytes(),
-        PROOFS.as_bytes(),
-    ) {
-        Ok(emitted) => emitted.program().parts.len() == 2,
-        Err(refusal) => {
-            refusal.number == RefusalNumber::Memory
-                && refusal.file.is_none()
-                && refusal.place.is_none()
-        }
-    }
-}
-
-#[test]
-fn refused_memory_is_told_of_texts(rt: HostRuntime) -> Result<(), Fail> {
-    assert!(rt; builds_or_tells(rt.alloc()));
     Ok(())
 }

@@ -5,4 +5,4 @@ mod no_verdict;
 mod walk;
 
 pub use no_verdict::NoVerdict;
-pub use walk::{WalkTold, tell_walk};
+pub use walk::{WalkTold, tell_walk, walk_text};

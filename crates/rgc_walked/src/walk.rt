@@ -29,13 +29,23 @@ pub enum WalkTold {
     NotFound,
 }
 
-/// Walks the program that a text spells.
-fn walk_text(alloc: Global, text: &[u8], given: &[Vec<u64>]) -> Result<Walked, Refusal>
+/// Walks the program that a text spells, as `rg_walk::walk` does: from these states, too, and no further than these bounds.
+///
+/// # Errors
+///
+/// As `rg_parse::program`; `Memory` where memory is refused.
+pub fn walk_text(
+    alloc: Global,
+    text: &[u8],
+    given: &[Vec<u64>],
+    bounds: Bounds,
+) -> Result<Walked, Refusal>
+    // A run is given only where the text's program doesn't satisfy its specification.
     ensures breaks { IfOk result (λ walked. OnBreaks walked (IsRefuted text.now)) }
     ensures refused { IfErr result (IsProgramRefusal text.now) }
 {
     let program = program(alloc, text)?;
-    let walked = walk(alloc, &program, given, BOUNDS)?;
+    let walked = walk(alloc, &program, given, bounds)?;
     Ok(walked)
 }
 
@@ -58,7 +68,7 @@ pub fn tell_walk(
     ensures told { IfOk result (IsTold files.now.text.items) }
     ensures refused { IfErr result (IsRefusedBy (IsProgramRefusal files.now.text.items)) }
 {
-    let walked = walk_text(alloc, &files.text, given)?;
+    let walked = walk_text(alloc, &files.text, given, BOUNDS)?;
     let lines = walk_told(alloc, outline, &walked)?;
     told.extend_from_slice(&lines)?;
     match walked {

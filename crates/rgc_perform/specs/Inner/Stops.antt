@@ -1,28 +1,17 @@
 -- Why a command isn't done, before it is told.
 use Rattle.std.specs.Prelude.{◌≡◌, ℕ, List, Option, Some}
 use Rattle.rgc_line.specs.declared.command.Command.{Command}
-use Rattle.rgc_line.specs.declared.command.Command.TheVariants.{Verify, Challenge}
 use Rattle.rgc_line.specs.declared.command.Format.{Format}
 use Rattle.rgc_line.specs.declared.command.Settings.{Settings}
 use Rattle.rgc_walked.specs.declared.no_verdict.NoVerdict.{NoVerdict}
 use Rattle.rgc_walked.specs.declared.no_verdict.NoVerdict.TheVariants.{Outline as no_verdict, Refused as verdict_refused}
 use Rattle.rgc_outlined.specs.declared.stop.NotDone.{NotDone}
 use Rattle.rgc_outlined.specs.declared.stop.NotDone.TheVariants.{Outline as not_done, Refused as outline_refused}
-use Rattle.rgc_perform.specs.declared.files.Files.{Files}
-use Rattle.rgc_perform.specs.declared.stops.Stop.{Stop}
-use Rattle.rgc_perform.specs.declared.stops.Stop.TheVariants.{Device, Refused, Outline, Usage, Told}
-use Rattle.rgc_perform.specs.Stopped.{IsUntouched, Writes, unread_line, IsStoppedBy, TellsWhy, IsOverOutline, WentOut, IsMisfit, TellsRefusal}
-
--- the command judges an outline
-abbrev pub IsOverVerdict : Command → Type 0
-IsOverVerdict (Verify _ _ _) = Unit {0}
-IsOverVerdict (Challenge _ _) = Unit {0}
-IsOverVerdict _ = ⊥
-
--- a file can't be read, and this line tells it
-abbrev pub IsDevice : Option (List ℕ) → Stop → Type 0
-IsDevice line (Device told) = line ≡ Some told.now
-IsDevice line _ = ⊥
+use Rattle.rgc_commands.specs.Stopped.{IsUntouched, unread_line, IsMisfit}
+use Rattle.rgc_commands.specs.declared.files.Files.{Files}
+use Rattle.rgc_commands.specs.declared.stops.Stop.{Stop}
+use Rattle.rgc_commands.specs.declared.stops.Stop.TheVariants.{Device, Refused, Outline, Usage, Told}
+use Rattle.rgc_perform.specs.Stopped.{Writes, IsLineStoppedBy, IsWhyTold, IsOverOutline, WentOut, TellsRefusal}
 
 -- no verdict on an outline, as a stop
 abbrev pub stop_of_verdict : NoVerdict → Stop
@@ -34,13 +23,13 @@ abbrev pub stop_of_outline : NotDone → Stop
 stop_of_outline (not_done lines) = Outline lines
 stop_of_outline (outline_refused e) = Refused e
 
--- what is so of the files and of what went out, where a command in a format isn't done
-abbrev pub Stops : Format → Command → Files → Option (List ℕ) → Option (List ℕ) → ℕ → ℕ → Stop → Type 0
-Stops format command files old new failed after (Device line) = (unread_line command files ≡ Some line.now) × IsUntouched old new failed after
-Stops format command files old new failed after (Refused e) = IsStoppedBy command files old new failed after e
-Stops format command files old new failed after (Outline lines) = IsOverOutline command × WentOut command old new failed after
-Stops format command files old new failed after (Usage line) = IsMisfit format command × IsUntouched old new failed after
-Stops format command files old new failed after Told = TellsWhy format command files old new × (after ≡ failed)
+-- what is so of the files and of what went out, where a command in a format isn't done, over texts or over an outline
+abbrev pub StopsLine : Format → Command → Files → Option (List ℕ) → Option (List ℕ) → ℕ → ℕ → Stop → Type 0
+StopsLine format command files old new failed after (Device line) = (unread_line command files ≡ Some line.now) × IsUntouched old new failed after
+StopsLine format command files old new failed after (Refused e) = IsLineStoppedBy command files old new failed after e
+StopsLine format command files old new failed after (Outline lines) = IsOverOutline command × WentOut command old new failed after
+StopsLine format command files old new failed after (Usage line) = IsMisfit format command × IsUntouched old new failed after
+StopsLine format command files old new failed after Told = IsWhyTold format command files old new × (after ≡ failed)
 
 -- how it is told on the faults, and the status
 abbrev pub IsTold : Settings → Stop → ℕ → Option (List ℕ) → Option (List ℕ) → ℕ → ℕ → Type 0

@@ -1,32 +1,31 @@
+use Rattle.std.proofs.Common.{inr}
 use Rattle.std.proofs.lemmas.Result.{err_from_is_err_and}
 use Rattle.rgc_line.specs.declared.command.Command.TheVariants.{RunOutline}
-use Rattle.rgc_line.specs.declared.command.Format.TheVariants.{Plain}
 use Rattle.rgc_outlined.specs.RunStopped.{IsSomeRunRefusal}
 use Rattle.rgc_perform.specs.declared.outlines.TheConstants.{MOST_STEPS}
 use Rattle.rgc_perform.proofs.Stopping.{device_stops, not_done_stops}
 use Rattle.rgc_perform.proofs.outlines.run_outline_of.Goals as goal
 
 pub returns-in_err-source-clause-stopped : goal.returns-in_err-source-clause-stopped
-returns-in_err-source-clause-stopped g c = λ o w.
+returns-in_err-source-clause-stopped g c = λ f o w.
     let p = err_from_is_err_and c.from_residual.result c.from_residual.ensures.1 in
-    rw (p.1, p.2) (device_stops Plain (RunOutline o c.args.options.start c.args.options.moves c.args.options.limit w) c.args.files.now _ _ _ (c.in_err-source.ensures.unread _))
+    rw (p.1, p.2) (device_stops f (RunOutline o c.args.options.start c.args.options.moves c.args.options.limit w) c.args.files.now _ _ _ (c.in_err-source.ensures.unread _))
 
 pub returns-in_err-first-clause-stopped : goal.returns-in_err-first-clause-stopped
-returns-in_err-first-clause-stopped g c = λ o w.
+returns-in_err-first-clause-stopped g c = λ f o w.
     let p = err_from_is_err_and c.from_residual-in_err-first.result c.from_residual-in_err-first.ensures.1 in
-    rw (p.1, p.2) (device_stops Plain (RunOutline o c.args.options.start c.args.options.moves c.args.options.limit w) c.args.files.now _ _ _ (rw c.in_ok-source.ensures.source c.in_err-first.ensures.unread))
+    rw (p.1, p.2) (device_stops f (RunOutline o c.args.options.start c.args.options.moves c.args.options.limit w) c.args.files.now _ _ _ (rw c.in_ok-source.ensures.source c.in_err-first.ensures.unread))
 
-pub returns-in_err-run_outline-clause-stopped : goal.returns-in_err-run_outline-clause-stopped
-returns-in_err-run_outline-clause-stopped g c = λ o w.
-    let p = err_from_is_err_and c.from_residual-in_err-run_outline.result c.from_residual-in_err-run_outline.ensures.1 in
-    rw (p.1, p.2) (not_done_stops Plain (RunOutline o c.args.options.start c.args.options.moves c.args.options.limit w) c.args.files.now (IsSomeRunRefusal _ _ c.args.options.limit MOST_STEPS) _ _ _ _ _ tt
-    (λ e h. rw c.in_ok-source.ensures.source (record { first = _; first_read = c.in_ok-first.ensures.start; moving = _; moving_read = c.in_ok-first.ensures.moves; refusal = h }))
-    c.in_err-run_outline.ensures.stopped)
+pub returns-in-Err-clause-stopped : goal.returns-in-Err-clause-stopped
+returns-in-Err-clause-stopped g c = λ f o w.
+    rw c.of_outline.ensures (not_done_stops f (RunOutline o c.args.options.start c.args.options.moves c.args.options.limit w) c.args.files.now (IsSomeRunRefusal _ _ c.args.options.limit MOST_STEPS) _ _ _ _ _ tt
+    (λ e h. inr (rw c.in_ok-source.ensures.source (record { first = _; first_read = c.in_ok-first.ensures.start; moving = _; moving_read = c.in_ok-first.ensures.moves; refusal = h })))
+    c.in-Err.ensures.stopped)
 
-pub returns-in_err-proved-clause-stopped : goal.returns-in_err-proved-clause-stopped
-returns-in_err-proved-clause-stopped g c = λ o w.
-    let p = err_from_is_err_and c.from_residual-in_err-proved.result c.from_residual-in_err-proved.ensures.1 in
-    rw (p.1, p.2, c.in_err-proved.ensures.told.0, c.in_ok-source.ensures.source) (c.in_ok-run_outline.ensures.told c.in_err-proved.ensures.told.1, c.in_ok-run_outline.ensures.failures)
+pub returns-in_err-proved-in-Ok-clause-stopped : goal.returns-in_err-proved-in-Ok-clause-stopped
+returns-in_err-proved-in-Ok-clause-stopped g c = λ f o w.
+    let p = err_from_is_err_and c.from_residual-in_err-proved-in-Ok.result c.from_residual-in_err-proved-in-Ok.ensures.1 in
+    rw (p.1, p.2, c.in_err-proved-in-Ok.ensures.told.0, c.in_ok-source.ensures.source) (inr (c.in-Ok.ensures.told c.in_err-proved-in-Ok.ensures.told.1), c.in-Ok.ensures.failures)
 
 pub returns-clause-done : goal.returns-clause-done
 returns-clause-done g c = λ o w.
@@ -35,5 +34,5 @@ returns-clause-done g c = λ o w.
       first_read = c.in_ok-first.ensures.start;
       moving = _;
       moving_read = c.in_ok-first.ensures.moves;
-      run = c.in_ok-run_outline.ensures.printed c.in_ok-proved.ensures.found;
+      run = c.in-Ok.ensures.printed c.in_ok-proved-in-Ok.ensures.found;
     })

@@ -1,0 +1,125 @@
+-- Why a command isn't done, from why its files or its library's call stopped it.
+use Rattle.std.proofs.Common.{◌≡◌, ◌⊎◌, ℕ, List, [], Option, Some, None, Result, Ok, Err, Bool, true, false, refl, sym, ◌∙◌, inl, inr, append-nil}
+use Rattle.std.specs.Prelude.{IfErr}
+use Rattle.std.specs.Borrow.{Bor}
+use Rattle.rg_words.proofs.Written.{appends_none}
+use Rattle.rg_words.specs.declared.refusal.Refusal.{Refusal}
+use Rattle.rg_words.specs.Stopped.{IsStopped}
+use Rattle.rgc_line.specs.declared.command.Command.{Command}
+use Rattle.rgc_line.specs.declared.command.Command.TheVariants.{Number, Check, Conditions, Prove, Emit, Run, RunOutline, Valid, Clauses, Find, Outline as the_outline, Verify, Challenge, Explain}
+use Rattle.rgc_line.specs.declared.command.Chosen.{Chosen}
+use Rattle.rgc_line.specs.declared.command.Format.{Format}
+use Rattle.rgc_line.specs.declared.command.Format.TheVariants.{Plain, Json}
+use Rattle.rgc.specs.Proofs.{IsProvePartRefusal}
+use Rattle.rgc_running.specs.Refused.{IsRunRefusal, IsRunStopped}
+use Rattle.rgc_running.specs.Running.{IsRead}
+use Rattle.rgc_commands.specs.declared.files.Files.{Files}
+use Rattle.rgc_commands.specs.declared.stops.Stop.{Stop}
+use Rattle.rgc_commands.specs.declared.stops.Stop.TheVariants.{Device, Refused, Outline, Usage, Told}
+use Rattle.rgc_commands.specs.Done.{SpellsRange}
+use Rattle.rgc_commands.specs.Stopped.{IsOverTexts, unread_line, unless_read, TellsOf, TellsWhy, IsOverRun, IsRunUnlike, IsMisfit, IsUntouched, RefusesProofs, RefusesRun}
+use Rattle.rgc_commands.specs.Stops.{IsDevice, Stops}
+
+-- a file can't be read, before anything went out
+pub device_stops : (format : Format) (command : Command) (files : Files) (old : Option (List ℕ)) (m : ℕ) (stop : Stop) → IsDevice (unread_line command files) stop → Stops format command files old old m m stop
+device_stops format command files old m (Device line) h = (h, (appends_none old, refl))
+device_stops format command files old m (Refused e) h = absurd h
+device_stops format command files old m (Outline lines) h = absurd h
+device_stops format command files old m (Usage line) h = absurd h
+device_stops format command files old m Told h = absurd h
+
+-- no proof was found, and the output tells why
+pub told_stops : (format : Format) (command : Command) (files : Files) (old new : Option (List ℕ)) (m n : ℕ) (is_found : Bool) (r : Result (Unit {0}) Stop) → IfErr r (λ stop. (stop ≡ Told) × (is_found ≡ false)) → n ≡ m → (is_found ≡ false → TellsWhy format command files old new) → IfErr r (Stops format command files old new m n)
+told_stops format command files old new m n is_found (Ok x) h same why = tt
+told_stops format command files old new m n is_found (Err stop) h same why = rw h.0 (why h.1, same)
+
+-- the words don't fit
+pub usage_stops : (format : Format) (command : Command) (files : Files) (old : Option (List ℕ)) (m : ℕ) → IsMisfit format command → IsMisfit format command × IsUntouched old old m m
+usage_stops format command files old m h = (h, (appends_none old, refl))
+
+-- the proofs of a range are refused
+pub range_stops : (text derivation : List ℕ) (range : Bor (List ℕ)) (first last steps : ℕ) (old new : Option (List ℕ)) (m n : ℕ) (e : Refusal) → SpellsRange range.now first last → IsStopped (IsProvePartRefusal text derivation first last steps) old new m n e → IsStopped (RefusesProofs (Some range) text derivation steps) old new m n e
+range_stops text derivation range first last steps old new m n e spells (inl why) = inl ((first, last, spells, why.0), why.1, why.2)
+range_stops text derivation range first last steps old new m n e spells (inr why) = inr why
+
+-- a run is refused, with a start and with moves where the command names such files
+pub named_run_stops : {A : Type 0} (command : Command) (text derivation proofs : List ℕ) (start moves : Option A) (limit : ℕ) (start_bytes moves_bytes first moving : Option (Bor (List ℕ))) (old new : Option (List ℕ)) (m n : ℕ) (e : Refusal)
+    → IsOverRun command → IsRead start start_bytes first → IsRead moves moves_bytes moving → IsRunStopped (IsRunRefusal text derivation proofs first moving limit) old new m n e
+    → IsStopped (RefusesRun text derivation proofs start moves limit start_bytes moves_bytes) old new m n e ⊎ IsRunUnlike command m n e
+named_run_stops command text derivation proofs start moves limit start_bytes moves_bytes first moving old new m n e over read read_moves (inl (inl why)) =
+    inl (inl (record { first = first; first_read = read; moving = moving; moving_read = read_moves; refusal = why.0 }, why.1, why.2))
+named_run_stops command text derivation proofs start moves limit start_bytes moves_bytes first moving old new m n e over read read_moves (inl (inr why)) = inl (inr why)
+named_run_stops command text derivation proofs start moves limit start_bytes moves_bytes first moving old new m n e over read read_moves (inr why) = inr (over, why.0, why.1)
+
+-- the next file can't be read, where this one can
+pub read_past : (file : Option (Bor (List ℕ))) (bytes : Bor (List ℕ)) (line : List ℕ) (rest : Option (List ℕ)) (stop : Stop) → file ≡ Some bytes → IsDevice rest stop → IsDevice (unless_read file line rest) stop
+read_past file bytes line rest stop is h = rw is h
+
+-- words that don't fit with lines don't fit with JSON
+plain_misfit : (command : Command) → IsMisfit Plain command → IsMisfit Json command
+plain_misfit (Conditions a b false) h = absurd h
+plain_misfit (Conditions a b true) h = refl
+plain_misfit (Prove a b d None) h = absurd h
+plain_misfit (Prove a b d (Some range)) h = h
+plain_misfit (Explain a) h = h
+plain_misfit (Run a b d e f i None) h = absurd h
+plain_misfit (Run a b d e f i (Some picture)) h = refl
+plain_misfit (Number a) h = absurd h
+plain_misfit (Check a b d) h = absurd h
+plain_misfit (Emit a b d) h = absurd h
+plain_misfit (Valid a b) h = absurd h
+plain_misfit (Clauses a b) h = absurd h
+plain_misfit (Find a b d) h = absurd h
+plain_misfit (RunOutline a b d e f) h = absurd h
+plain_misfit (the_outline a b d e f) h = absurd h
+plain_misfit (Verify a b d) h = absurd h
+plain_misfit (Challenge a b) h = absurd h
+
+-- what is told, of other commands than `prove`
+plain_tells : (command : Command) (text derivation : Option (Bor (List ℕ))) (old new : Option (List ℕ)) → ((a b : Bor (List ℕ)) (d : ℕ) (e : Option (Bor (List ℕ))) → command ≡ Prove a b d e → ⊥) → TellsOf Plain command text derivation old new → TellsOf Json command text derivation old new
+plain_tells (Prove a b d e) text derivation old new other h = absurd (other a b d e refl)
+plain_tells (Find a b None) (Some t) derivation old new other h = h
+plain_tells (Find a b None) None derivation old new other h = absurd h
+plain_tells (Find a b (Some chosen)) (Some t) (Some u) old new other h = h
+plain_tells (Find a b (Some chosen)) (Some t) None old new other h = absurd h
+plain_tells (Find a b (Some chosen)) None derivation old new other h = absurd h
+plain_tells (Verify a b d) text derivation old new other h = absurd h
+plain_tells (RunOutline a b d e f) text derivation old new other h = absurd h
+plain_tells (the_outline a b d e f) text derivation old new other h = absurd h
+plain_tells (Number a) text derivation old new other h = absurd h
+plain_tells (Check a b d) text derivation old new other h = absurd h
+plain_tells (Conditions a b d) text derivation old new other h = absurd h
+plain_tells (Emit a b d) text derivation old new other h = absurd h
+plain_tells (Valid a b) text derivation old new other h = absurd h
+plain_tells (Clauses a b) text derivation old new other h = absurd h
+plain_tells (Explain a) text derivation old new other h = absurd h
+plain_tells (Run a b d e f i j) text derivation old new other h = absurd h
+plain_tells (Challenge a b) text derivation old new other h = absurd h
+
+-- a command that has no JSON of its own isn't done with it as it isn't done with lines
+pub plain_stops : (command : Command) (files : Files) (old new : Option (List ℕ)) (m n : ℕ) (r : Result (Unit {0}) Stop) → ((a b : Bor (List ℕ)) (d : ℕ) (e : Option (Bor (List ℕ))) → command ≡ Prove a b d e → ⊥) → IfErr r (Stops Plain command files old new m n) → IfErr r (Stops Json command files old new m n)
+plain_stops command files old new m n (Ok x) other h = tt
+plain_stops command files old new m n (Err (Device line)) other h = h
+plain_stops command files old new m n (Err (Refused e)) other h = h
+plain_stops command files old new m n (Err (Outline lines)) other h = absurd h
+plain_stops command files old new m n (Err (Usage line)) other h = (plain_misfit command h.0, h.1)
+plain_stops command files old new m n (Err Told) other h = (plain_tells command files.text files.derivation old new other h.0, h.1)
+
+-- a command that none of these matches isn't over texts
+pub no_other : (command : Command) → ((a : Bor (List ℕ)) → command ≡ Number a → ⊥) → ((a b c : Bor (List ℕ)) → command ≡ Check a b c → ⊥) → ((a b : Bor (List ℕ)) (c : Bool) → command ≡ Conditions a b c → ⊥) → ((a b : Bor (List ℕ)) (d : ℕ) (e : Option (Bor (List ℕ))) → command ≡ Prove a b d e → ⊥)
+    → ((a b c : Bor (List ℕ)) → command ≡ Emit a b c → ⊥) → ((a b c : Bor (List ℕ)) (d e : Option (Bor (List ℕ))) (f : ℕ) (i : Option (Bor (List ℕ))) → command ≡ Run a b c d e f i → ⊥) → ((a b : Bor (List ℕ)) → command ≡ Valid a b → ⊥) → ((a : Bor (List ℕ)) (b : Option Chosen) → command ≡ Clauses a b → ⊥)
+    → ((a : Bor (List ℕ)) (b : ℕ) (c : Option Chosen) → command ≡ Find a b c → ⊥) → ((a : ℕ) → command ≡ Explain a → ⊥) → IsOverTexts command → ⊥
+no_other (Number a) number check conditions prove emit run valid clauses find explain over = number a refl
+no_other (Check a b d) number check conditions prove emit run valid clauses find explain over = check a b d refl
+no_other (Conditions a b d) number check conditions prove emit run valid clauses find explain over = conditions a b d refl
+no_other (Prove a b d e) number check conditions prove emit run valid clauses find explain over = prove a b d e refl
+no_other (Emit a b d) number check conditions prove emit run valid clauses find explain over = emit a b d refl
+no_other (Run a b d e f i j) number check conditions prove emit run valid clauses find explain over = run a b d e f i j refl
+no_other (Valid a b) number check conditions prove emit run valid clauses find explain over = valid a b refl
+no_other (Clauses a b) number check conditions prove emit run valid clauses find explain over = clauses a b refl
+no_other (Find a b d) number check conditions prove emit run valid clauses find explain over = find a b d refl
+no_other (Explain a) number check conditions prove emit run valid clauses find explain over = explain a refl
+no_other (RunOutline a b d e f) number check conditions prove emit run valid clauses find explain over = over
+no_other (the_outline a b d e f) number check conditions prove emit run valid clauses find explain over = over
+no_other (Verify a b d) number check conditions prove emit run valid clauses find explain over = over
+no_other (Challenge a b) number check conditions prove emit run valid clauses find explain over = over

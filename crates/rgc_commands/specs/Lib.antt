@@ -1,0 +1,4 @@
+pub mod Done
+pub mod DoneAsJson
+pub mod Stopped
+pub mod Stops

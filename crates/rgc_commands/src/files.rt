@@ -1,0 +1,126 @@
+//! The bytes of the files that a command names.
+
+ghost use Rattle.std.specs.Prelude.{◌≡◌, ℕ, List, Option, Some, IfOk, IfErr, OnOk};
+ghost use Rattle.rgc_running.specs.Running.{IsRead};
+ghost use Rattle.rgc_commands.specs.Stopped.{unless_read, where_named, text_line, derivation_line, proofs_line, input_lines};
+ghost use Rattle.rgc_commands.specs.Stops.{IsDevice};
+
+use crate::stops::Stop;
+
+/// The bytes of the files that a command names; none where it isn't named or can't be read.
+#[derive(Clone, Copy)]
+pub struct Files<'a> {
+    pub text: Option<&'a [u8]>,
+    pub derivation: Option<&'a [u8]>,
+    pub proofs: Option<&'a [u8]>,
+    pub start: Option<&'a [u8]>,
+    pub moves: Option<&'a [u8]>,
+}
+
+/// A file's bytes, where it can be read.
+fn needed<'a>(file: Option<&'a [u8]>, fault: &'static str) -> Result<&'a [u8], Stop>
+    ensures bytes { IfOk result (λ bytes. file.entry ≡ Some bytes) }
+    ensures unread { (rest : Option (List ℕ)) → IfErr result (IsDevice (unless_read file.entry fault.now rest)) }
+{
+    match file {
+        Some(bytes) => Ok(bytes),
+        None => Err(Stop::Device(fault)),
+    }
+}
+
+pub(crate) fn text_of<'a>(files: &Files<'a>) -> Result<&'a [u8], Stop>
+    ensures bytes { IfOk result (λ bytes. files.now.text ≡ Some bytes) }
+    ensures unread { (rest : Option (List ℕ)) → IfErr result (IsDevice (text_line files.now rest)) }
+{
+    needed(files.text, "device text\n")
+}
+
+pub(crate) fn derivation_of<'a>(files: &Files<'a>) -> Result<&'a [u8], Stop>
+    ensures bytes { IfOk result (λ bytes. files.now.derivation ≡ Some bytes) }
+    ensures unread { (rest : Option (List ℕ)) → IfErr result (IsDevice (derivation_line files.now rest)) }
+{
+    needed(files.derivation, "device derivation\n")
+}
+
+pub(crate) fn proofs_of<'a>(files: &Files<'a>) -> Result<&'a [u8], Stop>
+    ensures bytes { IfOk result (λ bytes. files.now.proofs ≡ Some bytes) }
+    ensures unread { (rest : Option (List ℕ)) → IfErr result (IsDevice (proofs_line files.now rest)) }
+{
+    needed(files.proofs, "device proofs\n")
+}
+
+/// A text and a derivation.
+pub(crate) fn two_files<'a>(files: &Files<'a>) -> Result<(&'a [u8], &'a [u8]), Stop>
+    ensures text { IfOk result (λ r. files.now.text ≡ Some r.0) }
+    ensures derivation { IfOk result (λ r. files.now.derivation ≡ Some r.1) }
+    ensures unread { (rest : Option (List ℕ)) → IfErr result (IsDevice (text_line files.now (derivation_line files.now rest))) }
+{
+    let text = match text_of(files) {
+        Ok(text) => text,
+        Err(stop) => return Err(stop),
+    };
+    match derivation_of(files) {
+        Ok(derivation) => Ok((text, derivation)),
+        Err(stop) => Err(stop),
+    }
+}
+
+/// A text, a derivation and proofs.
+pub(crate) fn three_files<'a>(files: &Files<'a>) -> Result<(&'a [u8], &'a [u8], &'a [u8]), Stop>
+    ensures text { IfOk result (λ r. files.now.text ≡ Some r.0) }
+    ensures derivation { IfOk result (λ r. files.now.derivation ≡ Some r.1) }
+    ensures proofs { IfOk result (λ r. files.now.proofs ≡ Some r.2) }
+    ensures unread { (rest : Option (List ℕ)) → IfErr result (IsDevice (text_line files.now (derivation_line files.now (proofs_line files.now rest)))) }
+{
+    let (text, derivation) = match two_files(files) {
+        Ok(two) => two,
+        Err(stop) => return Err(stop),
+    };
+    match proofs_of(files) {
+        Ok(proofs) => Ok((text, derivation, proofs)),
+        Err(stop) => Err(stop),
+    }
+}
+
+/// The bytes of a file that need not be named: none where it isn't, and else those that can be read.
+fn read_where_named<'a>(
+    name: Option<&str>,
+    file: Option<&'a [u8]>,
+    fault: &'static str,
+) -> Result<Option<&'a [u8]>, Stop>
+    ensures read { IfOk result (IsRead name.entry file.entry) }
+    ensures passed { (rest : Option (List ℕ)) → OnOk result (where_named name.entry file.entry fault.now rest ≡ rest) }
+    ensures unread { (rest : Option (List ℕ)) → IfErr result (IsDevice (where_named name.entry file.entry fault.now rest)) }
+{
+    match name {
+        Some(_) => match needed(file, fault) {
+            Ok(bytes) => Ok(Some(bytes)),
+            Err(stop) => Err(stop),
+        },
+        None => Ok(None),
+    }
+}
+
+/// The bytes of a start and of moves, each where it is named.
+///
+/// # Errors
+///
+/// `Stop::Device` for the first of them that is named and has no bytes.
+pub fn inputs<'a>(
+    start: Option<&str>,
+    moves: Option<&str>,
+    files: &Files<'a>,
+) -> Result<(Option<&'a [u8]>, Option<&'a [u8]>), Stop>
+    ensures start { IfOk result (λ r. IsRead start.entry files.now.start r.0) }
+    ensures moves { IfOk result (λ r. IsRead moves.entry files.now.moves r.1) }
+    ensures unread { IfErr result (IsDevice (input_lines start.entry moves.entry files.now)) }
+{
+    let first = match read_where_named(start, files.start, "device start\n") {
+        Ok(first) => first,
+        Err(stop) => return Err(stop),
+    };
+    match read_where_named(moves, files.moves, "device moves\n") {
+        Ok(moving) => Ok((first, moving)),
+        Err(stop) => Err(stop),
+    }
+}

@@ -1,7 +1,0 @@
-use Rattle.rgc_perform.proofs.dispatch.carry_out_as.Goals as goal
-
-pub returns-in-Plain-clause-stopped : goal.returns-in-Plain-clause-stopped
-returns-in-Plain-clause-stopped g c = rw c.in-Plain.is c.carry_out.ensures.stopped
-
-pub returns-in-Json-clause-stopped : goal.returns-in-Json-clause-stopped
-returns-in-Json-clause-stopped g c = rw c.in-Json.is c.carry_out_json.ensures.stopped
