@@ -1,7 +1,6 @@
 //! Why a command isn't done.
 
-use rg_words::{Refusal, WriteFault};
-use std::alloc::AllocError;
+use rg_words::Refusal;
 
 /// Why a command isn't done.
 #[derive(Drop)]
@@ -15,18 +14,6 @@ pub enum Stop {
     Usage(&'static str),
     /// The output says that no proof was found.
     Told,
-}
-
-impl From<WriteFault> for Stop {
-    fn from(fault: WriteFault) -> Stop {
-        Stop::Refused(Refusal::from(fault))
-    }
-}
-
-impl From<AllocError> for Stop {
-    fn from(fault: AllocError) -> Stop {
-        Stop::Refused(Refusal::from(fault))
-    }
 }
 
 impl From<Refusal> for Stop {
