@@ -26,7 +26,7 @@ def prover(pid, folder):
         at = os.readlink(f"/proc/{pid}/cwd")
     except OSError:
         return None
-    if not at.startswith(folder) and "/rt-edit" not in at:
+    if not f"{at}/".startswith(f"{folder}/") and "/rt-edit" not in at:
         return None
     kind = "edits" if "/rt-edit" in at else "tests" if "--test" in words else "proof"
     return words[words.index("--crate-name") + 1], kind
