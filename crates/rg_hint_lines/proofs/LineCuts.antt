@@ -6,7 +6,7 @@ use Rattle.std.specs.Str.Lines.{lines, lines_of_parts, strip_carriage_return}
 use Rattle.std.proofs.lemmas.Bool.{cases_Bool, eqb-true}
 use Rattle.std.proofs.lemmas.List.{append_assoc, append-nil, append_cancel_right, length-append, take-append-drop}
 use Rattle.std.proofs.lemmas.List.Elements.{All-push}
-use Rattle.rg_hint_lines.specs.LineEnds.{EndsLine, IsFrontLine}
+use Rattle.rg_hint_lines.specs.LineEnds.{EndsLine, IsFrontLine, AreFrontLines}
 use Rattle.rg_hint_lines.specs.Inner.SectionForms.{IsPlain, IsPlainLine, ArePlainLines}
 use Rattle.rg_hint_lines.proofs.TextSteps.{split_front}
 
@@ -89,20 +89,31 @@ ends_before : (front rest : List ℕ) → (rest ≡ []) ⊎ EndsLine front → 0
 ends_before front rest (inl e) h = absurd (omega (arith, h, ap length e))
 ends_before front rest (inr ends) h = ends
 
--- one more line that is no head
-pub plain_more : (text front rest behind : List ℕ) (count : ℕ) → ArePlainLines text front rest count → 0 < length rest → (l : IsPlainLine rest behind) → ArePlainLines text (front ++ l.front.front) behind (count + 1)
-plain_more text front rest behind count are some l =
-    let f = l.front.front in
+-- the lines with one more
+more_lines : (front f line : List ℕ) → EndsLine front → lines f ≡ line ∷ [] → lines (front ++ f) ≡ lines front ++ line ∷ []
+more_lines front f line ends one = lines_append front f ends ∙ ap (λ (ls : List (List ℕ)). lines front ++ ls) one
+
+-- one more line
+pub front_more : (text front rest line behind : List ℕ) (count : ℕ) → AreFrontLines text front rest count → 0 < length rest → (l : IsFrontLine rest line behind) → AreFrontLines text (front ++ l.front) behind (count + 1)
+front_more text front rest line behind count are some l =
+    let f = l.front in
     let ends = ends_before front rest are.ends some in
-    let whole : text ≡ (front ++ f) ++ behind = are.is ∙ ap (λ (xs : List ℕ). front ++ xs) l.front.is ∙ sym (append_assoc front f behind) in
-    let both : lines (front ++ f) ≡ lines front ++ l.line ∷ [] = lines_append front f ends ∙ ap (λ (ls : List (List ℕ)). lines front ++ ls) l.front.one in
-    let rest_lines : lines rest ≡ lines f ++ lines behind = ap lines l.front.is ∙ lines_join f behind l.front.ends in
+    let whole : text ≡ (front ++ f) ++ behind = are.is ∙ ap (λ (xs : List ℕ). front ++ xs) l.is ∙ sym (append_assoc front f behind) in
+    let rest_lines : lines rest ≡ lines f ++ lines behind = ap lines l.is ∙ lines_join f behind l.ends in
     let all : lines text ≡ lines (front ++ f) ++ lines behind =
     are.lines_are ∙ ap (λ (ls : List (List ℕ)). lines front ++ ls) rest_lines ∙ sym (append_assoc (lines front) (lines f) (lines behind)) ∙ ap (λ (ls : List (List ℕ)). ls ++ lines behind) (sym (lines_append front f ends)) in
     record {
       is = whole;
-      ends = ends_more front f behind ends l.front.ends;
+      ends = ends_more front f behind ends l.ends;
       lines_are = all;
-      count_is = omega (arith, are.count_is, ap length both, length-append (lines front) (l.line ∷ []));
-      plain = subst (All IsPlain) (sym both) (All-push IsPlain (lines front) l.line are.plain l.plain);
+      count_is = omega (arith, are.count_is, ap length (more_lines front f line ends l.one), length-append (lines front) (line ∷ []));
+    }
+
+-- one more line that is no head
+pub plain_more : (text front rest behind : List ℕ) (count : ℕ) → ArePlainLines text front rest count → 0 < length rest → (l : IsPlainLine rest behind) → ArePlainLines text (front ++ l.front.front) behind (count + 1)
+plain_more text front rest behind count are some l =
+    let ends = ends_before front rest are.fronts.ends some in
+    record {
+      fronts = front_more text front rest l.line behind count are.fronts some l.front;
+      plain = subst (All IsPlain) (sym (more_lines front l.front.front l.line ends l.front.one)) (All-push IsPlain (lines front) l.line are.plain l.plain);
     }

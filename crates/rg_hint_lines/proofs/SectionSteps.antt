@@ -39,9 +39,9 @@ headed_plain (line ∷ front) rest number all =
 pub before_head : (text front : List ℕ) (count : ℕ) (a : AreLinesBeforeHead text front count) (number : ℕ) → headed_lines (lines text) number ≡ (lines front, (headed_lines (lines a.rest) (number + count)).1)
 before_head text front count a number =
     let n = number + length (lines front) in
-    let same : n ≡ number + count = omega (arith, a.are.count_is) in
+    let same : n ≡ number + count = omega (arith, a.are.fronts.count_is) in
     let heads : ℕ → List Headed = λ m. (headed_lines (lines a.rest) m).1 in
-    ap (λ (ls : List (List ℕ)). headed_lines ls number) a.are.lines_are
+    ap (λ (ls : List (List ℕ)). headed_lines ls number) a.are.fronts.lines_are
     ∙ headed_plain (lines front) (lines a.rest) number a.are.plain
     ∙ ap (λ (xs : List (List ℕ)). (lines front ++ xs, heads n)) (a.begins n)
     ∙ ap (λ (ys : List (List ℕ)). (ys, heads n)) (append-nil (lines front))

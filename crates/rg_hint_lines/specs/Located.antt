@@ -1,5 +1,5 @@
 -- Sections as they lie in a proofs file.
-use Rattle.std.specs.Prelude.{◌≡◌, ◌⊎◌, ℕ, ◌+◌, ◌^◌, ◌<◌, ◌≤◌, Result, Ok, Err, List, length, All, AllPairs}
+use Rattle.std.specs.Prelude.{◌≡◌, ◌⊎◌, ℕ, ◌+◌, ◌^◌, ◌<◌, ◌≤◌, Ok, Err, List, length, All, AllPairs}
 use Rattle.std.specs.Str.Lines.{lines}
 use Rattle.rg_words.specs.declared.limits.TheConstants.{MOST_PROOF_BYTES}
 use Rattle.rg_words.specs.declared.refusal.Refusal.{Refusal}

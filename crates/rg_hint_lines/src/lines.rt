@@ -122,6 +122,13 @@ impl Lines {
         self.heads.len()
     }
 
+    /// How many clauses are given.
+    pub(crate) fn given(&self) -> usize
+        ensures { result ≡ self.now.given }
+    {
+        self.given
+    }
+
     /// What is known of every section, for proofs: there is nothing to do.
     pub fn facts(&self)
         ensures section { IsSection self.now }

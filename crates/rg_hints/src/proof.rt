@@ -11,7 +11,6 @@ ghost use Rattle.rg_hints.specs.Placed.{text_of, HasRoom, AreFrom, HasSections, 
 
 use crate::section::{Checker, OneThread, has_empty_clause};
 use rg_clauses::Clauses;
-use rg_hint_lines::lines::Lines;
 use rg_hint_lines::sections::{SectionBytes, read_sections};
 use rg_tree::condition::Condition;
 use rg_words::limits::MOST_PROOF_BYTES;
@@ -33,7 +32,7 @@ fn close_by<C: Checker>(
     ensures refused { IfErr result (λ e. (e ≡ no_memory) ⊎ IsUnclosed clauses.now.clauses number (Some (text_of section.entry)) e) }
     ensures only { Closes clauses.now.clauses (text_of section.entry) → IfErr result (λ e. e ≡ no_memory) }
 {
-    let lines = match Lines::read(alloc, section.bytes, section.first_line, clauses.len()) {
+    let lines = match checker.read(alloc, section.bytes, section.first_line, clauses.len()) {
         Ok(lines) => lines,
         Err(refusal) => return Err(refusal),
     };

@@ -5,8 +5,10 @@ mod dealing;
 mod letting_go;
 mod pieces;
 mod proving;
+mod reading;
 
 pub use dealing::{deal, deal_in};
 pub use letting_go::let_both_go;
 pub use pieces::{LEAST_LINES, Pieces, Untold, check_all};
 pub use proving::{InThreads, prove_all, prove_part};
+pub use reading::read_all;

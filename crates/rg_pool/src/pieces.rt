@@ -31,7 +31,7 @@ impl Pieces for Untold {
 }
 
 /// Whether memory was refused.
-pub(crate) fn ran_out(answer: &Result<(), Refusal>) -> bool {
+pub(crate) fn ran_out<T>(answer: &Result<T, Refusal>) -> bool {
     matches!(answer, Err(refusal) if refusal.number == RefusalNumber::Memory)
 }
 

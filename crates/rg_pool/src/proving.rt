@@ -11,6 +11,7 @@ ghost use Rattle.rg_pool.specs.Parts.{ArePartProved, IsPartRefusal};
 
 use crate::dealing::deal_in;
 use crate::pieces::{Untold, check_all, ran_out};
+use crate::reading::read_all;
 use rg_clauses::Clauses;
 use rg_hints::{
     Checker, Lines, OneThread, Prover, SectionBytes, check, place_sections, proof_sections, prove,
@@ -31,7 +32,7 @@ fn bytes_at(placed: &[Option<SectionBytes<'_>>], place: usize) -> usize {
 }
 
 /// What is told of the condition at this place, from 0; nothing, where another condition was refused before. A section of more than `share` bytes may be
-/// checked in pieces.
+/// read in halves and checked in pieces.
 fn prove_one<R: Threads + Sync>(
     rt: &R,
     alloc: Global,
@@ -219,7 +220,7 @@ fn prove_each_all<R: Threads + Sync>(
 }
 
 /// Whether a proofs file for `count` conditions proves these, which stand behind so many others: condition by condition, in
-/// at most so many threads; each takes that with the longest section of those left. A section that is longer than a thread's share is checked in pieces.
+/// at most so many threads; each takes that with the longest section of those left. A section that is longer than a thread's share is read in halves and checked in pieces.
 ///
 /// With 0 or 1 threads all is done in the thread that asks. A thread that can't be had costs time alone. Nothing behind a
 /// condition that is refused is begun.
@@ -285,7 +286,7 @@ pub fn prove_all<R: Threads + Sync>(
     prove_part(rt, alloc, threads, conditions.len(), 0, conditions, proofs)
 }
 
-/// Checks and proves in threads: conditions side by side, and large sections in pieces. With fewer than two threads all is
+/// Reads, checks and proves in threads: conditions side by side, and large sections in pieces. With fewer than two threads all is
 /// done in the thread that asks.
 #[derive(Clone, Copy)]
 pub struct InThreads<'a, R> {
@@ -299,6 +300,19 @@ impl<R: Threads + Sync> Checker for InThreads<'_, R> {
     ghost use denote.Param.Send.{IsSync};
 
     ghost can_check = { λ _. IsSync R.row };
+
+    fn read(
+        &self,
+        alloc: Global,
+        bytes: &[u8],
+        first_line: u64,
+        given: usize,
+    ) -> Result<Lines, Refusal> {
+        if self.threads < 2 {
+            return Lines::read(alloc, bytes, first_line, given);
+        }
+        read_all(self.rt, alloc, bytes, first_line, given)
+    }
 
     fn check(
         &self,

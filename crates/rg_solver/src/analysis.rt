@@ -280,7 +280,7 @@ impl Solver {
         count.max(1).min(GLUE)
     }
 
-    fn take_learned(&mut self) -> Vec<Code> {
+    pub fn take_learned(&mut self) -> Vec<Code> {
         let empty = Vec::new(self.alloc);
         mem::replace(&mut self.learned, empty)
     }

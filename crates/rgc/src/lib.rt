@@ -6,6 +6,7 @@ mod failures;
 mod pieces;
 mod proofs_found;
 mod shown;
+mod side_by_side;
 
 pub use chosen::{
     chosen_condition, condition_clauses, derive_program, derive_program_all, find_condition,

@@ -14,8 +14,9 @@ ghost use Rattle.rg_accept.specs.Names.{names_of_conditions};
 ghost use Rattle.rg_accept.specs.Stages.{derived_program, derived_lines};
 
 use crate::failures::failure_text;
+use crate::side_by_side::SideBySide;
 use rg_accept::Derived;
-use rg_find::{Judged, Watcher, judge};
+use rg_find::{Halves, Judged, OneAfterOther, Watcher, judge_by};
 use rg_hints::{Lines, prove};
 use rg_pool::{InThreads, deal, prove_all, prove_part};
 use rg_tree::condition::Condition;
@@ -76,19 +77,22 @@ fn with_section(alloc: Global, number: usize, judged: Judged) -> Result<Sought, 
 }
 
 /// Searches for lines for the condition at this place, from 0, with at most so many decisions.
-fn seek<P: Watcher>(
+fn seek<P: Watcher, H: Halves>(
     alloc: Global,
     conditions: &[Condition],
     place: usize,
     steps: u64,
     watcher: &mut P,
+    halves: &H,
 ) -> Result<Sought, Refusal>
-    requires { place < length conditions.now }
+    requires place { place < length conditions.now }
+    requires ready { H.can_run halves.now }
     ensures { IsAnswerAt (map condition_tree conditions.now) (place + 1) steps result }
 {
     let file = SourceFile::Derivation;
     let number = place as u64 + 1;
-    match judge(alloc, &conditions[place], file, number, steps, watcher) {
+    let condition = &conditions[place];
+    match judge_by(alloc, condition, file, number, steps, watcher, halves) {
         Ok(judged) => with_section(alloc, place + 1, judged),
         Err(refusal) => Err(refusal),
     }
@@ -163,7 +167,7 @@ fn search_all<P: Watcher>(
         unproved: Vec::new(alloc),
     };
     for place in 0..conditions.len() {
-        let sought = match seek(alloc, conditions, place, steps, watcher) {
+        let sought = match seek(alloc, conditions, place, steps, watcher, &OneAfterOther) {
             Ok(sought) => sought,
             Err(refusal) => return Err(refusal),
         };
@@ -174,7 +178,8 @@ fn search_all<P: Watcher>(
 }
 
 /// What a search says of the condition at this place, from 0; nothing, where another condition was refused before.
-fn judge_one<P: Watcher + Copy>(
+fn judge_one<R: Threads + Sync, P: Watcher + Copy>(
+    rt: &R,
     alloc: Global,
     conditions: &[Condition],
     place: usize,
@@ -189,7 +194,8 @@ fn judge_one<P: Watcher + Copy>(
         return None;
     }
     let mut own = *watcher;
-    let sought = seek(alloc, conditions, place, steps, &mut own);
+    let halves = SideBySide { rt };
+    let sought = seek(alloc, conditions, place, steps, &mut own, &halves);
     if sought.is_err() {
         refused.store(true, Ordering::SeqCst);
     }
@@ -224,7 +230,7 @@ fn judge_some<R: Threads + Sync, P: Watcher + Copy + Sync>(
         &|index: usize| -> Option<Result<Sought, Refusal>>
             requires { (from + index < length conditions.now) × (length conditions.now < 2 ^ 64) }
             ensures { IfSome result (IsAnswerAt (map condition_tree conditions.entry.now) (from + index + 1) steps) }
-        { judge_one(alloc, conditions, from + index, steps, watcher, told) },
+        { judge_one(rt, alloc, conditions, from + index, steps, watcher, told) },
     )
 }
 
@@ -251,7 +257,7 @@ fn judged_at<P: Watcher + Copy>(
         }
     }
     let mut own = *watcher;
-    seek(alloc, conditions, place, steps, &mut own)
+    seek(alloc, conditions, place, steps, &mut own, &OneAfterOther)
 }
 
 /// Searches for lines for each condition from one place on and before another, with at most so many decisions each.

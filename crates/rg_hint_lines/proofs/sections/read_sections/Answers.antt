@@ -17,7 +17,7 @@ returns-clause-sections c =
     let a = c.lines_before_head-lines.ensures.lines in
     let front = c.lines_before_head-lines.result.0.now in
     let n = c.lines_before_head-lines.result.1 in
-    let rest : c.skip.result.now ≡ a.rest = c.skip.ensures ∙ rest_is c.args.proofs.now front a.rest a.are.is in
+    let rest : c.skip.result.now ≡ a.rest = c.skip.ensures ∙ rest_is c.args.proofs.now front a.rest a.are.fronts.is in
     let whole : sections_of c.args.count c.args.proofs.now ≡ sections_behind c.args.count (n + 1) c.skip.result.now =
     whole_file c.args.count c.args.proofs.now front c.skip.result.now n a rest ∙ c.in_default.ensures (sections_behind c.args.count (n + 1) c.skip.result.now) in
     MatchResult-weaker c.sections_behind.result c.sections_behind.ensures.sections (λ found h. whole ∙ h) (λ r h. ⊎_elim (λ m. inl m) (λ e. inr (whole ∙ e)) h)

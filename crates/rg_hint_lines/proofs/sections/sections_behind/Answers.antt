@@ -14,8 +14,8 @@ loop-rest-preserved c =
     let bytes = c.lines_before_head-lines.result.0.now in
     let a = c.lines_before_head-lines.ensures.lines in
     let above = c.in-Ok.ensures.above in
-    let rest : c.skip-rest.result.now ≡ a.rest = c.skip-rest.ensures ∙ rest_is behind bytes a.rest a.are.is in
-    let size : length behind ≡ length bytes + length a.rest = ap length a.are.is ∙ length-append bytes a.rest in
+    let rest : c.skip-rest.result.now ≡ a.rest = c.skip-rest.ensures ∙ rest_is behind bytes a.rest a.are.fronts.is in
+    let size : length behind ≡ length bytes + length a.rest = ap length a.are.fronts.is ∙ length-append bytes a.rest in
     let bound = c.args.first_line + length c.args.text.now in
     rw c.in_ok-push.ensures.items (record {
       found = one_section c.args.count c.loop-rest.last c.loop-rest.number items c.loop-rest.rest.now c.split_line.result.0.now behind _ c.split_line.ensures.lines inv.begins inv.found c.in-Ok.condition (sym c.in-Ok.ensures.value) bytes c.skip-rest.result.now

@@ -3,7 +3,7 @@ use Rattle.rg_tree.specs.Conditions.{condition_tree}
 use Rattle.rg_find.specs.Found.{IsFound}
 use Rattle.rg_find.specs.declared.answer.Found.TheVariants.{Lines, Values}
 use Rattle.rg_find.proofs.Judging.{condition_proved, condition_refuted}
-use Rattle.rg_find.proofs.judgement.judge.Goals as goal
+use Rattle.rg_find.proofs.judgement.judge_by.Goals as goal
 
 pub returns-in-Lines-clause-judged : goal.returns-in-Lines-clause-judged
 returns-in-Lines-clause-judged g c =

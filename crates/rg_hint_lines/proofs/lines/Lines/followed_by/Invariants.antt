@@ -1,0 +1,12 @@
+use Rattle.std.proofs.Common.{◌≡◌, ◌≤◌, ◌++◌, take}
+use Rattle.std.specs.Prelude.{All}
+use Rattle.rg_hint_lines.proofs.lines.Lines.followed_by.Given as goal
+
+-- so many of the others stand behind
+abbrev pub invariant-loop-index : goal.invariant-loop-index
+invariant-loop-index l = record {
+  given : l.lines.given ≡ l.fn.self.given;
+  low : l.fn.self.given ≤ l.last;
+  below : All (λ line. line.id ≤ l.last) l.lines.lines;
+  lines : l.lines.lines ≡ l.fn.self.lines ++ take l.index l.others.lines;
+}
