@@ -1,9 +1,9 @@
 -- a text that is read in two halves
-use Rattle.std.proofs.Common.{◌≡◌, ℕ, ◌+◌, ◌<◌, ◌≤◌, Result, Ok, Err, List, [], ◌∷◌, ◌++◌, length, get_or, ltb, true, false, suc, refl, sym, ap, subst, ◌∙◌, ⊎_elim, arith}
-use Rattle.std.specs.Prelude.{All}
+use Rattle.std.proofs.Common.{◌≡◌, ℕ, ◌+◌, ◌<◌, ◌≤◌, Result, Ok, Err, List, [], ◌∷◌, ◌++◌, length, get_or, take, drop, ltb, true, false, suc, refl, sym, ap, subst, ◌∙◌, ⊎_elim, arith}
+use Rattle.std.specs.Prelude.{All, IsTrue}
 use Rattle.std.specs.Str.Lines.{lines}
-use Rattle.std.proofs.lemmas.Bool.{cases_Bool, cases_lt, lt-ltb}
-use Rattle.std.proofs.lemmas.List.{get_or_default}
+use Rattle.std.proofs.lemmas.Bool.{cases_Bool, cases_lt, lt-ltb, ltb-true}
+use Rattle.std.proofs.lemmas.List.{get_or_default, get_or_append_left, get_or-append-add, append_assoc, length-append, length-take, take-append-drop}
 use Rattle.std.proofs.lemmas.List.Elements.{All-head, All-tail, All-weaker}
 use Rattle.rg_words.specs.declared.refusal.Refusal.{Refusal}
 use Rattle.rg_hint_lines.specs.Lines.{HintLine, Section, no_line, IsLine, IsRising, IsSection}
@@ -112,3 +112,37 @@ halves_read first_line given text front rest count found back cut is_front is_ba
     let above : All (λ (l : HintLine). given < l.id) back.lines = All-weaker (IsLine back.given) (λ (l : HintLine). given < l.id) (λ l h. omega (arith, h.past, b.1)) back.lines sound.each in
     let all = join_lines (lines front) (lines rest) first_line given back.lines behind given found.lines a.0 whole.rising above in
     ap (λ (ls : List (List ℕ)). section_with given (hint_lines_of ls first_line given)) cut.lines_are ∙ ap (section_with given) all
+
+-- a line behind others whose number is no greater than that of one of them
+pub not_rising : (front others : List HintLine) (i k last : ℕ) → i < length others → k < length (front ++ take i others) → (get_or (front ++ take i others) k no_line).id ≡ last
+    → (get_or others i no_line).id ≤ last → IsRising (front ++ others) → ⊥
+not_rising front others i k last small within is low rising =
+    let n = length front + i in
+    let size : length (front ++ take i others) ≡ n = omega (arith, length-append front (take i others), length-take i others) in
+    let parts : front ++ others ≡ (front ++ take i others) ++ drop i others =
+    ap (λ (ls : List HintLine). front ++ ls) (sym (take-append-drop i others)) ∙ sym (append_assoc front (take i others) (drop i others)) in
+    let first : get_or (front ++ others) k no_line ≡ get_or (front ++ take i others) k no_line =
+    ap (λ (ls : List HintLine). get_or ls k no_line) parts ∙ get_or_append_left (front ++ take i others) (drop i others) no_line k within in
+    let second : get_or (front ++ others) n no_line ≡ get_or others i no_line = get_or-append-add front others i no_line in
+    let less = rising k n no_line (omega (arith, size, within)) (omega (arith, small, length-append front others)) in
+    absurd (omega (arith, rw (first, second) at less, is, low))
+
+-- where the first number is above another, all are
+pub first_least : (ls : List HintLine) (n : ℕ) → IsRising ls → 0 < length ls
+    → (IsTrue (ltb n (get_or ls 0 no_line).id) → All (λ (l : HintLine). n < l.id) ls) × (All (λ (l : HintLine). n < l.id) ls → IsTrue (ltb n (get_or ls 0 no_line).id))
+first_least ls n rising some = (
+  λ above k d small.
+      let low : n < (get_or ls 0 no_line).id = ltb-true n (get_or ls 0 no_line).id above in
+      ⊎_elim
+      (λ (later : 0 < k). let less = rising 0 k no_line later small in rw (get_or_default ls k d no_line small) (omega (arith, low, less)))
+      (λ (first : k ≤ 0). let here : k ≡ 0 = omega (arith, first) in rw (get_or_default ls k d no_line small, here) low)
+      (cases_lt 0 k),
+  λ all. lt-ltb n (get_or ls 0 no_line).id (all 0 no_line some),
+)
+
+-- lines that are read over fewer given clauses are read over more, where their numbers are greater
+pub read_over : (first_line before given : ℕ) (text : List ℕ) (found : Section) → section_of first_line before text ≡ Ok found → All (λ (l : HintLine). given < l.id) found.lines
+    → section_of first_line given text ≡ Ok (record { given = given; lines = found.lines })
+read_over first_line before given text found is above =
+    let parts = lines_of before (hint_lines_of (lines text) first_line before) found is in
+    ap (section_with given) (other_lines (lines text) first_line before given found.lines parts.0 above)

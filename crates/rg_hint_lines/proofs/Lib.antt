@@ -9,3 +9,4 @@ pub mod SectionSteps
 pub mod FieldFronts
 pub mod LineFeeds
 pub mod HalfSteps
+pub mod FeedCounts

@@ -1,5 +1,5 @@
 -- a text is cut behind a line feed, and its lines with it
-use Rattle.std.proofs.Common.{◌≡◌, ◌⊎◌, ℕ, ◌+◌, ◌<◌, Bool, true, false, not, eqb, List, [], ◌∷◌, ◌++◌, length, map, take, drop, suc, refl, sym, ap, ◌∙◌, inl, inr, ⊎_elim, subst, arith}
+use Rattle.std.proofs.Common.{◌≡◌, ◌⊎◌, ℕ, ◌+◌, ◌<◌, true, false, not, eqb, List, [], ◌∷◌, ◌++◌, length, map, take, drop, suc, refl, sym, ap, ◌∙◌, inl, inr, ⊎_elim, subst, arith}
 use Rattle.std.specs.Prelude.{All}
 use Rattle.std.specs.List.{prefix_len, slice_split, onto_first}
 use Rattle.std.specs.Str.Lines.{lines, lines_of_parts, strip_carriage_return}
@@ -7,11 +7,9 @@ use Rattle.std.proofs.lemmas.Bool.{cases_Bool, eqb-true}
 use Rattle.std.proofs.lemmas.List.{append_assoc, append-nil, append_cancel_right, length-append, take-append-drop}
 use Rattle.std.proofs.lemmas.List.Elements.{All-push}
 use Rattle.rg_hint_lines.specs.LineEnds.{EndsLine, IsFrontLine, AreFrontLines}
+use Rattle.rg_hint_lines.specs.Inner.Fronts.{is_line_feed}
 use Rattle.rg_hint_lines.specs.Inner.SectionForms.{IsPlain, IsPlainLine, ArePlainLines}
 use Rattle.rg_hint_lines.proofs.TextSteps.{split_front}
-
-abbrev is_line_feed : ℕ → Bool
-is_line_feed b = eqb b 10
 
 onto_append : (x : ℕ) (y : List ℕ) (s t parts : List (List ℕ)) → s ≡ y ∷ parts → onto_first x (s ++ t) ≡ onto_first x s ++ t
 onto_append x y s t parts e = rw e refl
@@ -35,18 +33,18 @@ lines_cut : (a b : List ℕ) → lines (a ++ 10 ∷ b) ≡ map strip_carriage_re
 lines_cut a b =
     ap lines_of_parts (split_both a b) ∙ lines_parts (slice_split is_line_feed a) (slice_split is_line_feed b) _ _ (split_front is_line_feed b)
 
-lines_ended : (a : List ℕ) → lines (a ++ 10 ∷ []) ≡ map strip_carriage_return (slice_split is_line_feed a)
+pub lines_ended : (a : List ℕ) → lines (a ++ 10 ∷ []) ≡ map strip_carriage_return (slice_split is_line_feed a)
 lines_ended a = lines_cut a [] ∙ append-nil (map strip_carriage_return (slice_split is_line_feed a))
 
 -- the lines of bytes that end with a line, and of those behind them
-lines_append : (a b : List ℕ) → EndsLine a → lines (a ++ b) ≡ lines a ++ lines b
+pub lines_append : (a b : List ℕ) → EndsLine a → lines (a ++ b) ≡ lines a ++ lines b
 lines_append a b (inl e) = rw e refl
 lines_append a b (inr p) =
     let front = p.0 in
     let whole : a ++ b ≡ front ++ 10 ∷ b = ap (λ (xs : List ℕ). xs ++ b) p.1 ∙ append_assoc front (10 ∷ []) b in
     ap lines whole ∙ lines_cut front b ∙ ap (λ (ls : List (List ℕ)). ls ++ lines b) (sym (ap lines p.1 ∙ lines_ended front))
 
-lines_join : (a b : List ℕ) → (b ≡ []) ⊎ EndsLine a → lines (a ++ b) ≡ lines a ++ lines b
+pub lines_join : (a b : List ℕ) → (b ≡ []) ⊎ EndsLine a → lines (a ++ b) ≡ lines a ++ lines b
 lines_join a b (inl e) = rw e (ap lines (append-nil a) ∙ sym (append-nil (lines a)))
 lines_join a b (inr h) = lines_append a b h
 
@@ -80,7 +78,7 @@ text_cut xs h =
     let n = prefix_len (λ b. not (eqb b 10)) xs in
     sym (take-append-drop n xs) ∙ ap (λ (ys : List ℕ). take n xs ++ ys) (line_feed_behind xs h) ∙ sym (append_assoc (take n xs) (10 ∷ []) (drop 1 (drop n xs)))
 
-ends_more : (front f rest : List ℕ) → EndsLine front → (rest ≡ []) ⊎ EndsLine f → (rest ≡ []) ⊎ EndsLine (front ++ f)
+pub ends_more : (front f rest : List ℕ) → EndsLine front → (rest ≡ []) ⊎ EndsLine f → (rest ≡ []) ⊎ EndsLine (front ++ f)
 ends_more front f rest h (inl e) = inl e
 ends_more front f rest h (inr (inl e)) = inr (subst EndsLine (sym (ap (λ (xs : List ℕ). front ++ xs) e ∙ append-nil front)) h)
 ends_more front f rest h (inr (inr p)) = inr (inr (front ++ p.0, ap (λ (xs : List ℕ). front ++ xs) p.1 ∙ sym (append_assoc front p.0 (10 ∷ []))))

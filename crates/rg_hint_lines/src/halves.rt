@@ -1,37 +1,45 @@
 //! A text of hint lines in two halves, each of which is read by itself.
 
-ghost use Rattle.std.specs.Prelude.{◌+◌, ◌≤◌, length};
-ghost use Rattle.rg_hint_lines.specs.LineEnds.{AreFrontLines};
+ghost use Rattle.std.specs.Prelude.{◌+◌, ◌≤◌, length, take};
+ghost use Rattle.rg_hint_lines.specs.LineEnds.{EndsLine, AreFrontLines};
 
 use crate::lines::{Head, Lines};
-use crate::text::split_line;
+use crate::text::line_feeds;
+use memchr::memchr;
 use std::alloc::AllocError;
 
-/// The lines of a text that begin in its front half, and what stands behind them; and how many lines these are.
+/// How many bytes the lines of a text have up to the first that ends behind its middle; 0 where no line feed stands there.
+fn front_len(text: &[u8]) -> usize
+    ensures bound { result ≤ length text.now }
+    ensures ends { EndsLine (take result text.now) }
+{
+    let middle = text.len() / 2;
+    match memchr(b'\n', &text[middle..]) {
+        Some(place) => middle + place + 1,
+        None => 0,
+    }
+}
+
+/// The lines of a text up to the first that ends behind its middle, and what stands behind them; and how many lines these are.
+/// Without a line feed there, all stands behind.
 pub fn halves(text: &[u8]) -> (&[u8], &[u8], u64)
     ensures lines { AreFrontLines text.now result.0.now result.1.now result.2 }
     ensures room { result.2 + length result.1.now ≤ length text.now }
     ensures front { length result.0.now ≤ length text.now }
 {
-    let behind = text.len() / 2;
-    let mut rest = text;
-    let mut count = 0;
-    while rest.len() > behind {
-        let (_, others) = split_line(rest);
-        rest = others;
-        count += 1;
-    }
-    (&text[..text.len() - rest.len()], rest, count)
+    let (front, rest) = text.split_at(front_len(text));
+    (front, rest, line_feeds(front))
 }
 
 impl Lines {
-    ghost use Rattle.std.specs.Prelude.{◌≡◌, ◌≤◌, ◌++◌, All, IfOk, IfSome};
-    ghost use Rattle.rg_hint_lines.specs.Lines.{IsSection};
+    ghost use Rattle.std.specs.Prelude.{◌≡◌, ◌⊎◌, ◌<◌, ◌≤◌, ℕ, ◌++◌, length, All, IfOk, MatchOption};
+    ghost use Rattle.rg_hint_lines.specs.Lines.{hint_line_at, IsRising, IsSection};
 
     /// A number that is no less than those of the lines and of the given clauses, and the least such.
     fn greatest(&self) -> usize
         ensures lines { All (λ line. line.id ≤ result) self.now.lines }
         ensures given { self.now.given ≤ result }
+        ensures least { (result ≡ self.now.given) ⊎ ((k : ℕ) × (k < length self.now.lines) × ((hint_line_at self.now k).id ≡ result)) }
     {
         self.facts();
         match self.len().checked_sub(1) {
@@ -44,7 +52,9 @@ impl Lines {
     /// before. After an error, and where there are none, they are gone.
     pub fn followed_by(self, others: &Lines) -> Result<Option<Self>, AllocError>
         requires { others.now.given ≡ self.given }
-        ensures lines { IfOk result (λ found. IfSome found (λ lines. lines ≡ record self { lines = self.lines ++ others.now.lines })) }
+        ensures lines { IfOk result (λ found. MatchOption found
+            (IsRising (self.lines ++ others.now.lines) → ⊥)
+            (λ lines. lines ≡ record self { lines = self.lines ++ others.now.lines })) }
     {
         let mut last = self.greatest();
         let mut lines = self;

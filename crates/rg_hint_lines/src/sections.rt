@@ -1,14 +1,17 @@
 //! The sections of a proofs file.
 
-ghost use Rattle.std.specs.Prelude.{◌≡◌, ◌⊎◌, ◌+◌, ◌^◌, ◌<◌, ◌≤◌, length, map, IfOk, IfSome, MatchOption, MatchResult, Ok, Err, IsTrue, false};
+ghost use Rattle.std.specs.Prelude.{◌≡◌, ◌⊎◌, ℕ, ◌+◌, ◌^◌, ◌<◌, ◌≤◌, List, length, map, take, IfOk, IfSome, MatchOption, MatchResult, Ok, Err, IsTrue, false};
 ghost use Rattle.rg_words.specs.Refusals.{no_memory};
 ghost use Rattle.rg_hint_lines.specs.Text.{fields_of};
 ghost use Rattle.rg_hint_lines.specs.Sections.{is_head, whole_number, head_number, named_condition, sections_of};
 ghost use Rattle.rg_hint_lines.specs.Located.{text_of, AreRising};
-ghost use Rattle.rg_hint_lines.specs.Inner.SectionForms.{IsUpTo, IsPlainLine, BeginsWithHead, AreLinesBeforeHead, IsFront, IsFaultyFront, AreNamed, sections_behind, HaveRoom};
+ghost use Rattle.rg_hint_lines.specs.Inner.SectionForms.{IsUpTo, IsPlainLine, BeginsWithHead, HasNoS, ArePlainLines, AreLinesBeforeHead, IsFront, IsFaultyFront, AreNamed, sections_behind, HaveRoom};
 
 use crate::refusal::refusal_at;
-use crate::text::{is_blank, is_passed_over, next_field, skip, split_line};
+use crate::text::{
+    is_blank, is_passed_over, line_feeds, next_field, skip, split_line, whole_lines_len,
+};
+use memchr::memchr;
 use rg_words::{Refusal, RefusalNumber};
 use std::alloc::Global;
 
@@ -109,17 +112,38 @@ fn behind_plain_line(text: &[u8]) -> Option<&[u8]>
     Some(rest)
 }
 
+/// The front of a text in which no `s` stands.
+fn before_first_s(text: &[u8]) -> &[u8]
+    ensures front { result.now ≡ take (length result.now) text.now }
+    ensures bound { length result.now ≤ length text.now }
+    ensures none { HasNoS result.now }
+{
+    match memchr(b's', text) {
+        Some(place) => &text[..place],
+        None => text,
+    }
+}
+
+/// The text behind those of its first lines that end before the first `s`, so that none of them is a head; and how many they are.
+fn behind_lines_without_s(text: &[u8]) -> (&[u8], u64)
+    ensures lines { (front : List ℕ) × ArePlainLines text.now front result.0.now result.1 }
+    ensures room { result.1 + length result.0.now ≤ length text.now }
+{
+    let end = whole_lines_len(before_first_s(text));
+    (skip(text, end), line_feeds(&text[..end]))
+}
+
 /// The bytes before the first head of a text, and the count of their lines.
 fn lines_before_head(text: &[u8]) -> (&[u8], u64)
     ensures lines { AreLinesBeforeHead text.now result.0.now result.1 }
     ensures room { result.1 ≤ length result.0.now }
     ensures bound { length result.0.now ≤ length text.now }
 {
-    let mut rest = text;
-    let mut count = 0;
+    let (mut rest, mut count) = behind_lines_without_s(text);
     while let Some(behind) = behind_plain_line(rest) {
-        rest = behind;
-        count += 1;
+        let (others, more) = behind_lines_without_s(behind);
+        rest = others;
+        count += 1 + more;
     }
     (&text[..text.len() - rest.len()], count)
 }

@@ -1,6 +1,6 @@
 //! Lines, fields and numbers of a proofs text.
 
-ghost use Rattle.std.specs.Prelude.{◌≡◌, ◌==◌, ◌<◌, ◌≤◌, [], ◌∷◌, length, Some, IfSome, MatchOption, None, not, take, drop, pos, neg_ℤ, ◌≢◌, ◌&&◌, if◌then◌else◌, slice_index};
+ghost use Rattle.std.specs.Prelude.{◌≡◌, ◌==◌, ◌<◌, ◌≤◌, [], ◌∷◌, length, Some, IfSome, MatchOption, None, not, take, drop, pos, neg_ℤ, ◌≢◌, ◌&&◌, if◌then◌else◌, slice_index, count_by};
 ghost use Rattle.std.specs.Int.RustNames.{unsigned_abs};
 ghost use Rattle.std.specs.Char.{is_ascii_digit};
 ghost use Rattle.std.specs.List.{prefix_len};
@@ -9,11 +9,14 @@ ghost use Rattle.std.specs.Str.Lines.{lines, strip_carriage_return};
 ghost use Rattle.rg_hint_lines.specs.Lines.{IsHintLiteral};
 ghost use Rattle.rg_hint_lines.specs.Text.{is_blank, fields_of, number_in, positive, literal_in};
 ghost use Rattle.rg_hint_lines.specs.Reading.{is_passed_over};
-ghost use Rattle.rg_hint_lines.specs.LineEnds.{IsFrontLine};
-ghost use Rattle.rg_hint_lines.specs.Inner.Fronts.{front_field, behind_field, IsUpToMost, first_read};
+ghost use Rattle.rg_hint_lines.specs.LineEnds.{EndsLine, IsFrontLine};
+ghost use Rattle.rg_hint_lines.specs.Inner.Fronts.{is_line_feed, front_field, behind_field, IsUpToMost, first_read};
 
-use memchr::memchr;
+use memchr::{memchr, memrchr};
 use rg_words::limits::MOST_HINT_NUMBER;
+
+/// Of so many bytes a count fits into one, so that sixteen of them are counted at once.
+const PIECE: usize = 255;
 
 const MOST: u64 = MOST_HINT_NUMBER as u64;
 
@@ -93,6 +96,44 @@ pub fn split_line(text: &[u8]) -> (&[u8], &[u8])
         return (line, rest);
     }
     (strip_carriage_return(line), skip(rest, 1))
+}
+
+/// How many bytes of a text stand up to its last line feed, and with it; 0 where it has none.
+pub(crate) fn whole_lines_len(text: &[u8]) -> usize
+    ensures bound { result ≤ length text.now }
+    ensures ends { EndsLine (take result text.now) }
+{
+    match memrchr(b'\n', text) {
+        Some(place) => place + 1,
+        None => 0,
+    }
+}
+
+/// How many line feeds stand in a piece of a text.
+fn line_feeds_in_piece(piece: &[u8]) -> u8
+    requires { length piece.now < 256 }
+    ensures { result ≡ count_by is_line_feed piece.now }
+{
+    let mut count = 0;
+    for byte in piece {
+        count += u8::from(*byte == b'\n');
+    }
+    count
+}
+
+/// How many line feeds stand in a text.
+pub(crate) fn line_feeds(text: &[u8]) -> u64
+    ensures value { result ≡ count_by is_line_feed text.now }
+    ensures bound { result ≤ length text.now }
+{
+    let mut rest = text;
+    let mut count = 0;
+    while !rest.is_empty() {
+        let (piece, behind) = rest.split_at(rest.len().min(PIECE));
+        count += u64::from(line_feeds_in_piece(piece));
+        rest = behind;
+    }
+    count
 }
 
 /// The first field of a line, and what stands behind it, where the line has one. Fields stand between

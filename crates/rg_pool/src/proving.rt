@@ -11,11 +11,11 @@ ghost use Rattle.rg_pool.specs.Parts.{ArePartProved, IsPartRefusal};
 
 use crate::dealing::deal_in;
 use crate::pieces::{Untold, check_all, ran_out};
-use crate::reading::read_all;
+use crate::reading::{prepare_all, read_all};
 use rg_clauses::Clauses;
 use rg_hints::{
-    Checker, Lines, OneThread, Prover, SectionBytes, check, place_sections, proof_sections, prove,
-    prove_condition,
+    Checker, Lines, OneThread, Prover, SectionBytes, check, place_sections, prepare,
+    proof_sections, prove, prove_condition,
 };
 use rg_tree::condition::Condition;
 use rg_words::Refusal;
@@ -31,12 +31,16 @@ fn bytes_at(placed: &[Option<SectionBytes<'_>>], place: usize) -> usize {
     }
 }
 
+/// How many threads a section of so many bytes may take, where each has this share of all bytes: one where it is no longer than that.
+fn threads_for(bytes: usize, share: usize) -> usize {
+    bytes.div_ceil(share.max(1))
+}
+
 /// What is told of the condition at this place, from 0; nothing, where another condition was refused before. A section of more than `share` bytes may be
-/// read in halves and checked in pieces.
+/// read beside the making of its clauses, and checked in pieces.
 fn prove_one<R: Threads + Sync>(
     rt: &R,
     alloc: Global,
-    threads: usize,
     share: usize,
     before: usize,
     conditions: &[Condition],
@@ -55,11 +59,7 @@ fn prove_one<R: Threads + Sync>(
     }
     let place = before + index;
     let number = place as u64 + 1;
-    let threads = if bytes_at(placed, place) > share {
-        threads
-    } else {
-        1
-    };
+    let threads = threads_for(bytes_at(placed, place), share);
     let checker = InThreads { rt, threads };
     let proved = prove_condition(&checker, alloc, &conditions[index], number, placed[place]);
     if proved.is_err() {
@@ -184,7 +184,7 @@ fn prove_some<R: Threads + Sync>(
             ensures { IfSome result (IsVerdictAt (map text_of sections.entry.now) before (map condition_tree conditions.entry.now) index) }
         {
             prove_one(
-                rt, alloc, threads, share, before, conditions, sections, placed, told, index,
+                rt, alloc, share, before, conditions, sections, placed, told, index,
             )
         },
     )
@@ -220,7 +220,8 @@ fn prove_each_all<R: Threads + Sync>(
 }
 
 /// Whether a proofs file for `count` conditions proves these, which stand behind so many others: condition by condition, in
-/// at most so many threads; each takes that with the longest section of those left. A section that is longer than a thread's share is read in halves and checked in pieces.
+/// at most so many threads; each takes that with the longest section of those left. A section that is longer than a thread's share is read beside
+/// the making of its clauses, where it takes most of the threads in halves too, and checked in pieces.
 ///
 /// With 0 or 1 threads all is done in the thread that asks. A thread that can't be had costs time alone. Nothing behind a
 /// condition that is refused is begun.
@@ -312,6 +313,19 @@ impl<R: Threads + Sync> Checker for InThreads<'_, R> {
             return Lines::read(alloc, bytes, first_line, given);
         }
         read_all(self.rt, alloc, bytes, first_line, given)
+    }
+
+    fn prepare(
+        &self,
+        alloc: Global,
+        condition: &Condition,
+        number: u64,
+        section: SectionBytes<'_>,
+    ) -> Result<(Clauses, Lines), Refusal> {
+        if self.threads < 2 {
+            return prepare(alloc, condition, number, section);
+        }
+        prepare_all(self.rt, alloc, self.threads, condition, number, section)
     }
 
     fn check(

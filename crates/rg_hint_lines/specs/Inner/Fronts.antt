@@ -1,8 +1,12 @@
 -- What stands in front of a line: its first field, and the number that it writes.
-use Rattle.std.specs.Prelude.{◌≡◌, ◌⊎◌, ℕ, ◌<◌, not, Option, None, option_map, List, [], ◌∷◌, take, drop}
+use Rattle.std.specs.Prelude.{◌≡◌, ◌==◌, ◌⊎◌, ℕ, ◌<◌, not, Bool, Option, None, option_map, List, [], ◌∷◌, take, drop}
 use Rattle.std.specs.List.{prefix_len}
 use Rattle.rg_words.specs.declared.limits.TheConstants.{MOST_HINT_NUMBER}
 use Rattle.rg_hint_lines.specs.Text.{is_blank}
+
+-- a line feed
+abbrev pub is_line_feed : ℕ → Bool
+is_line_feed b = b == 10
 
 -- the bytes before the first blank
 abbrev pub front_field : List ℕ → List ℕ

@@ -1,5 +1,5 @@
 -- Sections as the code holds them, and parts of a text.
-use Rattle.std.specs.Prelude.{◌≡◌, ◌⊎◌, ℕ, ◌+◌, ◌<◌, ◌≤◌, false, Option, Some, None, Result, Err, List, [], length, All}
+use Rattle.std.specs.Prelude.{◌≡◌, ◌==◌, ◌⊎◌, ℕ, ◌+◌, ◌<◌, ◌≤◌, false, Option, Some, None, Result, Err, List, [], length, All}
 use Rattle.std.specs.Str.Lines.{lines}
 use Rattle.rg_words.specs.declared.refusal.Refusal.{Refusal}
 use Rattle.rg_hint_lines.specs.declared.sections.SectionBytes.{SectionBytes}
@@ -11,6 +11,10 @@ use Rattle.rg_hint_lines.specs.Sections.{SectionText, is_head, headed_lines, beh
 abbrev pub IsUpTo : ℕ → ℕ → Option ℕ → Type 0
 IsUpTo most n None = ⊥
 IsUpTo most n (Some m) = (n ≡ m) ⊎ ((most < n) × (most < m))
+
+-- no byte is an s
+abbrev pub HasNoS : List ℕ → Type 0
+HasNoS bytes = All (λ b. (b == 115) ≡ false) bytes
 
 -- a line that is not meant as a head
 abbrev pub IsPlain : List ℕ → Type 0

@@ -1,13 +1,10 @@
-use Rattle.std.proofs.Common.{◌<◌, ◌++◌, length, arith}
-use Rattle.rg_hint_lines.proofs.LineCuts.{front_more}
+use Rattle.std.proofs.Common.{sym, take, drop}
+use Rattle.std.proofs.lemmas.List.{take-append-drop}
+use Rattle.rg_hint_lines.proofs.FeedCounts.{cut_lines}
 use Rattle.rg_hint_lines.proofs.halves.halves.Goals as goal
 
-pub loop-rest-preserved : goal.loop-rest-preserved
-loop-rest-preserved c =
-    let lines = c.loop-rest.invariant.lines in
-    let line = c.split_line.ensures.front in
-    let some : 0 < length c.loop-rest.rest.now = omega (arith, c.split_line.ensures.shorter) in
-    record {
-      lines = (lines.0 ++ line.front, front_more c.args.text.now lines.0 c.loop-rest.rest.now c.split_line.result.0.now c.split_line.result.1.now c.loop-rest.count lines.1 some line);
-      room = omega (arith, c.loop-rest.invariant.room, c.split_line.ensures.shorter);
-    }
+pub returns-clause-lines : goal.returns-clause-lines
+returns-clause-lines c =
+    let n = c.front_len.result in
+    let text = c.args.text.now in
+    rw (c.line_feeds.ensures.value, c.split_at.ensures.front, c.split_at.ensures.back) (cut_lines text (take n text) (drop n text) (sym (take-append-drop n text)) c.front_len.ensures.ends)

@@ -1,4 +1,4 @@
-use Rattle.std.proofs.Common.{◌≡◌, ◌+◌, Option, List, sym, subst, ◌∙◌, arith}
+use Rattle.std.proofs.Common.{◌+◌, Option, List, sym, subst, ◌∙◌, arith}
 use Rattle.rg_hint_lines.specs.declared.sections.SectionBytes.{SectionBytes}
 use Rattle.rg_hints.specs.Placed.{ArePlaced}
 use Rattle.rg_hints.proofs.PlacedSteps.{placed_more}
