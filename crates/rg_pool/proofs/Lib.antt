@@ -1,2 +1,3 @@
 pub mod DealSteps
+pub mod RoundSteps
 pub mod VerdictSteps

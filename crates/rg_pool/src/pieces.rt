@@ -37,7 +37,7 @@ pub(crate) fn ran_out<T>(answer: &Result<T, Refusal>) -> bool {
 
 /// The answer for two pieces side by side, from the answers for each: that of the first that is refused. Refused memory
 /// goes before all else.
-fn joined(
+pub(crate) fn joined(
     clauses: &Clauses,
     lines: &Lines,
     from: usize,
@@ -61,8 +61,39 @@ fn joined(
     second
 }
 
-/// Whether the lines of one piece follow, in this thread, which is told first.
-fn check_one<P: Pieces>(
+/// Whether the lines from one place on and before another follow, in two halves side by side.
+fn check_halves<R: Threads + Sync>(
+    rt: &R,
+    alloc: Global,
+    clauses: &Clauses,
+    lines: &Lines,
+    from: usize,
+    to: usize,
+) -> Result<(), Refusal>
+    requires given { lines.now.given ≡ length clauses.now.clauses }
+    requires order { from ≤ to }
+    requires bound { to ≤ length lines.now.lines }
+    ensures { IsPieceAnswer clauses.now.clauses lines.now from to result }
+{
+    let middle = from + (to - from) / 2;
+    let (first, second) = join(
+        rt,
+        || -> Result<(), Refusal>
+            requires { (lines.now.given ≡ length clauses.now.clauses) × (from ≤ middle) × (middle ≤ length lines.now.lines) }
+            ensures { IsPieceAnswer clauses.entry.now.clauses lines.entry.now from middle result }
+        { check_piece(alloc, clauses, lines, from, middle) },
+        || -> Result<(), Refusal>
+            requires { (lines.now.given ≡ length clauses.now.clauses) × (middle ≤ to) × (to ≤ length lines.now.lines) }
+            ensures { IsPieceAnswer clauses.entry.now.clauses lines.entry.now middle to result }
+        { check_piece(alloc, clauses, lines, middle, to) },
+    );
+    joined(clauses, lines, from, middle, to, first, second)
+}
+
+/// Whether the lines of one piece follow, in this thread, which is told first, and in another beside it. With four threads for four processors two often
+/// begin on one of them while another is idle; with eight this costs less.
+fn check_one<R: Threads + Sync, P: Pieces>(
+    rt: &R,
     alloc: Global,
     clauses: &Clauses,
     lines: &Lines,
@@ -77,7 +108,7 @@ fn check_one<P: Pieces>(
     ensures { IsPieceAnswer clauses.now.clauses lines.now from to result }
 {
     pieces.before(piece);
-    check_piece(alloc, clauses, lines, from, to)
+    check_halves(rt, alloc, clauses, lines, from, to)
 }
 
 /// Whether the lines of two pieces side by side follow, each in a thread of its own. The first of them has this number.
@@ -104,11 +135,11 @@ fn check_two<R: Threads + Sync, P: Pieces + Sync>(
         || -> Result<(), Refusal>
             requires { (lines.now.given ≡ length clauses.now.clauses) × (from ≤ middle) × (middle ≤ length lines.now.lines) }
             ensures { IsPieceAnswer clauses.entry.now.clauses lines.entry.now from middle result }
-        { check_one(alloc, clauses, lines, pieces, piece, from, middle) },
+        { check_one(rt, alloc, clauses, lines, pieces, piece, from, middle) },
         || -> Result<(), Refusal>
             requires { (lines.now.given ≡ length clauses.now.clauses) × (piece < 3) × (middle ≤ to) × (to ≤ length lines.now.lines) }
             ensures { IsPieceAnswer clauses.entry.now.clauses lines.entry.now middle to result }
-        { check_one(alloc, clauses, lines, pieces, piece + 1, middle, to) },
+        { check_one(rt, alloc, clauses, lines, pieces, piece + 1, middle, to) },
     );
     joined(clauses, lines, from, middle, to, first, second)
 }
@@ -189,6 +220,35 @@ fn has_empty(clauses: &Clauses, lines: &Lines) -> bool
     has_empty_clause(clauses) || has_empty_hint_line(lines)
 }
 
+/// Whether the section of this condition, which counts from 1, is closed, from whether all its lines follow.
+pub(crate) fn closed(
+    condition: u64,
+    clauses: &Clauses,
+    lines: &Lines,
+    followed: Result<(), Refusal>,
+) -> Result<(), Refusal>
+    requires given { lines.now.given ≡ length clauses.now.clauses }
+    requires followed { IsPieceAnswer clauses.now.clauses lines.now 0 (length lines.now.lines) followed }
+    ensures section { MatchResult result
+        (λ _. IsClosed clauses.now.clauses lines.now)
+        (IsSectionRefusal clauses.now.clauses lines.now condition) }
+    ensures unsatisfiable { OnOk result (IsUnsatisfiable clauses.now.clauses) }
+    ensures only { IsClosed clauses.now.clauses lines.now → IfErr result (λ r. r ≡ no_memory) }
+{
+    lines.facts();
+    if let Err(refusal) = followed {
+        return Err(refusal);
+    }
+    if has_empty(clauses, lines) {
+        return Ok(());
+    }
+    Err(Refusal::at(
+        RefusalNumber::NoEmptyClause,
+        SourceFile::Proofs,
+        Place::Condition(condition),
+    ))
+}
+
 /// Whether the section of this condition, which counts from 1, is closed: the answer of `rg_hints::check`, found in four
 /// threads where the section has `LEAST_LINES` lines or more. `pieces` is then told before each piece, in its thread.
 ///
@@ -222,16 +282,6 @@ pub fn check_all<R: Threads + Sync, P: Pieces + Sync>(
     if lines.len() < LEAST_LINES {
         return check(alloc, condition, clauses, lines);
     }
-    lines.facts();
-    if let Err(refusal) = check_four(rt, alloc, clauses, lines, pieces) {
-        return Err(refusal);
-    }
-    if has_empty(clauses, lines) {
-        return Ok(());
-    }
-    Err(Refusal::at(
-        RefusalNumber::NoEmptyClause,
-        SourceFile::Proofs,
-        Place::Condition(condition),
-    ))
+    let followed = check_four(rt, alloc, clauses, lines, pieces);
+    closed(condition, clauses, lines, followed)
 }

@@ -9,9 +9,9 @@ ghost use Rattle.rg_hints.specs.Proved.{AllProvedFrom, AreProved, IsFirstRefusal
 ghost use Rattle.rg_pool.specs.Inner.Verdicts.{IsVerdictAt, AreVerdicts};
 ghost use Rattle.rg_pool.specs.Parts.{ArePartProved, IsPartRefusal};
 
-use crate::dealing::deal_in;
 use crate::pieces::{Untold, check_all, ran_out};
-use crate::reading::{prepare_all, read_all};
+use crate::reading::read_all;
+use crate::rounds::prove_in_rounds;
 use rg_clauses::Clauses;
 use rg_hints::{
     Checker, Lines, OneThread, Prover, SectionBytes, check, place_sections, prepare,
@@ -20,7 +20,6 @@ use rg_hints::{
 use rg_tree::condition::Condition;
 use rg_words::Refusal;
 use std::alloc::{AllocError, Global};
-use std::sync::atomic::{AtomicBool, Ordering};
 use std::thread::Threads;
 
 /// How many bytes the section at this place has.
@@ -29,43 +28,6 @@ fn bytes_at(placed: &[Option<SectionBytes<'_>>], place: usize) -> usize {
         Some(Some(section)) => section.bytes.len(),
         _ => 0,
     }
-}
-
-/// How many threads a section of so many bytes may take, where each has this share of all bytes: one where it is no longer than that.
-fn threads_for(bytes: usize, share: usize) -> usize {
-    bytes.div_ceil(share.max(1))
-}
-
-/// What is told of the condition at this place, from 0; nothing, where another condition was refused before. A section of more than `share` bytes may be
-/// read beside the making of its clauses, and checked in pieces.
-fn prove_one<R: Threads + Sync>(
-    rt: &R,
-    alloc: Global,
-    share: usize,
-    before: usize,
-    conditions: &[Condition],
-    sections: &[SectionBytes<'_>],
-    placed: &[Option<SectionBytes<'_>>],
-    refused: &AtomicBool,
-    index: usize,
-) -> Option<Result<(), Refusal>>
-    requires index { index < length conditions.now }
-    requires len { before + length conditions.now ≤ length placed.now }
-    requires placed { ArePlaced sections.now placed.now }
-    ensures { IfSome result (IsVerdictAt (map text_of sections.now) before (map condition_tree conditions.now) index) }
-{
-    if refused.load(Ordering::SeqCst) {
-        return None;
-    }
-    let place = before + index;
-    let number = place as u64 + 1;
-    let threads = threads_for(bytes_at(placed, place), share);
-    let checker = InThreads { rt, threads };
-    let proved = prove_condition(&checker, alloc, &conditions[index], number, placed[place]);
-    if proved.is_err() {
-        refused.store(true, Ordering::SeqCst);
-    }
-    Some(proved)
 }
 
 /// What is told of the condition at this place, from 0: what is known of it, and else what is found now.
@@ -154,6 +116,23 @@ fn longest_first(
     Ok(order)
 }
 
+/// A section of fewer bytes is never long: to start threads once more takes longer than it gains.
+const LEAST_BYTES: usize = 65_536;
+
+/// How many at the front of this order are long, where each thread has this share of all bytes.
+fn count_long(
+    order: &[usize],
+    before: usize,
+    share: usize,
+    placed: &[Option<SectionBytes<'_>>],
+) -> usize {
+    let least = share.max(LEAST_BYTES);
+    order
+        .iter()
+        .take_while(|index| bytes_at(placed, before.saturating_add(**index)) > least)
+        .count()
+}
+
 /// What is told of each condition, in so many threads; nothing of some of them, where one is refused.
 fn prove_some<R: Threads + Sync>(
     rt: &R,
@@ -169,24 +148,11 @@ fn prove_some<R: Threads + Sync>(
     ensures count { IfOk result (λ known. length known.items ≡ length conditions.now) }
     ensures known { IfOk result (λ known. AreVerdicts (map text_of sections.now) before (map condition_tree conditions.now) known.items) }
 {
-    let refused = AtomicBool::new(false);
-    let told = &refused;
     let order = longest_first(alloc, before, conditions.len(), placed)?;
     let share = share_of(threads, before, conditions.len(), placed);
-    deal_in(
-        rt,
-        alloc,
-        threads,
-        conditions.len(),
-        &order,
-        &|index: usize| -> Option<Result<(), Refusal>>
-            requires { (index < length conditions.now) × (before + length conditions.now ≤ length placed.now) × ArePlaced sections.now placed.now }
-            ensures { IfSome result (IsVerdictAt (map text_of sections.entry.now) before (map condition_tree conditions.entry.now) index) }
-        {
-            prove_one(
-                rt, alloc, share, before, conditions, sections, placed, told, index,
-            )
-        },
+    let long = count_long(&order, before, share, placed);
+    prove_in_rounds(
+        rt, alloc, threads, before, conditions, sections, placed, &order, long,
     )
 }
 
@@ -219,9 +185,9 @@ fn prove_each_all<R: Threads + Sync>(
     settle(alloc, before, conditions, sections, &placed, &known)
 }
 
-/// Whether a proofs file for `count` conditions proves these, which stand behind so many others: condition by condition, in
-/// at most so many threads; each takes that with the longest section of those left. A section that is longer than a thread's share is read beside
-/// the making of its clauses, where it takes most of the threads in halves too, and checked in pieces.
+/// Whether a proofs file for `count` conditions proves these, which stand behind so many others: condition by condition, in at most so many threads, those
+/// with the longest sections first. Where a section is longer than a thread's share, its lines are read and the clauses of its condition are made side by
+/// side, and then the lines are checked in pieces.
 ///
 /// With 0 or 1 threads all is done in the thread that asks. A thread that can't be had costs time alone. Nothing behind a
 /// condition that is refused is begun.
@@ -322,10 +288,7 @@ impl<R: Threads + Sync> Checker for InThreads<'_, R> {
         number: u64,
         section: SectionBytes<'_>,
     ) -> Result<(Clauses, Lines), Refusal> {
-        if self.threads < 2 {
-            return prepare(alloc, condition, number, section);
-        }
-        prepare_all(self.rt, alloc, self.threads, condition, number, section)
+        prepare(alloc, condition, number, section)
     }
 
     fn check(

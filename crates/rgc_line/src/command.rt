@@ -41,7 +41,7 @@ pub struct Settings<'a> {
     pub format: Format,
     /// Whether a refusal is explained at the line that it is about.
     pub is_explained: bool,
-    /// The most threads; one for each processor, or two to check proofs, where it isn't given.
+    /// The most threads; one for each processor where it isn't given.
     pub threads: Option<u64>,
 }
 

@@ -219,7 +219,7 @@ pub const RUNS_ONLY: Field = Field {
 pub const THREADS: Field = Field {
     form: Form::OptionalNumber,
     id: "threads",
-    help: "the most threads; without it one for each processor, or two to check",
+    help: "the most threads; without it one for each processor",
 };
 
 pub const OUTPUT: Field = Field {

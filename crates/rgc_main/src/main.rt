@@ -409,16 +409,10 @@ fn are_small(files: &Files<'_>) -> bool {
     size.saturating_add(size_of(files.proofs)) < FEW_BYTES
 }
 
-/// How many threads suit so many processors and these files. Where proofs are checked, each of several processors has two: a thread
-/// that reads or lets go of trees often waits for memory.
+/// How many threads suit so many processors and these files: as many, or one where small files are checked.
 fn suiting(command: &Command<'_>, files: &Files<'_>, processors: usize) -> usize {
     match command {
-        Command::Check { .. } | Command::Emit { .. } | Command::Run { .. } => {
-            if are_small(files) || processors < 2 {
-                return 1;
-            }
-            processors.saturating_mul(2)
-        }
+        Command::Check { .. } | Command::Emit { .. } | Command::Run { .. } if are_small(files) => 1,
         _ => processors,
     }
 }
