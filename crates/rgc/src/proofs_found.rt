@@ -99,9 +99,9 @@ fn seek<P: Watcher, H: Halves>(
 }
 
 /// Fewer conditions, over words of fewer bits, are looked at in the thread that asks: to start others takes longer.
-const FEW_CONDITIONS: usize = 24;
+const FEW_CONDITIONS: usize = 40;
 
-const FEW_BITS: u64 = 8;
+const FEW_BITS: u64 = 32;
 
 /// How many bits the words have together.
 fn bits_of(words: &Layout) -> u64 {
