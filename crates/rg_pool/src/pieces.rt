@@ -1,17 +1,18 @@
 //! A section that is checked in pieces, each in a thread of its own.
 
-ghost use Rattle.std.specs.Prelude.{◌≡◌, ◌↔◌, ◌*◌, ◌^◌, ◌<◌, ◌≤◌, ℕ, [], length, IsTrue, MatchResult, OnOk, IfErr};
+ghost use Rattle.std.specs.Prelude.{◌≡◌, ◌↔◌, ◌<◌, ◌≤◌, ℕ, [], None, length, slice_index_or, IsTrue, MatchResult, OnOk, IfErr, IfSome};
 ghost use Rattle.rg_clauses.specs.ClauseLists.{IsFormula, IsUnsatisfiable};
 ghost use Rattle.rg_words.specs.Refusals.{no_memory};
 ghost use Rattle.rg_hints.specs.Lines.{hint_line_at};
 ghost use Rattle.rg_hints.specs.Verdict.{HasEmpty, IsClosed, IsSectionRefusal};
-ghost use Rattle.rg_pool.specs.Inner.PieceAnswers.{IsPieceAnswer};
+ghost use Rattle.rg_pool.specs.Inner.PieceAnswers.{IsPieceAnswer, IsPartAnswer};
 
+use crate::dealing::deal;
 use rg_clauses::Clauses;
 use rg_hints::{Lines, check, check_piece, has_empty_clause, has_empty_line};
 use rg_words::{Place, Refusal, RefusalNumber, SourceFile};
 use std::alloc::{AllocError, Global};
-use std::thread::{Threads, join};
+use std::thread::Threads;
 
 /// The least count of lines of a section that is cut into pieces.
 pub const LEAST_LINES: usize = 512;
@@ -61,87 +62,90 @@ pub(crate) fn joined(
     second
 }
 
-/// Whether the lines from one place on and before another follow, in two halves side by side.
-fn check_halves<R: Threads + Sync>(
-    rt: &R,
-    alloc: Global,
-    clauses: &Clauses,
-    lines: &Lines,
-    from: usize,
-    to: usize,
-) -> Result<(), Refusal>
-    requires given { lines.now.given ≡ length clauses.now.clauses }
-    requires order { from ≤ to }
-    requires bound { to ≤ length lines.now.lines }
-    ensures { IsPieceAnswer clauses.now.clauses lines.now from to result }
-{
-    let middle = from + (to - from) / 2;
-    let (first, second) = join(
-        rt,
-        || -> Result<(), Refusal>
-            requires { (lines.now.given ≡ length clauses.now.clauses) × (from ≤ middle) × (middle ≤ length lines.now.lines) }
-            ensures { IsPieceAnswer clauses.entry.now.clauses lines.entry.now from middle result }
-        { check_piece(alloc, clauses, lines, from, middle) },
-        || -> Result<(), Refusal>
-            requires { (lines.now.given ≡ length clauses.now.clauses) × (middle ≤ to) × (to ≤ length lines.now.lines) }
-            ensures { IsPieceAnswer clauses.entry.now.clauses lines.entry.now middle to result }
-        { check_piece(alloc, clauses, lines, middle, to) },
-    );
-    joined(clauses, lines, from, middle, to, first, second)
+/// How many parts each piece is cut into: a thread that is done with its own takes those of others.
+const PARTS: usize = 8;
+
+/// The answer for the lines from one place on and before another.
+#[derive(Clone, Copy)]
+pub struct PartAnswer {
+    pub from: usize,
+    pub to: usize,
+    pub answer: Result<(), Refusal>,
 }
 
-/// Whether the lines of one piece follow, in this thread, which is told first, and in another beside it. With four threads for four processors two often
-/// begin on one of them while another is idle; with eight this costs less.
-fn check_one<R: Threads + Sync, P: Pieces>(
-    rt: &R,
+/// Where a piece begins, which count from 0; the fourth ends behind the last line.
+fn piece_start(all: usize, piece: usize) -> usize {
+    if piece < 4 {
+        (all / 4).saturating_mul(piece)
+    } else {
+        all
+    }
+}
+
+/// Where a part of a piece begins; behind the last part begins the next piece.
+fn part_start(all: usize, piece: usize, part: usize) -> usize {
+    let from = piece_start(all, piece);
+    let to = piece_start(all, piece.saturating_add(1));
+    if part < PARTS {
+        from.saturating_add((to.saturating_sub(from) / PARTS).saturating_mul(part))
+    } else {
+        to
+    }
+}
+
+/// The answer for the part that is taken at a turn: first the first part of each piece, then the second of each, and so on.
+fn part_answer<P: Pieces>(
     alloc: Global,
     clauses: &Clauses,
     lines: &Lines,
     pieces: &P,
-    piece: usize,
-    from: usize,
-    to: usize,
-) -> Result<(), Refusal>
-    requires given { lines.now.given ≡ length clauses.now.clauses }
-    requires order { from ≤ to }
-    requires bound { to ≤ length lines.now.lines }
-    ensures { IsPieceAnswer clauses.now.clauses lines.now from to result }
+    turn: usize,
+) -> Option<PartAnswer>
+    requires { lines.now.given ≡ length clauses.now.clauses }
+    ensures { IfSome result (IsPartAnswer clauses.now.clauses lines.now) }
 {
-    pieces.before(piece);
-    check_halves(rt, alloc, clauses, lines, from, to)
+    let piece = turn % 4;
+    let part = turn / 4;
+    if part == 0 {
+        pieces.before(piece);
+    }
+    let from = part_start(lines.len(), piece, part);
+    let to = part_start(lines.len(), piece, part + 1);
+    if from > to || to > lines.len() {
+        return None;
+    }
+    let answer = check_piece(alloc, clauses, lines, from, to);
+    Some(PartAnswer { from, to, answer })
 }
 
-/// Whether the lines of two pieces side by side follow, each in a thread of its own. The first of them has this number.
-fn check_two<R: Threads + Sync, P: Pieces + Sync>(
-    rt: &R,
-    alloc: Global,
+/// Whether all lines follow, from the answers for the parts; nothing, where these don't stand one behind the other from
+/// the first line to the last.
+fn followed(
     clauses: &Clauses,
     lines: &Lines,
-    pieces: &P,
-    piece: usize,
-    from: usize,
-    middle: usize,
-    to: usize,
-) -> Result<(), Refusal>
-    requires given { lines.now.given ≡ length clauses.now.clauses }
-    requires piece { piece < 3 }
-    requires front { from ≤ middle }
-    requires back { middle ≤ to }
-    requires bound { to ≤ length lines.now.lines }
-    ensures { IsPieceAnswer clauses.now.clauses lines.now from to result }
+    answers: &[Option<PartAnswer>],
+) -> Option<Result<(), Refusal>>
+    requires { (k : ℕ) → k < length answers.now → IfSome (slice_index_or answers.now k None) (IsPartAnswer clauses.now.clauses lines.now) }
+    ensures { IfSome result (IsPieceAnswer clauses.now.clauses lines.now 0 (length lines.now.lines)) }
 {
-    let (first, second) = join(
-        rt,
-        || -> Result<(), Refusal>
-            requires { (lines.now.given ≡ length clauses.now.clauses) × (from ≤ middle) × (middle ≤ length lines.now.lines) }
-            ensures { IsPieceAnswer clauses.entry.now.clauses lines.entry.now from middle result }
-        { check_one(rt, alloc, clauses, lines, pieces, piece, from, middle) },
-        || -> Result<(), Refusal>
-            requires { (lines.now.given ≡ length clauses.now.clauses) × (piece < 3) × (middle ≤ to) × (to ≤ length lines.now.lines) }
-            ensures { IsPieceAnswer clauses.entry.now.clauses lines.entry.now middle to result }
-        { check_one(rt, alloc, clauses, lines, pieces, piece + 1, middle, to) },
-    );
-    joined(clauses, lines, from, middle, to, first, second)
+    let mut at = 0;
+    let mut answer = Ok(());
+    for number in 0..4 * PARTS {
+        let turn = number % PARTS * 4 + number / PARTS;
+        let Some(Some(next)) = answers.get(turn) else {
+            return None;
+        };
+        if next.from != at || next.to < at {
+            return None;
+        }
+        answer = joined(clauses, lines, 0, at, next.to, answer, next.answer);
+        at = next.to;
+    }
+    if at == lines.len() {
+        Some(answer)
+    } else {
+        None
+    }
 }
 
 /// Whether all lines follow, in four pieces of a quarter of the lines; the last takes the rest.
@@ -155,44 +159,20 @@ fn check_four<R: Threads + Sync, P: Pieces + Sync>(
     requires { lines.now.given ≡ length clauses.now.clauses }
     ensures { IsPieceAnswer clauses.now.clauses lines.now 0 (length lines.now.lines) result }
 {
-    let all = lines.len();
-    let quarter = all / 4;
-    let (first, second) = join(
+    let answers = deal(
         rt,
-        || -> Result<(), Refusal>
-            requires { (lines.now.given ≡ length clauses.now.clauses) × (4 * quarter ≤ length lines.now.lines) × (4 * quarter < 2 ^ 64) }
-            ensures { IsPieceAnswer clauses.entry.now.clauses lines.entry.now 0 (2 * quarter) result }
-        {
-            check_two(
-                rt,
-                alloc,
-                clauses,
-                lines,
-                pieces,
-                0,
-                0,
-                quarter,
-                2 * quarter,
-            )
-        },
-        || -> Result<(), Refusal>
-            requires { (lines.now.given ≡ length clauses.now.clauses) × (4 * quarter ≤ all) × (all ≤ length lines.now.lines) × (all < 2 ^ 64) }
-            ensures { IsPieceAnswer clauses.entry.now.clauses lines.entry.now (2 * quarter) all result }
-        {
-            check_two(
-                rt,
-                alloc,
-                clauses,
-                lines,
-                pieces,
-                2,
-                2 * quarter,
-                3 * quarter,
-                all,
-            )
-        },
-    );
-    joined(clauses, lines, 0, 2 * quarter, all, first, second)
+        alloc,
+        4,
+        4 * PARTS,
+        &|turn: usize| -> Option<PartAnswer>
+            requires { lines.now.given ≡ length clauses.now.clauses }
+            ensures { IfSome result (IsPartAnswer clauses.entry.now.clauses lines.entry.now) }
+        { part_answer(alloc, clauses, lines, pieces, turn) },
+    )?;
+    match followed(clauses, lines, &answers) {
+        Some(answer) => answer,
+        None => check_piece(alloc, clauses, lines, 0, lines.len()),
+    }
 }
 
 /// Whether the last line is empty.
