@@ -1,4 +1,4 @@
-//! A section that is checked in pieces, each in a thread of its own.
+//! A section that is checked in four pieces by four threads.
 
 ghost use Rattle.std.specs.Prelude.{◌≡◌, ◌↔◌, ◌<◌, ◌≤◌, ℕ, [], None, length, slice_index_or, IsTrue, MatchResult, OnOk, IfErr, IfSome};
 ghost use Rattle.rg_clauses.specs.ClauseLists.{IsFormula, IsUnsatisfiable};
@@ -17,9 +17,9 @@ use std::thread::Threads;
 /// The least count of lines of a section that is cut into pieces.
 pub const LEAST_LINES: usize = 512;
 
-/// Is told before each piece of a section is checked, in the thread that checks it.
+/// Is told before each piece of a section is begun, in the thread that begins it.
 pub trait Pieces {
-    /// The piece with this number, from 0 to 3, is checked next in this thread.
+    /// The piece with this number, from 0 to 3, is begun next in this thread.
     fn before(&self, piece: usize);
 }
 
@@ -62,7 +62,8 @@ pub(crate) fn joined(
     second
 }
 
-/// How many parts each piece is cut into: a thread that is done with its own takes those of others.
+/// How many parts each piece is cut into. A thread that is done with one takes the next that is left, of whichever piece, so that none of them waits for
+/// one that has no processor.
 const PARTS: usize = 8;
 
 /// The answer for the lines from one place on and before another.
@@ -230,7 +231,7 @@ pub(crate) fn closed(
 }
 
 /// Whether the section of this condition, which counts from 1, is closed: the answer of `rg_hints::check`, found in four
-/// threads where the section has `LEAST_LINES` lines or more. `pieces` is then told before each piece, in its thread.
+/// threads where the section has `LEAST_LINES` lines or more. `pieces` is then told before each piece, in the thread that begins it.
 ///
 /// A thread that can't be had costs time alone.
 ///

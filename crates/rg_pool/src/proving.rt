@@ -189,8 +189,8 @@ fn prove_each_all<R: Threads + Sync>(
 /// with the longest sections first. Where a section is longer than a thread's share, its lines are read and the clauses of its condition are made side by
 /// side, and then the lines are checked in pieces.
 ///
-/// With 0 or 1 threads all is done in the thread that asks. A thread that can't be had costs time alone. Nothing behind a
-/// condition that is refused is begun.
+/// With 0 or 1 threads all is done in the thread that asks. A thread that can't be had costs time alone. Once a condition is
+/// refused no other is begun, but the lines of the long ones whose lines are read by then are still checked.
 ///
 /// # Errors
 ///

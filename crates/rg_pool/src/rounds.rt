@@ -314,7 +314,7 @@ fn paired(
 }
 
 /// The pieces of the lines of each prepared condition.
-const PIECES: usize = 8;
+const PIECES: usize = 16;
 
 /// All pieces of the lines of these conditions.
 fn cut(alloc: Global, prepared: &[Prepared]) -> Result<Vec<Piece>, AllocError> {
