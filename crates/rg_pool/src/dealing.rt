@@ -5,7 +5,7 @@ ghost use Rattle.rg_pool.specs.Inner.Deals.{Fills};
 
 use std::alloc::{AllocError, Global};
 use std::sync::atomic::{AtomicU64, Ordering};
-use std::thread::{Threads, join, yield_now};
+use std::thread::{Threads, join};
 
 /// No more threads are started than that, as each that is being started takes some of the stack.
 const MOST_THREADS: usize = 256;
@@ -39,8 +39,6 @@ fn take_turns<X: Drop, F: Fn(usize) -> Option<X>>(
         if let Some(answer) = f(index) {
             answers.push((index, answer))?;
         }
-        // Another thread that waits for this processor goes first: it may be at a longer turn.
-        yield_now();
     }
     Ok(answers)
 }
