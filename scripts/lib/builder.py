@@ -10,6 +10,8 @@ and the others, which fill what is idle, fewer still and much patience. Only as 
 
 import collections
 import concurrent.futures
+import contextlib
+import fcntl
 import functools
 import math
 import os
@@ -24,6 +26,8 @@ import project
 
 # The page that has the seconds of each crate at one job, as a table whose rows begin "| `NAME` | SECONDS |".
 SECONDS = f"{project.ROOT}/docs/GATE.md"
+# How long a build of everything takes on four processors, in minutes.
+MINUTES = 60
 # More jobs of one crate bring little.
 MOST_JOBS = 8
 # After so many seconds without news a line says which crates are worked on.
@@ -48,6 +52,21 @@ class Failed(Exception):
 
 Library = collections.namedtuple("Library", "crate name below seconds memory")
 Run = collections.namedtuple("Run", "library jobs nice keeps began log")
+
+
+@contextlib.contextmanager
+def locked(path, waiting, tell):
+    """Keeps others out that would hold this lock; where one holds it, that is reported, and waited for."""
+    with open(path, "w") as held:
+        try:
+            fcntl.flock(held, fcntl.LOCK_EX | fcntl.LOCK_NB)
+        except BlockingIOError:
+            tell(waiting)
+            fcntl.flock(held, fcntl.LOCK_EX)
+        except OSError:
+            # (some file systems have no locks)
+            pass
+        yield
 
 
 def shown(path):

@@ -12,6 +12,7 @@ goes when the script ends, also where it is killed or fails."""
 import contextlib
 import dataclasses
 import functools
+import hashlib
 import importlib.machinery
 import importlib.util
 import os
@@ -26,6 +27,9 @@ import threading
 ROOT = os.path.dirname(os.path.dirname(os.path.dirname(os.path.realpath(__file__))))
 # The folders of a crate that a proof reads.
 PARTS = ("src", "specs", "proofs")
+# The crate of the program, and the folder of what is built of it.
+PROGRAM = "rgc_main"
+OUT = f"{ROOT}/crates/{PROGRAM}/out"
 
 
 def stop(why):
@@ -112,6 +116,31 @@ def files_of(crate, parts=PARTS):
         for at, _, names in os.walk(f"{crate.folder}/{part}"):
             found += [f"{at}/{name}" for name in names]
     return sorted(found)
+
+
+def sum_of(parts, more=()):
+    """Returns a checksum of all that the program is made from: the toolchain, the crates with what each stands on, the files in these
+    folders of each, and these further files."""
+    found = hashlib.sha256()
+    for path in (f"{toolchain().rtlib.KIT}/KIT-ID", f"{toolchain().rtlib.KIT}/WHAT", *more):
+        with open(path, "rb") as it:
+            found.update(it.read())
+    for crate in [*below(named([PROGRAM])), *named([PROGRAM])]:
+        found.update(repr((crate.name, crate.libraries, crate.of_toolchain)).encode())
+        for path in files_of(crate, parts):
+            with open(path, "rb") as it:
+                found.update(repr((os.path.relpath(path, ROOT), it.read())).encode())
+    return found.hexdigest()
+
+
+@functools.lru_cache(maxsize=None)
+def program():
+    """Returns the path of the program that ./rgc runs, which it makes first where none is up to date. A line on
+    standard error reports where it is unproved."""
+    ran = subprocess.run([f"{ROOT}/rgc", "--version"], stdin=subprocess.DEVNULL, stdout=subprocess.PIPE, text=True)
+    if ran.returncode:
+        stop("there is no program")
+    return f"{OUT}/unproved/rgc" if "unproved" in ran.stdout else f"{OUT}/{PROGRAM}"
 
 
 # Copies
@@ -280,6 +309,8 @@ def free_memory():
 
 def commit(of, root=ROOT):
     """Returns the short name of the commit that the repository stands at, with + behind it where a file of these crates, or of what they stand on, differs from it. Returns - where there is none."""
+    if not shutil.which("git"):
+        return "-"
     git = ["git", "--no-optional-locks"]
     at = subprocess.run([*git, "rev-parse", "--short=9", "HEAD"], cwd=root, capture_output=True, text=True)
     if at.returncode:
