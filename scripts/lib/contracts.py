@@ -231,7 +231,9 @@ class Repository:
             to = module.uses[first]
             return self.found(module, (*to, *rest), seen) if to != tuple(path) or to[0] in self.place else None
         for to, _ in module.globs:
-            found = self.found(module, (*to, *path), seen)
+            # (what the toolchain's crates have isn't looked for)
+            is_here = to[0] in self.place or to[0] in ("crate", "self", "super") or to[0] in module.children
+            found = self.found(module, (*to, *path), seen) if is_here else None
             if found:
                 return found
         return None

@@ -6,7 +6,7 @@ use Rattle.rg_tree.specs.Lines.{LineTree}
 use Rattle.rg_rules.specs.Reading.{FitsProgram, IsDerivationRefusal}
 use Rattle.rg_parse.specs.Derivations.{OneSpelledDerivation}
 use Rattle.rg_hints.specs.Proved.{AreProved, IsProofsRefusal}
-use Rattle.rg_code.specs.Code.{BlockTree, HasRunsOf}
+use Rattle.rg_code.specs.Code.{BlockTree, HasRunsOf, program_code}
 use Rattle.rg_tree.specs.Programs.{IsSatisfied}
 use Rattle.rg_parse.specs.Programs.{SpellsProgram, OneSpelledProgram}
 use Rattle.rg_accept.specs.Accepted.{conditions_of, IsAccepted, AreAccepted, IsAcceptedText, IsAcceptTextRefusal, IsBuiltText}
@@ -49,12 +49,12 @@ text_proofs_refused text derivation proofs p q lines e spells same fits refused 
     inr (p, spells, proofs_refused derivation proofs p q lines e same fits refused)
 
 -- code with the runs of an accepted program is built from its text
-pub text_built : (text derivation proofs : List ℕ) (p q : ProgramTree) (code : List (List BlockTree)) → q ≡ p → AreAccepted text derivation proofs p → IsSatisfied p → HasRunsOf p code → IsBuiltText text derivation proofs q code
-text_built text derivation proofs p q code same a satisfied runs =
+pub text_built : (text derivation proofs : List ℕ) (p q : ProgramTree) (code : List (List BlockTree)) → q ≡ p → AreAccepted text derivation proofs p → IsSatisfied p → code ≡ program_code p.parts → HasRunsOf p code → IsBuiltText text derivation proofs q code
+text_built text derivation proofs p q code same a satisfied compiled runs =
     subst
     (λ (t : ProgramTree). IsBuiltText text derivation proofs t code)
     (sym same)
     (record {
       spells = a.spells;
-      built = record { accepted = a.accepted; runs = runs; satisfied = satisfied };
+      built = record { accepted = a.accepted; compiled = compiled; runs = runs; satisfied = satisfied };
     })

@@ -1,6 +1,6 @@
 -- When a derivation and clause proofs are accepted for a program, and all three for its text; why they are refused; and what is then known of the
 -- program's code.
-use Rattle.std.specs.Prelude.{◌⊎◌, ℕ, List, ◌++◌, map}
+use Rattle.std.specs.Prelude.{◌≡◌, ◌⊎◌, ℕ, List, ◌++◌, map}
 use Rattle.rg_words.specs.declared.refusal.Refusal.{Refusal}
 use Rattle.rg_tree.specs.ConditionTrees.{ConditionTree}
 use Rattle.rg_tree.specs.Lines.{LineTree}
@@ -12,7 +12,7 @@ use Rattle.rg_rules.specs.Derivations.{conditions_asked}
 use Rattle.rg_rules.specs.Reading.{FitsProgram, IsDerivationRefusal}
 use Rattle.rg_par.specs.Parallel.{parallel_conditions}
 use Rattle.rg_hints.specs.Proved.{AreProved, IsProofsRefusal}
-use Rattle.rg_code.specs.Code.{BlockTree, HasRunsOf}
+use Rattle.rg_code.specs.Code.{BlockTree, HasRunsOf, program_code}
 use Rattle.rg_parse.specs.Programs.{SpellsProgram, IsProgramRefusal}
 
 -- what the rules ask of a program and the lines of its derivation: first for the lines, then for the parallel parts
@@ -34,11 +34,12 @@ abbrev pub IsAcceptRefusal : ProgramTree → List ℕ → List ℕ → Refusal �
 IsAcceptRefusal p derivation proofs e =
     IsDerivationRefusal p derivation e ⊎ ((lines : List LineTree) × FitsProgram p derivation lines × IsProofsRefusal (conditions_of p lines) proofs e)
 
--- the derivation and the proofs are accepted by the written rules, the code has exactly the runs of the program, and every run from its pre,
--- with steps of the environment inside its rely, makes only steps inside its guarantee and the acting part's own, and where it has ended,
--- stands in its post
+-- the derivation and the proofs are accepted by the written rules, the code is exactly that of the program, block by block, and has exactly its
+-- runs, and every run from its pre, with steps of the environment inside its rely, makes only steps inside its guarantee and the acting part's
+-- own, and where it has ended, stands in its post
 pub record IsBuilt (p : ProgramTree) (derivation proofs : List ℕ) (code : List (List BlockTree)) : Type 0 where
   pub accepted : IsAccepted p derivation proofs
+  pub compiled : code ≡ program_code p.parts
   pub runs : HasRunsOf p code
   pub satisfied : IsSatisfied p
 
@@ -56,8 +57,8 @@ abbrev pub IsAcceptTextRefusal : List ℕ → List ℕ → List ℕ → Refusal 
 IsAcceptTextRefusal text derivation proofs e =
     IsProgramRefusal text e ⊎ ((p : ProgramTree) × SpellsProgram text p × IsAcceptRefusal p derivation proofs e)
 
--- the text spells this program, whose derivation and proofs are accepted by the written rules; the code has exactly its runs, and it satisfies its
--- specification
+-- the text spells this program, whose derivation and proofs are accepted by the written rules; the code is exactly that of the program and has
+-- exactly its runs, and it satisfies its specification
 pub record IsBuiltText (text derivation proofs : List ℕ) (p : ProgramTree) (code : List (List BlockTree)) : Type 0 where
   pub spells : SpellsProgram text p
   pub built : IsBuilt p derivation proofs code

@@ -8,13 +8,13 @@ ghost use Rattle.rg_accept.specs.Accepted.{IsAccepted, IsAcceptRefusal, IsBuilt,
 ghost use Rattle.rg_accept.specs.Stages.{accepted_program, emitted_program, emitted_blocks};
 
 use crate::stages::{Accepted, Derived, Emitted, Parsed};
-use rg_groups::Deriver;
 use rg_hints::{OneThread, Prover};
 use rg_parse::{one_derivation, one_program};
 use rg_pool::InThreads;
 use rg_tree::program::Program;
 use rg_words::Refusal;
 use std::alloc::Global;
+use std::sync::Wait;
 use std::thread::Threads;
 
 /// The program, where the derivation and the proofs prove that it satisfies its specification.
@@ -77,21 +77,20 @@ pub fn build_program(
     }
 }
 
-/// The program that a text spells, where the derivation, as this prover reads it, and the proofs, of which it decides, prove that
-/// it satisfies its specification.
+/// The program that a text spells, where the derivation and the proofs, of which this prover decides, prove that it satisfies
+/// its specification.
 ///
 /// # Errors
 ///
 /// As `accept`.
-fn accept_by<P: Prover + Deriver>(
+fn accept_by<P: Prover>(
     prover: &P,
     alloc: Global,
     text: &[u8],
     derivation: &[u8],
     proofs: &[u8],
 ) -> Result<Accepted, Refusal>
-    requires proves { P.can_prove prover.now }
-    requires derives { P.can_derive prover.now }
+    requires { P.can_prove prover.now }
     // Ok exactly where the written rules accept all three files, unless memory runs out.
     ensures accepted { IfOk result (λ a. AreAccepted text.now derivation.now proofs.now (accepted_program a)) }
     ensures accepts { IsAcceptedText text.now derivation.now proofs.now → IfErr result (λ e. e ≡ no_memory) }
@@ -106,7 +105,7 @@ fn accept_by<P: Prover + Deriver>(
         Ok(parsed) => parsed,
         Err(refusal) => return Err(refusal),
     };
-    let derived = match parsed.derive_by(prover, alloc, derivation) {
+    let derived = match parsed.derive(alloc, derivation) {
         Ok(derived) => derived,
         Err(refusal) => return Err(refusal),
     };
@@ -138,13 +137,13 @@ pub fn accept(
     accept_by(&OneThread, alloc, text, derivation, proofs)
 }
 
-/// The same, in at most so many threads: a long derivation is read in groups of lines, conditions are looked at side by side, and
-/// large sections in pieces. A thread that can't be had costs time alone.
+/// The same, in at most so many threads: conditions are looked at side by side, and each section is checked as
+/// `rg_pool::check_all` does; with fewer than two threads, all is done in the thread that asks.
 ///
 /// # Errors
 ///
 /// As `accept`.
-pub fn accept_all<R: Threads + Sync>(
+pub fn accept_all<R: Threads + Wait + Sync>(
     rt: &R,
     alloc: Global,
     threads: usize,
@@ -163,15 +162,14 @@ pub fn accept_all<R: Threads + Sync>(
 }
 
 /// The same as `build`, where this prover decides of the proofs.
-fn build_by<P: Prover + Deriver>(
+fn build_by<P: Prover>(
     prover: &P,
     alloc: Global,
     text: &[u8],
     derivation: &[u8],
     proofs: &[u8],
 ) -> Result<Emitted, Refusal>
-    requires proves { P.can_prove prover.now }
-    requires derives { P.can_derive prover.now }
+    requires { P.can_prove prover.now }
     ensures built { IfOk result (λ e. IsBuiltText text.now derivation.now proofs.now (emitted_program e) (emitted_blocks e)) }
     ensures accepts { IsAcceptedText text.now derivation.now proofs.now → IfErr result (λ e. e ≡ no_memory) }
     ensures refused { IfErr result (IsAcceptTextRefusal text.now derivation.now proofs.now) }
@@ -211,7 +209,7 @@ pub fn build(
 /// # Errors
 ///
 /// As `accept`.
-pub fn build_all<R: Threads + Sync>(
+pub fn build_all<R: Threads + Wait + Sync>(
     rt: &R,
     alloc: Global,
     threads: usize,

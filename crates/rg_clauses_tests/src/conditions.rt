@@ -1,20 +1,27 @@
-//! Conditions have the same clauses by both tables of gates.
+//! Conditions have the same clauses by both tables of gates, to the byte of their text.
 
 use crate::scan::scanning;
 use rg_bits::{formula as gates_of, inputs};
 use rg_clauses::Clauses;
+use rg_par::conditions::add_conditions;
 use rg_parse::{program, show};
 use rg_rules::Derivation;
 use rg_tree::condition::Condition;
-use rg_tree::program::Program;
-use rg_words::{Refusal, SourceFile};
+use rg_words::{Refusal, SourceFile, Taker};
 use std::alloc::Global;
 
-/// Whether two lists of clauses are the same.
-fn same(left: &Clauses, right: &Clauses) -> bool {
-    let (literals, starts) = left.flat();
-    let (others, places) = right.flat();
-    left.variables() == right.variables() && literals == others && starts == places
+/// The text of clauses.
+fn text_of(alloc: Global, clauses: &Clauses) -> Taker {
+    let mut taker = Taker::new(alloc, usize::MAX);
+    let _ = clauses.write_cnf(&mut taker);
+    taker
+}
+
+/// Whether two lists of clauses have the same text, which isn't empty.
+fn same(alloc: Global, left: &Clauses, right: &Clauses) -> bool {
+    let one = text_of(alloc, left);
+    let other = text_of(alloc, right);
+    !one.bytes().is_empty() && one.bytes() == other.bytes()
 }
 
 /// The clauses of a condition by the table that is searched from its front.
@@ -35,7 +42,7 @@ fn agrees(alloc: Global, condition: &Condition) -> bool {
 /// Whether these are the clauses of a condition.
 fn is_of(alloc: Global, condition: &Condition, plain: &Clauses) -> bool {
     match Clauses::of(alloc, condition, SourceFile::Text, 1) {
-        Ok(clauses) => same(&clauses, plain),
+        Ok(clauses) => same(alloc, &clauses, plain),
         Err(_) => false,
     }
 }
@@ -86,31 +93,63 @@ fn count_agreeing(alloc: Global, conditions: &[Condition]) -> usize {
     count
 }
 
-/// The conditions of a program's lines.
-fn conditions_of(alloc: Global, program: &Program, lines: &str) -> Result<Vec<Condition>, Refusal> {
-    let derivation = Derivation::read(alloc, program, lines.as_bytes())?;
-    Ok(derivation.conditions(alloc, program)?)
-}
-
-/// The conditions of a part that keeps one of two words and sets the other to its own value: with hypotheses, of a second state that
-/// is free, and of a state after assignments.
-fn conditions_of_a_part(alloc: Global) -> Result<Vec<Condition>, Refusal> {
-    let text =
-        "words x:1 y:2 pre true rely true guar true post true\npart a pre (x = 1) rely (x' = x) guar (y' = y) post true begin y := y end";
-    let lines = "line 1 basic 1 pre (x = 1) rely (x' = x) guar (y' = y) post true";
+/// The conditions of a program's lines and of the parallel rule.
+fn conditions_of(alloc: Global, text: &str, lines: &str) -> Result<Vec<Condition>, Refusal> {
     let program = program(alloc, text.as_bytes())?;
-    conditions_of(alloc, &program, lines)
+    let derivation = Derivation::read(alloc, &program, lines.as_bytes())?;
+    let mut conditions = derivation.conditions(alloc, &program)?;
+    add_conditions(alloc, &mut conditions, &program)?;
+    Ok(conditions)
 }
 
-/// Whether the part has four conditions, which all have the same clauses by both tables.
-fn part_agrees(alloc: Global) -> bool {
-    match conditions_of_a_part(alloc) {
-        Ok(conditions) => conditions.len() == 4 && count_agreeing(alloc, &conditions) == 4,
+/// Whether a program has so many conditions, which all have the same clauses by both tables.
+fn program_agrees(alloc: Global, text: &str, lines: &str, count: usize) -> bool {
+    match conditions_of(alloc, text, lines) {
+        Ok(conditions) => {
+            conditions.len() == count && count_agreeing(alloc, &conditions) == count
+        }
         Err(_) => false,
     }
 }
 
+/// Programs with their lines, and how many conditions they have: a part that keeps one of two words and sets the other to its own value; two parts
+/// that each set a word; two parts that each add to a word in one step, and say so.
+const PROGRAMS: &[(&str, &str, usize)] = &[
+    (
+        "words x:1 y:2 pre true rely true guar true post true
+part a pre (x = 1) rely (x' = x) guar (y' = y) post true begin y := y end",
+        "line 1 basic 1 pre (x = 1) rely (x' = x) guar (y' = y) post true",
+        8,
+    ),
+    (
+        "words x:1 y:1
+pre true rely ((x' = x) and (y' = y)) guar true post ((x = 1) and (y = 1))
+part a pre true rely (x' = x) guar (y' = y) post (x = 1) begin x := 1 end
+part b pre true rely (y' = y) guar (x' = x) post (y = 1) begin y := 1 end",
+        "line 1 basic 1 pre true rely (x' = x) guar (y' = y) post (x = 1)
+line 2 basic 2 pre true rely (y' = y) guar (x' = x) post (y = 1)",
+        17,
+    ),
+    (
+        "words x:2 a:2 b:2
+pre ((x = 0) and (a = 0) and (b = 0)) rely ((x' = x) and (a' = a) and (b' = b)) guar true post (x = 2)
+part p pre ((x = (a + b)) and (a = 0)) rely ((a' = a) and ((x = (a + b)) implies (x' = (a' + b'))))
+guar ((b' = b) and ((x = (a + b)) implies (x' = (a' + b')))) post ((x = (a + b)) and (a = 1))
+begin await true do x := (x + 1); a := 1 end end
+part q pre ((x = (a + b)) and (b = 0)) rely ((b' = b) and ((x = (a + b)) implies (x' = (a' + b'))))
+guar ((a' = a) and ((x = (a + b)) implies (x' = (a' + b')))) post ((x = (a + b)) and (b = 1))
+begin await true do x := (x + 1); b := 1 end end",
+        "line 1 atomic 1 pre ((x = (a + b)) and (a = 0)) rely ((a' = a) and ((x = (a + b)) implies (x' = (a' + b'))))
+guar ((b' = b) and ((x = (a + b)) implies (x' = (a' + b')))) post ((x = (a + b)) and (a = 1))
+line 2 atomic 2 pre ((x = (a + b)) and (b = 0)) rely ((b' = b) and ((x = (a + b)) implies (x' = (a' + b'))))
+guar ((a' = a) and ((x = (a + b)) implies (x' = (a' + b')))) post ((x = (a + b)) and (b = 1))",
+        17,
+    ),
+];
+
 #[test]
-fn both_tables_give_the_clauses_of_a_part(rt: HostRuntime) {
-    assert!(rt; part_agrees(rt.alloc()));
+fn both_tables_give_the_clauses_of_programs(rt: HostRuntime) {
+    for (text, lines, count) in PROGRAMS {
+        assert!(rt; program_agrees(rt.alloc(), text, lines, *count));
+    }
 }

@@ -11,9 +11,7 @@ ghost use Rattle.rg_find.specs.Found.{IsFound, FoundFits, FoundInOrder, fault_of
 use crate::logged_lines::lines_of;
 use rg_clauses::Clauses;
 use rg_hints::{Lines, check};
-use rg_search::{
-    Answer, Given, Halves, OneAfterOther, Refutation, Twin, Unwatched, Watcher, solve_by,
-};
+use rg_search::{Answer, Given, Refutation, Twin, Unwatched, Watcher, solve};
 use rg_words::limits::{MOST_DECISIONS, MOST_PROOF_BYTES};
 use rg_words::{Refusal, RefusalNumber};
 use std::alloc::Global;
@@ -59,15 +57,13 @@ fn lines_found(alloc: Global, clauses: &Clauses, refutation: &Refutation) -> Res
 }
 
 /// What the search finds, of which nothing is promised.
-fn searched<W: Watcher, H: Halves>(
+fn searched<W: Watcher>(
     alloc: Global,
     clauses: &Clauses,
     twins: &[Twin],
     steps: u64,
     watcher: &mut W,
-    halves: &H,
 ) -> Result<Found, Refusal>
-    requires { H.can_run halves.now }
     ensures over { IfOk result (IsOver clauses.now) }
     ensures fits { IfOk result FoundFits }
     ensures order { IfOk result FoundInOrder }
@@ -80,7 +76,7 @@ fn searched<W: Watcher, H: Halves>(
         literals,
         starts,
     };
-    match solve_by(alloc, given, twins, steps, watcher, halves)? {
+    match solve(alloc, given, twins, steps, watcher)? {
         Answer::Refuted(refutation) => lines_found(alloc, clauses, &refutation),
         Answer::Satisfied(values) => Ok(Found::Values(values)),
         Answer::GaveUp => Ok(Found::GaveUp),
@@ -208,20 +204,18 @@ pub fn find_watched<W: Watcher>(
     // Too many decisions are refused, and nothing else is but for want of memory.
     ensures refusal { IsRefusedFor (fault_of steps) result }
 {
-    find_with(alloc, clauses, &[], steps, watcher, &OneAfterOther)
+    find_with(alloc, clauses, &[], steps, watcher)
 }
 
 /// The same, where of the values that satisfy some are sought in which these words have the same value in both states. Nothing is
-/// promised of that. `halves` does the halves of a search that is divided.
-pub fn find_with<W: Watcher, H: Halves>(
+/// promised of that.
+pub fn find_with<W: Watcher>(
     alloc: Global,
     clauses: &Clauses,
     twins: &[Twin],
     steps: u64,
     watcher: &mut W,
-    halves: &H,
 ) -> Result<Found, Refusal>
-    requires { H.can_run halves.now }
     ensures found { IfOk result (IsFound clauses.now) }
     ensures fits { IfOk result FoundFits }
     ensures order { IfOk result FoundInOrder }
@@ -230,6 +224,6 @@ pub fn find_with<W: Watcher, H: Halves>(
     if steps > MOST_DECISIONS {
         return Err(Refusal::new(RefusalNumber::Limit));
     }
-    let found = searched(alloc, clauses, twins, steps, watcher, halves)?;
+    let found = searched(alloc, clauses, twins, steps, watcher)?;
     confirmed(alloc, clauses, found)
 }

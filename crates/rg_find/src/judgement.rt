@@ -14,7 +14,7 @@ use crate::twins::twins_of;
 use rg_bits::states;
 use rg_clauses::Clauses;
 use rg_hints::Lines;
-use rg_search::{Halves, OneAfterOther, Watcher};
+use rg_search::Watcher;
 use rg_tree::condition::Condition;
 use rg_words::limits::MOST_DECISIONS;
 use rg_words::{Refusal, RefusalNumber, SourceFile, State};
@@ -35,15 +35,13 @@ pub enum Judged {
 }
 
 /// Looks for lines or values over a condition's clauses; of the values some in which words keep their values where they may.
-fn find_near<W: Watcher, H: Halves>(
+fn find_near<W: Watcher>(
     alloc: Global,
     condition: &Condition,
     clauses: &Clauses,
     steps: u64,
     watcher: &mut W,
-    halves: &H,
 ) -> Result<Found, Refusal>
-    requires { H.can_run halves.now }
     ensures found { IfOk result (IsFound clauses.now) }
     ensures fits { IfOk result FoundFits }
     ensures order { IfOk result FoundInOrder }
@@ -53,7 +51,7 @@ fn find_near<W: Watcher, H: Halves>(
         return Err(Refusal::new(RefusalNumber::Limit));
     }
     let twins = twins_of(alloc, condition)?;
-    find_with(alloc, clauses, &twins, steps, watcher, halves)
+    find_with(alloc, clauses, &twins, steps, watcher)
 }
 
 /// Looks for lines that prove a condition or for states at which it fails, as `find` does on its clauses. The file and the
@@ -83,51 +81,12 @@ pub fn judge<W: Watcher>(
     ensures steps { OnOk result (steps ≤ MOST_DECISIONS) }
     ensures refusal { IfErr result (IsJudgeRefusal (condition_tree condition.now) file number steps) }
 {
-    judge_by(
-        alloc,
-        condition,
-        file,
-        number,
-        steps,
-        watcher,
-        &OneAfterOther,
-    )
-}
-
-/// The same, by somebody who does the halves of a search that is divided: one after the other, or side by side.
-///
-/// # Errors
-///
-/// As `judge`.
-pub fn judge_by<W: Watcher, H: Halves>(
-    alloc: Global,
-    condition: &Condition,
-    file: SourceFile,
-    number: u64,
-    steps: u64,
-    watcher: &mut W,
-    halves: &H,
-) -> Result<Judged, Refusal>
-    requires { H.can_run halves.now }
-
-    // Lines are closed for its clauses, and it is true; or it fails at the states.
-    ensures judged { IfOk result (IsJudged (condition_tree condition.now)) }
-
-    // Lines fit into a proofs file.
-    ensures fits { IfOk result JudgedFits }
-
-    // Their numbers follow those of the clauses and have no gaps.
-    ensures order { IfOk result JudgedInOrder }
-    ensures within { IfOk result (λ _. (clauses_of_condition (condition_tree condition.now)).variables ≤ MOST_VARIABLES) }
-    ensures steps { OnOk result (steps ≤ MOST_DECISIONS) }
-    ensures refusal { IfErr result (IsJudgeRefusal (condition_tree condition.now) file number steps) }
-{
     let clauses = match Clauses::of(alloc, condition, file, number) {
         Ok(clauses) => clauses,
         Err(refusal) => return Err(refusal),
     };
     let _inputs = clauses.inputs();
-    let found = match find_near(alloc, condition, &clauses, steps, watcher, halves) {
+    let found = match find_near(alloc, condition, &clauses, steps, watcher) {
         Ok(found) => found,
         Err(refusal) => return Err(refusal),
     };

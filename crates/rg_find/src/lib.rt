@@ -9,5 +9,5 @@ mod logged_lines;
 mod twins;
 
 pub use answer::{Found, find, find_watched};
-pub use judgement::{Judged, judge, judge_by};
-pub use rg_search::{Half, Halves, OneAfterOther, Unwatched, Watcher};
+pub use judgement::{Judged, judge};
+pub use rg_search::{Unwatched, Watcher};

@@ -1,9 +1,10 @@
 -- One more step keeps a floor legal.
 use Rattle.std.proofs.Common.{◌≡◌, ℕ, ◌+◌, ◌<◌, ◌≤◌, ◌==◌, Bool, true, false, ◌||◌, List, [], ◌∷◌, ◌++◌, length, refl, sym, ap, ◌∙◌, subst, arith, rules, inl, inr}
-use Rattle.std.specs.Prelude.{if◌then◌else◌, not, All, Some, None, Result, Ok, Err}
+use Rattle.std.specs.Prelude.{if◌then◌else◌, not, All, Some, None, Result, Ok, Err, map}
 use Rattle.std.specs.Str.{bytes_eq}
 use Rattle.std.specs.declared.alloc.AllocError.{AllocError}
 use Rattle.std.proofs.lemmas.Bool.Decides.{nat_tests}
+use Rattle.std.proofs.lemmas.List.{map-append}
 use Rattle.std.proofs.lemmas.List.Elements.{All-nil, All-push}
 use Rattle.rg_words.specs.Layout.{widths_of}
 use Rattle.rg_words.specs.States.{Valuation, AreValues, IsState, IsPair}
@@ -19,13 +20,10 @@ use Rattle.rg_tree.specs.Traces.{State, Step, Inside, IsTraceOf, holds_at, last_
 use Rattle.rg_tree.specs.Programs.{OthersInside}
 use Rattle.rg_tree.specs.Moves.{IsValueOf}
 use Rattle.rg_code.specs.Code.{BlockTree, PlacesGo, zeros, is_end, all_at_end}
-use Rattle.rg_machine.specs.Machine.{Configuration, IsStepOf, StepFits, block_of}
-use Rattle.rg_machine.specs.Replay.{IsMoveTo}
-use Rattle.rg_machine.specs.declared.config.Stepped.{Stepped}
-use Rattle.rg_machine.specs.declared.config.Stepped.TheVariants.{Did as did, Blocked as blocked, Ended as ended}
+use Rattle.rg_machine.specs.Machine.{Configuration}
 use Rattle.rg_monitor.specs.Entry.{Entry, entry_of}
 use Rattle.rg_stepping.specs.Changes.{Changing, changed, rebuilt, state_after, change_of}
-use Rattle.rg_floor.specs.History.{FloorView, step_of, steps_of, own_steps, IsRecordAt, RecordsLead, IsLegal, GoTogether}
+use Rattle.rg_floor.specs.History.{FloorView, step_of, steps_of, own_steps, change_in, IsRecordAt, RecordsLead, IsLegal, GoTogether}
 use Rattle.rg_stepping.specs.Ready.{block_at, line_at, can_go, any_can_go}
 use Rattle.rg_floor.specs.Turns.{case_of, Goes, MoveGives}
 use Rattle.rg_floor.specs.Inner.Kept.{IsKept, view_of}
@@ -97,6 +95,7 @@ kept_step p codes start limit code c ahead first scratch changes most own total 
       within = within;
       booked = booked;
       fit = All-push (λ (x : Changing). All (IsValueOf (widths_of p.words)) x.values) changes (change_of who line c.state d.state) k.fit (changed-fits (widths_of p.words) c.state d.state pair.second);
+      exact = ap (λ (xs : List Changing). xs ++ change_of who line c.state d.state ∷ []) k.exact ∙ sym (ap (λ (rs : List Entry). map change_in rs) e ∙ map-append change_in old (new ∷ []));
     }
 
 -- what is kept says of other room for moves too
@@ -125,6 +124,7 @@ kept_scratch p codes start limit code c ahead first scratch scratch' changes mos
       within = k.within;
       booked = k.booked;
       fit = k.fit;
+      exact = k.exact;
     }
 
 -- a move that isn't refused is inside the rely
@@ -229,6 +229,7 @@ module _ (p : ProgramTree) (codes : List (List BlockTree)) (start : State) (limi
         lawful = k.lawful;
         start_in_pre = k.start_in_pre;
         history_is = refl;
+        changes_are = k.exact;
         trace = k.trace;
         leads = k.leads;
         words_are = k.words_are ∙ sym (last_of-rebuilt p 0 start changes);
@@ -314,5 +315,6 @@ kept_first p codes start limit code c ahead first scratch changes most total cod
       within = omega arith;
       booked = booked;
       fit = All-nil (λ (x : Changing). All (IsValueOf (widths_of p.words)) x.values);
+      exact = refl;
     } in
     subst (λ (cs : List Changing). IsKept p codes start limit code c ahead first scratch cs most 0 total) (sym none) base

@@ -1,12 +1,12 @@
 //! What is left of a run.
 
-ghost use Rattle.std.specs.Prelude.{◌≡◌, ◌↔◌, ◌+◌, ◌-◌, ◌≤◌, All, IsTrue, IfOk, length, drop};
+ghost use Rattle.std.specs.Prelude.{◌≡◌, ◌↔◌, ◌+◌, ◌-◌, ◌≤◌, All, IsTrue, IfOk, length, drop, map};
 ghost use Rattle.rg_words.specs.Layout.{widths_of};
 ghost use Rattle.rg_tree.specs.Moves.{given, IsValueOf};
 ghost use Rattle.rg_tree.specs.Programs.{nth};
 ghost use Rattle.rg_tree.specs.ProgramTrees.{program as program_tree};
 ghost use Rattle.rg_stepping.specs.Changes.{rebuilt, state_after, AreChangesOf};
-ghost use Rattle.rg_floor.specs.History.{steps_by};
+ghost use Rattle.rg_floor.specs.History.{change_in, steps_by};
 ghost use Rattle.rg_floor.specs.Turns.{CloseGives};
 ghost use Rattle.rg_floor.specs.Inner.Counts.{made_by};
 
@@ -41,17 +41,18 @@ pub struct Closed<'e> {
 }
 
 impl<'e> Model for Closed<'e> {
-    ghost use Rattle.std.specs.Prelude.{◌≡◌};
+    ghost use Rattle.std.specs.Prelude.{◌≡◌, map};
     ghost use Rattle.rg_words.specs.Layout.{widths_of};
     ghost use Rattle.rg_tree.specs.ProgramTrees.{program as program_tree};
     ghost use Rattle.rg_stepping.specs.Changes.{rebuilt, AreChangesOf};
+    ghost use Rattle.rg_floor.specs.History.{change_in};
     ghost use Rattle.rg_floor.specs.Turns.{ClosedView};
 
     ghost Value = { ClosedView };
 
     ghost view = { λ c. record { why = c.why; changes = c.changes.items; history = rebuilt (program_tree c.program.now) 0 c.start.values c.changes.items; refused = c.refused.items } };
 
-    ghost invariant = { λ c. (c.start.widths ≡ widths_of c.program.now.layout) × AreChangesOf (widths_of c.program.now.layout) c.changes.items };
+    ghost invariant = { λ c. (c.start.widths ≡ widths_of c.program.now.layout) × AreChangesOf (widths_of c.program.now.layout) c.changes.items × (c.changes.items ≡ map change_in (rebuilt (program_tree c.program.now) 0 c.start.values c.changes.items)) };
 }
 
 impl<'e> Closed<'e> {
@@ -64,6 +65,7 @@ impl<'e> Closed<'e> {
     ) -> Closed<'e>
         requires start { start.widths ≡ widths_of program.now.layout }
         requires changes { AreChangesOf (widths_of program.now.layout) changes.items }
+        requires exact { changes.items ≡ map change_in (rebuilt (program_tree program.now) 0 start.values changes.items) }
         ensures { result ≡ record { why = why; changes = changes.items; history = rebuilt (program_tree program.now) 0 start.values changes.items; refused = refused.items } }
     {
         Closed {
@@ -123,9 +125,10 @@ impl<'e> Closed<'e> {
         records_behind(alloc, self.program, &self.start, &self.changes, count)
     }
 
-    /// What each step changed, in order.
+    /// What each step changed, in order: for each record exactly the words that differ after it, in their order, with their new values.
     pub fn changes(&self) -> &[Change]
-        ensures { result.now ≡ self.now.changes }
+        ensures changes { result.now ≡ self.now.changes }
+        ensures exact { result.now ≡ map change_in self.now.history }
     {
         self.changes.as_slice()
     }
@@ -308,6 +311,7 @@ pub(crate) fn finish<'e>(
 ) -> Result<Closed<'e>, Refusal>
     requires start { start.widths ≡ widths_of program.now.layout }
     requires changes { AreChangesOf (widths_of program.now.layout) changes.items }
+    requires exact { changes.items ≡ map change_in (rebuilt (program_tree program.now) 0 start.values changes.items) }
     ensures { CloseGives why changes.items (rebuilt (program_tree program.now) 0 start.values changes.items) printed.now result }
 {
     if !is_history(alloc, program, &start, &changes, printed)? {

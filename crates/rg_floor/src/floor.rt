@@ -10,7 +10,7 @@ ghost use Rattle.rg_tree.specs.ProgramTrees.{program as program_tree};
 ghost use Rattle.rg_code.specs.Code.{zeros};
 ghost use Rattle.rg_code.specs.CodeTrees.{code_blocks};
 ghost use Rattle.rg_code.specs.Lawful.{IsLawful};
-ghost use Rattle.rg_floor.specs.History.{IsLegal, own_steps, GoTogether};
+ghost use Rattle.rg_floor.specs.History.{IsLegal, own_steps, change_in, GoTogether};
 ghost use Rattle.rg_floor.specs.Turns.{case_of, Goes, TurnGives, MoveGives, CloseGives, numbers_to, opened, open_fault, is_idle, why_of};
 
 use crate::closed::{Closed, finish};
@@ -388,6 +388,7 @@ impl<'e, L: Round> Floor<'e, L> {
         requires program { program_tree program.now ≡ L.program }
         requires seats { (vec_len seats ≡ L.parts) × (0 < L.parts) }
         ensures closed { CloseGives (why_of L.code L.limit self.entry) self.entry.changes self.entry.history printed.now result }
+        ensures exact { IfOk result (λ c. c.changes ≡ map change_in c.history) }
         ensures legal { IsLegal L.program L.code L.start L.limit self.entry }
         ensures counted { sum_by (λ s. s.steps) seats.items ≡ own_steps self.entry.history }
     {

@@ -11,9 +11,9 @@ use Rattle.std.proofs.lemmas.List.Sums.{sum_by-append}
 use Rattle.std.proofs.Math.Seq.{take-append_seam}
 use Rattle.rg_hint_lines.specs.Text.{is_blank, is_filled, fields_of}
 use Rattle.rg_hint_lines.specs.Sections.{is_head}
-use Rattle.rg_hint_lines.specs.LineEnds.{EndsLine, AreFrontLines}
+use Rattle.rg_hint_lines.specs.LineEnds.{EndsLine}
 use Rattle.rg_hint_lines.specs.Inner.Fronts.{is_line_feed}
-use Rattle.rg_hint_lines.specs.Inner.SectionForms.{HasNoS, IsPlain, ArePlainLines}
+use Rattle.rg_hint_lines.specs.Inner.SectionForms.{HasNoS, IsPlain, AreFrontLines, ArePlainLines}
 use Rattle.rg_hint_lines.proofs.LineCuts.{lines_append, lines_ended, lines_join, ends_more}
 
 -- bytes that end with a line have as many lines as line feeds

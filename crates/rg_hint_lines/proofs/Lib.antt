@@ -8,5 +8,4 @@ pub mod LineCuts
 pub mod SectionSteps
 pub mod FieldFronts
 pub mod LineFeeds
-pub mod HalfSteps
 pub mod FeedCounts

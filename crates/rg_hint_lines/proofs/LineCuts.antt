@@ -6,9 +6,9 @@ use Rattle.std.specs.Str.Lines.{lines, lines_of_parts, strip_carriage_return}
 use Rattle.std.proofs.lemmas.Bool.{cases_Bool, eqb-true}
 use Rattle.std.proofs.lemmas.List.{append_assoc, append-nil, append_cancel_right, length-append, take-append-drop}
 use Rattle.std.proofs.lemmas.List.Elements.{All-push}
-use Rattle.rg_hint_lines.specs.LineEnds.{EndsLine, IsFrontLine, AreFrontLines}
+use Rattle.rg_hint_lines.specs.LineEnds.{EndsLine, IsFrontLine}
 use Rattle.rg_hint_lines.specs.Inner.Fronts.{is_line_feed}
-use Rattle.rg_hint_lines.specs.Inner.SectionForms.{IsPlain, IsPlainLine, ArePlainLines}
+use Rattle.rg_hint_lines.specs.Inner.SectionForms.{IsPlain, IsPlainLine, AreFrontLines, ArePlainLines}
 use Rattle.rg_hint_lines.proofs.TextSteps.{split_front}
 
 onto_append : (x : ℕ) (y : List ℕ) (s t parts : List (List ℕ)) → s ≡ y ∷ parts → onto_first x (s ++ t) ≡ onto_first x s ++ t

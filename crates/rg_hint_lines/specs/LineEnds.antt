@@ -1,5 +1,5 @@
 -- Where a text may be cut between lines.
-use Rattle.std.specs.Prelude.{◌≡◌, ◌⊎◌, ℕ, List, [], ◌∷◌, ◌++◌, length}
+use Rattle.std.specs.Prelude.{◌≡◌, ◌⊎◌, ℕ, List, [], ◌∷◌, ◌++◌}
 use Rattle.std.specs.Str.Lines.{lines}
 
 -- bytes end with a line: they are none, or a line feed stands last
@@ -12,10 +12,3 @@ pub record IsFrontLine (text line rest : List ℕ) : Type 0 where
   pub is : text ≡ front ++ rest
   pub ends : (rest ≡ []) ⊎ EndsLine front
   pub one : lines front ≡ line ∷ []
-
--- a text is so many lines, with their ends, and the rest
-pub record AreFrontLines (text front rest : List ℕ) (count : ℕ) : Type 0 where
-  pub is : text ≡ front ++ rest
-  pub ends : (rest ≡ []) ⊎ EndsLine front
-  pub lines_are : lines text ≡ lines front ++ lines rest
-  pub count_is : count ≡ length (lines front)

@@ -1,7 +1,6 @@
 //! Hint lines and the sections of a proofs file, as they are read and written.
 #![tactic(auto)]
 
-pub mod halves;
 pub mod lines;
 mod normal;
 mod read;

@@ -85,7 +85,7 @@ fn find_head(heads: &[Head], given: usize, id: u32) -> Option<usize>
 }
 
 impl Lines {
-    ghost use Rattle.std.specs.Prelude.{◌≡◌, ◌≢◌, ◌↔◌, ◌+◌, ◌<◌, ◌≤◌, ℕ, [], ◌∷◌, ◌++◌, length, IsTrue, All, OnOk, OnErr, IfOk, MatchOption};
+    ghost use Rattle.std.specs.Prelude.{◌≡◌, ◌≢◌, ◌+◌, ◌<◌, ◌≤◌, ℕ, [], ◌∷◌, ◌++◌, length, All, OnOk, OnErr, IfOk, MatchOption};
     ghost use Rattle.rg_hint_lines.specs.Lines.{IsHintLiteral, HintLine, Section, hint_line_at, IsSection};
 
     /// No lines, over so many given clauses.
@@ -120,13 +120,6 @@ impl Lines {
         ensures section { IsSection self.now }
     {
         self.heads.len()
-    }
-
-    /// How many clauses are given.
-    pub(crate) fn given(&self) -> usize
-        ensures { result ≡ self.now.given }
-    {
-        self.given
     }
 
     /// What is known of every section, for proofs: there is nothing to do.
@@ -178,37 +171,6 @@ impl Lines {
         ensures section { IsSection self.now }
     {
         find_head(&self.heads, self.given, id)
-    }
-
-    /// Whether each line's number is greater than this count.
-    fn are_above(&self, count: usize) -> bool
-        ensures { IsTrue result ↔ All (λ line. count < line.id) self.now.lines }
-    {
-        self.facts();
-        self.len() == 0 || self.id(0) as usize > count
-    }
-
-    /// The same lines over so many given clauses; none where a line's number isn't greater than their count.
-    pub fn over(self, clauses: usize) -> Option<Self>
-        ensures { MatchOption result
-            (All (λ line. clauses < line.id) self.lines → ⊥)
-            (λ lines. lines ≡ record self { given = clauses }) }
-    {
-        if !self.are_above(clauses) {
-            return None;
-        }
-        let Lines {
-            given: _,
-            heads,
-            literals,
-            hints,
-        } = self;
-        Some(Lines {
-            given: clauses,
-            heads,
-            literals,
-            hints,
-        })
     }
 
     /// The lines with one more. After an error they are gone.

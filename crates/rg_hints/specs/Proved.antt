@@ -63,13 +63,6 @@ IsConditionRefusal section k c e =
     ⊎ ((MOST_VARIABLES < (clauses_of_condition c).variables) × (e ≡ refused_in Limit Derivation (Condition k)))
     ⊎ (((clauses_of_condition c).variables ≤ MOST_VARIABLES) × IsUnclosed (clauses_of_condition c).clauses k section e)
 
--- why the clauses of the condition with this number and the hint lines of its section are not had: for want of memory, or since it has too many variables, or else for the first faulty line
-abbrev pub IsUnprepared : SectionText → ℕ → ConditionTree → Refusal → Type 0
-IsUnprepared text k c e =
-    (e ≡ no_memory)
-    ⊎ ((MOST_VARIABLES < (clauses_of_condition c).variables) × (e ≡ refused_in Limit Derivation (Condition k)))
-    ⊎ (((clauses_of_condition c).variables ≤ MOST_VARIABLES) × (hints_in text (length (clauses_of_condition c).clauses) ≡ Err e))
-
 -- the refusal of the first condition that is not proved, of those that are numbered from this number on
 abbrev pub IsFirstRefusal : List SectionText → ℕ → List ConditionTree → Refusal → Type 0
 IsFirstRefusal sections k [] e = ⊥

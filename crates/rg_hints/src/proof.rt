@@ -1,55 +1,65 @@
 //! Whether a proofs file proves conditions.
 
-ghost use Rattle.std.specs.Prelude.{◌≡◌, ◌⊎◌, ℕ, ◌+◌, ◌<◌, Some, None, List, length, map, drop, option_map, vec_len, IfOk, OnOk, IfErr, IfSome};
+ghost use Rattle.std.specs.Prelude.{◌≡◌, ◌⊎◌, ℕ, ◌+◌, ◌^◌, ◌<◌, List, length, map, drop, option_map, vec_len, IfOk, OnOk, IfErr, IfSome};
 ghost use Rattle.rg_words.specs.Refusals.{no_memory};
 ghost use Rattle.rg_tree.specs.Conditions.{condition_tree, ConditionHolds};
 ghost use Rattle.rg_tree.specs.RuleConditions.{AllConditionsHold};
-ghost use Rattle.rg_hints.specs.Proved.{section_for, IsProvedBy, AllProvedFrom, AreProved, IsConditionRefusal, IsFirstRefusal, IsProofsRefusal};
+ghost use Rattle.rg_clauses.specs.ClauseLists.{IsUnsatisfiable};
+ghost use Rattle.rg_hints.specs.Proved.{section_for, Closes, AreClosedBy, IsProvedBy, AllProvedFrom, AreProved, IsUnclosed, IsConditionRefusal, IsFirstRefusal, IsProofsRefusal};
 ghost use Rattle.rg_hint_lines.specs.Sections.{SectionText};
 ghost use Rattle.rg_hints.specs.Placed.{text_of, HasRoom, AreFrom, HasSections, IsHeadsRefusal, ArePlaced};
 
 use crate::section::{Checker, OneThread, has_empty_clause};
 use rg_clauses::Clauses;
+use rg_hint_lines::lines::Lines;
 use rg_hint_lines::sections::{SectionBytes, read_sections};
 use rg_tree::condition::Condition;
 use rg_words::limits::MOST_PROOF_BYTES;
 use rg_words::{Place, Refusal, RefusalNumber, SourceFile};
 use std::alloc::{AllocError, Global};
 
-/// Whether the condition with this number is proved by its section.
-fn prove_by<C: Checker>(
+/// Whether the lines of a section close the clauses of its condition.
+fn close_by<C: Checker>(
     checker: &C,
     alloc: Global,
-    condition: &Condition,
+    clauses: &Clauses,
     number: u64,
     section: SectionBytes<'_>,
 ) -> Result<(), Refusal>
     requires room { HasRoom section }
     requires ready { C.can_check checker.now }
-    ensures proved { OnOk result (IsProvedBy (Some (text_of section.entry)) (condition_tree condition.now)) }
-    ensures holds { OnOk result (ConditionHolds (condition_tree condition.now)) }
-    ensures refused { IfErr result (IsConditionRefusal (Some (text_of section.entry)) number (condition_tree condition.now)) }
-    ensures only { IsProvedBy (Some (text_of section.entry)) (condition_tree condition.now) → IfErr result (λ e. e ≡ no_memory) }
+    ensures closed { OnOk result (Closes clauses.now.clauses (text_of section.entry)) }
+    ensures unsatisfiable { OnOk result (IsUnsatisfiable clauses.now.clauses) }
+    ensures refused { IfErr result (λ e. (e ≡ no_memory) ⊎ IsUnclosed clauses.now.clauses number (Some (text_of section.entry)) e) }
+    ensures only { Closes clauses.now.clauses (text_of section.entry) → IfErr result (λ e. e ≡ no_memory) }
 {
-    let (clauses, lines) = match checker.prepare(alloc, condition, number, section) {
-        Ok(prepared) => prepared,
+    let lines = match Lines::read(alloc, section.bytes, section.first_line, clauses.len()) {
+        Ok(lines) => lines,
         Err(refusal) => return Err(refusal),
     };
-    checker.check(alloc, number, &clauses, &lines)
+    checker.check(alloc, number, clauses, &lines)
 }
 
-/// Whether the condition with this number, which has no section, is proved: one of its clauses is empty.
-fn prove_alone(alloc: Global, condition: &Condition, number: u64) -> Result<(), Refusal>
-    ensures proved { OnOk result (IsProvedBy None (condition_tree condition.now)) }
-    ensures holds { OnOk result (ConditionHolds (condition_tree condition.now)) }
-    ensures refused { IfErr result (IsConditionRefusal None number (condition_tree condition.now)) }
-    ensures only { IsProvedBy None (condition_tree condition.now) → IfErr result (λ e. e ≡ no_memory) }
+/// Whether clauses, which are those of the condition with this number, are closed by its section; without one,
+/// whether one of them is empty.
+fn close<C: Checker>(
+    checker: &C,
+    alloc: Global,
+    clauses: &Clauses,
+    number: u64,
+    section: Option<SectionBytes<'_>>,
+) -> Result<(), Refusal>
+    requires room { IfSome section HasRoom }
+    requires ready { C.can_check checker.now }
+    ensures closed { OnOk result (AreClosedBy clauses.now.clauses (option_map text_of section.entry)) }
+    ensures unsatisfiable { OnOk result (IsUnsatisfiable clauses.now.clauses) }
+    ensures refused { IfErr result (λ e. (e ≡ no_memory) ⊎ IsUnclosed clauses.now.clauses number (option_map text_of section.entry) e) }
+    ensures only { AreClosedBy clauses.now.clauses (option_map text_of section.entry) → IfErr result (λ e. e ≡ no_memory) }
 {
-    let clauses = match Clauses::of(alloc, condition, SourceFile::Derivation, number) {
-        Ok(clauses) => clauses,
-        Err(refusal) => return Err(refusal),
-    };
-    if has_empty_clause(&clauses) {
+    if let Some(section) = section {
+        return close_by(checker, alloc, clauses, number, section);
+    }
+    if has_empty_clause(clauses) {
         return Ok(());
     }
     Err(Refusal::at(
@@ -80,10 +90,11 @@ pub fn prove_condition<C: Checker>(
     ensures refused { IfErr result (IsConditionRefusal (option_map text_of section.entry) number (condition_tree condition.now)) }
     ensures only { IsProvedBy (option_map text_of section.entry) (condition_tree condition.now) → IfErr result (λ e. e ≡ no_memory) }
 {
-    match section {
-        Some(section) => prove_by(checker, alloc, condition, number, section),
-        None => prove_alone(alloc, condition, number),
-    }
+    let clauses = match Clauses::of(alloc, condition, SourceFile::Derivation, number) {
+        Ok(clauses) => clauses,
+        Err(refusal) => return Err(refusal),
+    };
+    close(checker, alloc, &clauses, number, section)
 }
 
 /// The section of the condition with this number, if it has one, and the place of the first section behind it. From the

@@ -1,8 +1,9 @@
 -- answers at the places of their numbers
-use Rattle.std.proofs.Common.{◌≡◌, ℕ, ◌<◌, Option, Some, None, Result, Ok, Vec, Global, List, [], ◌∷◌, ◌++◌, length, get_or, set, refl, sym, ap, subst, ◌∙◌, inl, inr, ⊎_elim, arith, length-set}
+use Rattle.std.proofs.Common.{◌≡◌, ℕ, ◌<◌, Option, Some, None, Result, Ok, Vec, Global, List, [], ◌∷◌, ◌++◌, length, get_or, set, refl, sym, ap, subst, ◌∙◌, inl, inr, ⊎_elim, arith, length-set, length-append}
+use Rattle.std.proofs.Math.ListN.{get_or-append}
 use Rattle.std.specs.Prelude.{All, Contains, IfSome, IfOk}
 use Rattle.std.proofs.lemmas.List.{get_or-set_same, get_or-set_other}
-use Rattle.std.proofs.lemmas.List.Elements.{All-append, All-contains, Contains-append_left, Contains-append_right}
+use Rattle.std.proofs.lemmas.List.Elements.{All-contains, Contains-append_left, Contains-append_right}
 use Rattle.std.proofs.lemmas.Result.{IfOk-at_ok}
 use Rattle.std.proofs.lemmas.Bool.Decides.{eqb_tells}
 use Rattle.std.specs.declared.alloc.AllocError.{AllocError}
@@ -31,22 +32,41 @@ module _ {X : Type 0} (answers : List (ℕ × X)) (old mid : List (Option X)) wh
         (eqb_tells i k);
   }
 
--- answers are of this kind, to numbers below the count
-abbrev pub AreAnswers : {X : Type 0} → (ℕ → X → Type 0) → ℕ → List (ℕ × X) → Type 0
-AreAnswers P count answers = All (λ a. (a.0 < count) × P a.0 a.1) answers
+-- each part that a thread gave holds answers of this kind, to numbers below the count
+pub record AreParts {X : Type 0} (P : ℕ → X → Type 0) (count : ℕ) (parts : List (Result (Vec (ℕ × X) Global) AllocError)) : Type 0 where
+  pub all : All (λ r. IfOk r (λ v. All (λ a. (a.0 < count) × P a.0 a.1) v.items)) parts
 
--- what two threads gave, put together
-pub both_are : {X : Type 0} (P : ℕ → X → Type 0) (count : ℕ) (zs : List (ℕ × X)) (r s : Result (Vec (ℕ × X) Global) AllocError) (v w : Vec (ℕ × X) Global)
-    → r ≡ Ok v → s ≡ Ok w → IfOk r (λ u. AreAnswers P count u.items) → IfOk s (λ u. AreAnswers P count u.items) → zs ≡ v.items ++ w.items → AreAnswers P count zs
-both_are {X = X} P count zs r s v w is_v is_w first second same =
-    let K : Vec (ℕ × X) Global → Type 0 = λ u. AreAnswers P count u.items in
-    subst (λ us. AreAnswers P count us) (sym same) (All-append (λ a. (a.0 < count) × P a.0 a.1) v.items w.items (IfOk-at_ok K is_v first) (IfOk-at_ok K is_w second))
+-- each place holds an answer of this kind, or none
+pub record AreKept {X : Type 0} (P : ℕ → X → Type 0) (count : ℕ) (places : List (Option X)) : Type 0 where
+  pub each : (i : ℕ) → i < count → IfSome (get_or places i None) (P i)
 
--- the answers at the places of their numbers, where nothing stood
-pub each_answered : {X : Type 0} (P : ℕ → X → Type 0) (count : ℕ) (answers : List (ℕ × X)) (old new : List (Option X))
-    → AreAnswers P count answers → All (λ a. a ≡ None) old → Fills answers old new → (i : ℕ) → i < length old → IfSome (get_or new i None) (P i)
-each_answered P count answers old new are empty filled i small =
-    ⊎_elim
-    (λ same. subst (λ o. IfSome o (P i)) (sym (same ∙ empty i None small)) tt)
-    (λ found. subst (λ o. IfSome o (P i)) (sym found.2) (All-contains (λ a. (a.0 < count) × P a.0 a.1) answers (i, found.0) are found.1).1)
-    (filled.each i)
+module _ {X : Type 0} {P : ℕ → X → Type 0} {count : ℕ} (parts rest : List (Result (Vec (ℕ × X) Global) AllocError)) (part : Result (Vec (ℕ × X) Global) AllocError) (v : Vec (ℕ × X) Global) (are : AreParts P count parts) (taken : parts ≡ rest ++ part ∷ []) where
+  abbrev OfKind : Vec (ℕ × X) Global → Type 0
+  OfKind w = All (λ a. (a.0 < count) × P a.0 a.1) w.items
+
+  -- what a part holds
+  in_part : part ≡ Ok v → OfKind v
+  in_part is = IfOk-at_ok OfKind is (All-contains (λ r. IfOk r OfKind) parts part are.all (last_in parts rest part taken))
+
+  -- its numbers are below the count
+  pub part_below : part ≡ Ok v → (k : ℕ) (d : ℕ × X) → k < length v.items → (get_or v.items k d).0 < count
+  part_below is k d small = (in_part is k d small).0
+
+  -- the parts that are left
+  pub parts_left : AreParts P count rest
+  parts_left = record {
+    all = λ k d small.
+        let h = are.all k d (subst (λ zs. k < length zs) (sym taken) (omega (arith, length-append rest (part ∷ []), small))) in
+        let same : get_or parts k d ≡ get_or rest k d = ap (λ zs. get_or zs k d) taken ∙ get_or-append rest (part ∷ []) d k small in
+        subst (λ r. IfOk r OfKind) same h;
+  }
+
+  -- places with the answers of a part
+  pub kept_more : part ≡ Ok v → (old new : List (Option X)) → Fills v.items old new → AreKept P count old → AreKept P count new
+  kept_more is old new f before = record {
+    each = λ i small.
+        ⊎_elim
+        (λ e. subst (λ o. IfSome o (P i)) (sym e) (before.each i small))
+        (λ found. subst (λ o. IfSome o (P i)) (sym found.2) (All-contains (λ a. (a.0 < count) × P a.0 a.1) v.items (i, found.0) (in_part is) found.1).1)
+        (f.each i);
+  }

@@ -1,3 +1,3 @@
 pub mod DealSteps
-pub mod RoundSteps
+pub mod EmptySteps
 pub mod VerdictSteps

@@ -1,5 +1,5 @@
 -- What only contracts of private functions and proofs speak of: no public contract reaches it.
 pub mod Deals
+pub mod Empties
 pub mod PieceAnswers
-pub mod Rounds
 pub mod Verdicts

@@ -1,25 +1,27 @@
-//! A section that is checked in four pieces by four threads.
+//! A section that is checked in four pieces, each in a thread of its own.
 
-ghost use Rattle.std.specs.Prelude.{◌≡◌, ◌↔◌, ◌<◌, ◌≤◌, ℕ, [], None, length, slice_index_or, IsTrue, MatchResult, OnOk, IfErr, IfSome};
+ghost use Rattle.std.specs.Prelude.{◌≡◌, ◌↔◌, ◌+◌, ◌<◌, ◌≤◌, length, IsTrue, MatchResult, IfOk, OnOk, IfErr};
 ghost use Rattle.rg_clauses.specs.ClauseLists.{IsFormula, IsUnsatisfiable};
 ghost use Rattle.rg_words.specs.Refusals.{no_memory};
-ghost use Rattle.rg_hints.specs.Lines.{hint_line_at};
 ghost use Rattle.rg_hints.specs.Verdict.{HasEmpty, IsClosed, IsSectionRefusal};
-ghost use Rattle.rg_pool.specs.Inner.PieceAnswers.{IsPieceAnswer, IsPartAnswer};
+ghost use Rattle.rg_pool.specs.Inner.Empties.{IsEmptyAt, IsMarkOf};
+ghost use Rattle.rg_pool.specs.Inner.PieceAnswers.{IsPieceAnswer};
 
-use crate::dealing::deal;
+use rayon::prelude::*;
 use rg_clauses::Clauses;
-use rg_hints::{Lines, check, check_piece, has_empty_clause, has_empty_line};
+use rg_hints::{Lines, check, check_piece};
 use rg_words::{Place, Refusal, RefusalNumber, SourceFile};
 use std::alloc::{AllocError, Global};
-use std::thread::Threads;
+use std::sync::Wait;
+use std::thread;
+use std::thread::{Promise, PromisedHandle, Scope, Threads};
 
 /// The least count of lines of a section that is cut into pieces.
 pub const LEAST_LINES: usize = 512;
 
-/// Is told before each piece of a section is begun, in the thread that begins it.
+/// Is told before each piece of a section is checked, in the thread that checks it.
 pub trait Pieces {
-    /// The piece with this number, from 0 to 3, is begun next in this thread.
+    /// The piece with this number, from 1 to 4, is checked next in this thread.
     fn before(&self, piece: usize);
 }
 
@@ -32,13 +34,13 @@ impl Pieces for Untold {
 }
 
 /// Whether memory was refused.
-pub(crate) fn ran_out<T>(answer: &Result<T, Refusal>) -> bool {
+pub(crate) fn ran_out(answer: &Result<(), Refusal>) -> bool {
     matches!(answer, Err(refusal) if refusal.number == RefusalNumber::Memory)
 }
 
 /// The answer for two pieces side by side, from the answers for each: that of the first that is refused. Refused memory
 /// goes before all else.
-pub(crate) fn joined(
+fn joined(
     clauses: &Clauses,
     lines: &Lines,
     from: usize,
@@ -62,95 +64,102 @@ pub(crate) fn joined(
     second
 }
 
-/// How many parts each piece is cut into. A thread that is done with one takes the next that is left, of whichever piece, so that none of them waits for
-/// one that has no processor.
-const PARTS: usize = 8;
-
-/// The answer for the lines from one place on and before another.
+/// The lines of a section from one place on and before another, which one thread checks.
 #[derive(Clone, Copy)]
-pub struct PartAnswer {
-    pub from: usize,
-    pub to: usize,
-    pub answer: Result<(), Refusal>,
+struct PieceOf<'a> {
+    clauses: &'a Clauses,
+    lines: &'a Lines,
+    from: usize,
+    to: usize,
 }
 
-/// Where a piece begins, which count from 0; the fourth ends behind the last line.
-fn piece_start(all: usize, piece: usize) -> usize {
-    if piece < 4 {
-        (all / 4).saturating_mul(piece)
-    } else {
-        all
-    }
-}
-
-/// Where a part of a piece begins; behind the last part begins the next piece.
-fn part_start(all: usize, piece: usize, part: usize) -> usize {
-    let from = piece_start(all, piece);
-    let to = piece_start(all, piece.saturating_add(1));
-    if part < PARTS {
-        from.saturating_add((to.saturating_sub(from) / PARTS).saturating_mul(part))
-    } else {
-        to
-    }
-}
-
-/// The answer for the part that is taken at a turn: first the first part of each piece, then the second of each, and so on.
-fn part_answer<P: Pieces>(
-    alloc: Global,
-    clauses: &Clauses,
-    lines: &Lines,
-    pieces: &P,
-    turn: usize,
-) -> Option<PartAnswer>
-    requires { lines.now.given ≡ length clauses.now.clauses }
-    ensures { IfSome result (IsPartAnswer clauses.now.clauses lines.now) }
-{
-    let piece = turn % 4;
-    let part = turn / 4;
-    if part == 0 {
-        pieces.before(piece);
-    }
-    let from = part_start(lines.len(), piece, part);
-    let to = part_start(lines.len(), piece, part + 1);
-    if from > to || to > lines.len() {
-        return None;
-    }
-    let answer = check_piece(alloc, clauses, lines, from, to);
-    Some(PartAnswer { from, to, answer })
-}
-
-/// Whether all lines follow, from the answers for the parts; nothing, where these don't stand one behind the other from
-/// the first line to the last.
-fn followed(
-    clauses: &Clauses,
-    lines: &Lines,
-    answers: &[Option<PartAnswer>],
-) -> Option<Result<(), Refusal>>
-    requires { (k : ℕ) → k < length answers.now → IfSome (slice_index_or answers.now k None) (IsPartAnswer clauses.now.clauses lines.now) }
-    ensures { IfSome result (IsPieceAnswer clauses.now.clauses lines.now 0 (length lines.now.lines)) }
-{
-    let mut at = 0;
-    let mut answer = Ok(());
-    for number in 0..4 * PARTS {
-        let turn = number % PARTS * 4 + number / PARTS;
-        let Some(Some(next)) = answers.get(turn) else {
-            return None;
-        };
-        if next.from != at || next.to < at {
-            return None;
+impl<'a> PieceOf<'a> {
+    fn new(clauses: &'a Clauses, lines: &'a Lines, from: usize, to: usize) -> Self
+        ensures clauses { result.clauses.now ≡ clauses.now }
+        ensures lines { result.lines.now ≡ lines.now }
+        ensures from { result.from ≡ from }
+        ensures to { result.to ≡ to }
+    {
+        PieceOf {
+            clauses,
+            lines,
+            from,
+            to,
         }
-        answer = joined(clauses, lines, 0, at, next.to, answer, next.answer);
-        at = next.to;
-    }
-    if at == lines.len() {
-        Some(answer)
-    } else {
-        None
     }
 }
 
-/// Whether all lines follow, in four pieces of a quarter of the lines; the last takes the rest.
-fn check_four<R: Threads + Sync, P: Pieces + Sync>(
+impl<'a> Promise<Result<(), Refusal>> for PieceOf<'a> {
+    // What the thread leaves is the answer for these lines.
+    ghost kept_by = { λ p r. IsPieceAnswer p.clauses.now.clauses p.lines.now p.from p.to r };
+}
+
+/// Begins to check a piece in a thread of its own, which is told the piece's number first.
+fn begin<'s, E, P: Pieces + Sync>(
+    alloc: Global,
+    scope: &Scope<'s, E>,
+    pieces: &'s P,
+    number: usize,
+    piece: PieceOf<'s>,
+) -> Result<PromisedHandle<Result<(), Refusal>, PieceOf<'s>>, AllocError>
+    requires given { piece.lines.now.given ≡ length piece.clauses.now.clauses }
+    requires order { piece.from ≤ piece.to }
+    requires bound { piece.to ≤ length piece.lines.now.lines }
+    ensures { IfOk result (λ h. h.promise ≡ piece.entry) }
+{
+    let PieceOf {
+        clauses,
+        lines,
+        from,
+        to,
+    } = piece;
+    let begun = scope.spawn_with(
+        piece,
+        move || -> Result<(), Refusal>
+            requires { (lines.now.given ≡ length clauses.now.clauses) × (from ≤ to) × (to ≤ length lines.now.lines) }
+            ensures { IsPieceAnswer clauses.entry.now.clauses lines.entry.now from to result }
+        {
+            pieces.before(number);
+            check_piece(alloc, clauses, lines, from, to)
+        },
+    );
+    match begun {
+        Ok(thread) => Ok(thread),
+        Err(_) => Err(AllocError),
+    }
+}
+
+/// Whether all lines follow, in four pieces of a quarter of the lines, each in a thread of this scope; the last takes the rest.
+fn check_in<'s, E, R: Threads, P: Pieces + Sync>(
+    rt: &R,
+    alloc: Global,
+    scope: &Scope<'s, E>,
+    clauses: &'s Clauses,
+    lines: &'s Lines,
+    pieces: &'s P,
+) -> Result<(), Refusal>
+    requires { lines.now.given ≡ length clauses.now.clauses }
+    ensures { IsPieceAnswer clauses.now.clauses lines.now 0 (length lines.now.lines) result }
+{
+    let all = lines.len();
+    let quarter = all / 4;
+    let piece = PieceOf::new(clauses, lines, 0, quarter);
+    let first = begin(alloc, scope, pieces, 1, piece)?;
+    let piece = PieceOf::new(clauses, lines, quarter, 2 * quarter);
+    let second = begin(alloc, scope, pieces, 2, piece)?;
+    let piece = PieceOf::new(clauses, lines, 2 * quarter, 3 * quarter);
+    let third = begin(alloc, scope, pieces, 3, piece)?;
+    let piece = PieceOf::new(clauses, lines, 3 * quarter, all);
+    let fourth = begin(alloc, scope, pieces, 4, piece)?;
+    let (first, second) = (first.join(rt), second.join(rt));
+    let (third, fourth) = (third.join(rt), fourth.join(rt));
+    let front = joined(clauses, lines, 0, quarter, 2 * quarter, first, second);
+    let back = joined(clauses, lines, 2 * quarter, 3 * quarter, all, third, fourth);
+    joined(clauses, lines, 0, 2 * quarter, all, front, back)
+}
+
+/// The same, in a scope of its own: all threads are joined when it returns.
+fn check_four<R: Threads + Wait + Sync, P: Pieces + Sync>(
     rt: &R,
     alloc: Global,
     clauses: &Clauses,
@@ -160,86 +169,77 @@ fn check_four<R: Threads + Sync, P: Pieces + Sync>(
     requires { lines.now.given ≡ length clauses.now.clauses }
     ensures { IsPieceAnswer clauses.now.clauses lines.now 0 (length lines.now.lines) result }
 {
-    let answers = deal(
+    thread::scope(
+        thread::scope_env(),
         rt,
-        alloc,
-        4,
-        4 * PARTS,
-        &|turn: usize| -> Option<PartAnswer>
+        |scope| -> Result<(), Refusal>
             requires { lines.now.given ≡ length clauses.now.clauses }
-            ensures { IfSome result (IsPartAnswer clauses.entry.now.clauses lines.entry.now) }
-        { part_answer(alloc, clauses, lines, pieces, turn) },
-    )?;
-    match followed(clauses, lines, &answers) {
-        Some(answer) => answer,
-        None => check_piece(alloc, clauses, lines, 0, lines.len()),
-    }
+            ensures { IsPieceAnswer clauses.entry.now.clauses lines.entry.now 0 (length lines.entry.now.lines) result }
+        { check_in(rt, alloc, scope, clauses, lines, pieces) },
+    )
 }
 
-/// Whether the last line is empty.
-fn is_last_empty(lines: &Lines) -> bool
-    ensures { IsTrue result → ((k : ℕ) × (k < length lines.now.lines) × ((hint_line_at lines.now k).literals ≡ [])) }
+/// The count of the given clauses and the lines together.
+fn count_all(clauses: &Clauses, lines: &Lines) -> usize
+    requires given { lines.now.given ≡ length clauses.now.clauses }
+    requires some { 0 < length lines.now.lines }
+    ensures count { result ≡ length clauses.now.clauses + length lines.now.lines }
+    ensures formula { IsFormula clauses.now }
 {
-    match lines.len().checked_sub(1) {
-        Some(last) => lines.literals(last).is_empty(),
-        None => false,
-    }
+    let count = lines.len();
+    // The number of the last line, of 32 bits, is no less.
+    let _greatest = lines.id(count - 1);
+    clauses.len() + count
 }
 
-/// Whether a line is empty. Where one is, it mostly is the last.
-fn has_empty_hint_line(lines: &Lines) -> bool
-    ensures { IsTrue result ↔ ((k : ℕ) × (k < length lines.now.lines) × ((hint_line_at lines.now k).literals ≡ [])) }
+/// Whether the clause at this place is empty: a given one, or, behind all of those, that of a line.
+fn is_empty_at(clauses: &Clauses, lines: &Lines, place: usize) -> bool
+    requires { place < length clauses.now.clauses + length lines.now.lines }
+    ensures { IsTrue result ↔ IsEmptyAt clauses.now.clauses lines.now place }
 {
-    is_last_empty(lines) || has_empty_line(lines)
+    let given = clauses.len();
+    if place < given {
+        return clauses.literals(place).is_empty();
+    }
+    lines.literals(place - given).is_empty()
 }
 
-/// Whether a given clause or a line is empty.
-fn has_empty(clauses: &Clauses, lines: &Lines) -> bool
+/// Whether a given clause or a line is empty: how many are is added up in threads, 1 for each of them and 0 for the others.
+fn has_empty<R: Threads + Sync>(rt: &R, clauses: &Clauses, lines: &Lines) -> bool
+    requires given { lines.now.given ≡ length clauses.now.clauses }
+    requires some { 0 < length lines.now.lines }
     ensures answer { IsTrue result ↔ HasEmpty clauses.now.clauses lines.now }
     ensures formula { IsFormula clauses.now }
 {
-    has_empty_clause(clauses) || has_empty_hint_line(lines)
+    let count = count_all(clauses, lines);
+    let empty: usize = (0..count)
+        .into_par_iter()
+        .map(
+            |place: usize| -> usize
+                requires { place < length clauses.now.clauses + length lines.now.lines }
+                ensures { IsMarkOf clauses.entry.now.clauses lines.entry.now place result }
+            {
+                if is_empty_at(clauses, lines, place) {
+                    1
+                } else {
+                    0
+                }
+            },
+        )
+        .sum(rt);
+    empty > 0
 }
 
-/// Whether the section of this condition, which counts from 1, is closed, from whether all its lines follow.
-pub(crate) fn closed(
-    condition: u64,
-    clauses: &Clauses,
-    lines: &Lines,
-    followed: Result<(), Refusal>,
-) -> Result<(), Refusal>
-    requires given { lines.now.given ≡ length clauses.now.clauses }
-    requires followed { IsPieceAnswer clauses.now.clauses lines.now 0 (length lines.now.lines) followed }
-    ensures section { MatchResult result
-        (λ _. IsClosed clauses.now.clauses lines.now)
-        (IsSectionRefusal clauses.now.clauses lines.now condition) }
-    ensures unsatisfiable { OnOk result (IsUnsatisfiable clauses.now.clauses) }
-    ensures only { IsClosed clauses.now.clauses lines.now → IfErr result (λ r. r ≡ no_memory) }
-{
-    lines.facts();
-    if let Err(refusal) = followed {
-        return Err(refusal);
-    }
-    if has_empty(clauses, lines) {
-        return Ok(());
-    }
-    Err(Refusal::at(
-        RefusalNumber::NoEmptyClause,
-        SourceFile::Proofs,
-        Place::Condition(condition),
-    ))
-}
-
-/// Whether the section of this condition, which counts from 1, is closed: the answer of `rg_hints::check`, found in four
-/// threads where the section has `LEAST_LINES` lines or more. `pieces` is then told before each piece, in the thread that begins it.
-///
-/// A thread that can't be had costs time alone.
+/// Whether the section of this condition, which counts from 1, is closed: the answer of `rg_hints::check`. A section of
+/// `LEAST_LINES` lines or more is checked in four pieces, each in a thread of its own, in which `pieces` is told first; the first three
+/// have a quarter of the lines each, rounded down. A shorter one is checked in the thread that asks.
 ///
 /// # Errors
 ///
 /// As `rg_hints::check`: the number of the least line that doesn't follow, or `NoEmptyClause` at the condition where all
-/// lines follow and nothing is empty. `Memory` where memory is refused in any thread; all threads are joined then too.
-pub fn check_all<R: Threads + Sync, P: Pieces + Sync>(
+/// lines follow and nothing is empty. `Memory` where memory is refused in any thread, or a piece has no thread, since none can be had; all
+/// threads are joined then too.
+pub fn check_all<R: Threads + Wait + Sync, P: Pieces + Sync>(
     rt: &R,
     alloc: Global,
     condition: u64,
@@ -263,6 +263,16 @@ pub fn check_all<R: Threads + Sync, P: Pieces + Sync>(
     if lines.len() < LEAST_LINES {
         return check(alloc, condition, clauses, lines);
     }
-    let followed = check_four(rt, alloc, clauses, lines, pieces);
-    closed(condition, clauses, lines, followed)
+    lines.facts();
+    if let Err(refusal) = check_four(rt, alloc, clauses, lines, pieces) {
+        return Err(refusal);
+    }
+    if has_empty(rt, clauses, lines) {
+        return Ok(());
+    }
+    Err(Refusal::at(
+        RefusalNumber::NoEmptyClause,
+        SourceFile::Proofs,
+        Place::Condition(condition),
+    ))
 }

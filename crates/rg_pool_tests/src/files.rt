@@ -2,9 +2,10 @@
 
 use rg_clauses::Clauses;
 use rg_hints::{Lines, check};
-use rg_pool::{Untold, check_all};
+use rg_pool::{Untold, check_all, check_piece};
 use rg_words::{Place, Refusal, RefusalNumber, SourceFile};
 use std::alloc::{AllocError, Global};
+use std::sync::Wait;
 use std::test::Fail;
 use std::thread::Threads;
 
@@ -46,7 +47,7 @@ pub(crate) fn text_of(
 }
 
 /// Whether both checks give this answer for a text of lines over the clauses.
-fn both_say<R: Threads + Sync>(
+fn both_say<R: Threads + Wait + Sync>(
     rt: &R,
     alloc: Global,
     clauses: &Clauses,
@@ -68,7 +69,7 @@ fn refused(number: RefusalNumber, line: u64) -> Result<(), Refusal> {
 }
 
 /// Whether both checks give this answer for 5,000 lines, of which these have other hints.
-fn file_is<R: Threads + Sync>(
+fn file_is<R: Threads + Wait + Sync>(
     rt: &R,
     alloc: Global,
     others: &[(u32, &str)],
@@ -99,6 +100,35 @@ fn the_least_bad_line_is_told(rt: HostRuntime) -> Result<(), Fail> {
 fn the_last_line_is_told(rt: HostRuntime) -> Result<(), Fail> {
     let told = refused(RefusalNumber::NoConflict, 5_000);
     let same = file_is(&rt, rt.alloc(), &[(5_000, "7")], &told)?;
+    assert!(rt; same);
+    Ok(())
+}
+
+/// Whether pieces of a file with two bad lines tell each the least of its own.
+fn pieces_tell_their_own(alloc: Global) -> Result<bool, Refusal> {
+    let clauses = implication(alloc)?;
+    let text = text_of(alloc, 5_000, &[(3_000, "7 1 5 4"), (4_500, "9000")])?;
+    let given = clauses.len();
+    if text.len() > 1_000_000 {
+        return Ok(false);
+    }
+    let lines = Lines::read(alloc, text.as_bytes(), 1, given)?;
+    if lines.len() < 5_000 {
+        return Ok(false);
+    }
+    let before = check_piece(alloc, &clauses, &lines, 0, 2_999);
+    let first = check_piece(alloc, &clauses, &lines, 1_000, 5_000);
+    let behind = check_piece(alloc, &clauses, &lines, 3_000, 5_000);
+    Ok(
+        before.is_ok()
+            && first == refused(RefusalNumber::HintNotUnit, 3_000)
+            && behind == refused(RefusalNumber::HintNotEarlier, 4_500),
+    )
+}
+
+#[test]
+fn a_piece_tells_its_least_bad_line(rt: HostRuntime) -> Result<(), Fail> {
+    let same = pieces_tell_their_own(rt.alloc())?;
     assert!(rt; same);
     Ok(())
 }

@@ -1,5 +1,5 @@
 -- Lines and statements of typed programs are typed.
-use Rattle.std.proofs.Common.{◌≡◌, ℕ, zero, suc, ◌<◌, List, [], ◌∷◌, ◌++◌, length, map, take, drop, get_or, Some, subst, sym, arith}
+use Rattle.std.proofs.Common.{◌≡◌, ℕ, zero, suc, ◌<◌, List, [], ◌∷◌, ◌++◌, length, map, get_or, Some, subst, sym, arith}
 use Rattle.std.specs.Prelude.{slice_get}
 use Rattle.rg_words.specs.Layout.{Word}
 use Rattle.rg_tree.specs.Statements.{Statement, skip, assign, await, sequence, branch, loop, Items, one, more, PartTree}
@@ -50,17 +50,3 @@ pub line_typed : (words : List Word) (lines : List DerivationLine) (i : ℕ) (li
 line_typed words [] i line h less at = absurd (omega arith)
 line_typed words (x ∷ lines) zero line h less at = subst (λ (l : DerivationLine). IsTypedSpecification words (specification l.spec)) (sym at) h.0
 line_typed words (x ∷ lines) (suc i) line h less at = line_typed words lines i line h.1 (omega arith) at
-
--- some of typed lines are typed
-drop_typed : (words : List Word) (lines : List DerivationLine) (n : ℕ) → AreTypedLines words (map line_tree lines) → AreTypedLines words (map line_tree (drop n lines))
-drop_typed words lines zero h = h
-drop_typed words [] (suc n) h = h
-drop_typed words (x ∷ lines) (suc n) h = drop_typed words lines n h.1
-
-take_typed : (words : List Word) (lines : List DerivationLine) (n : ℕ) → AreTypedLines words (map line_tree lines) → AreTypedLines words (map line_tree (take n lines))
-take_typed words lines zero h = tt
-take_typed words [] (suc n) h = tt
-take_typed words (x ∷ lines) (suc n) h = (h.0, take_typed words lines n h.1)
-
-pub between_typed : (words : List Word) (lines : List DerivationLine) (n m : ℕ) → AreTypedLines words (map line_tree lines) → AreTypedLines words (map line_tree (take n (drop m lines)))
-between_typed words lines n m h = take_typed words (drop m lines) n (drop_typed words lines m h)

@@ -1,6 +1,6 @@
 //! The conditions of the lines of a derivation.
 
-ghost use Rattle.std.specs.Prelude.{◌≡◌, ◌++◌, ◌-◌, ◌≤◌, ℕ, length, map, take, drop, OnOk, IfOk, Some};
+ghost use Rattle.std.specs.Prelude.{◌≡◌, ◌++◌, ℕ, length, map, OnOk, IfOk, Some};
 ghost use Rattle.rg_tree.specs.Statements.{Statement};
 ghost use Rattle.rg_tree.specs.Programs.{nth, PartsSatisfy};
 ghost use Rattle.rg_tree.specs.Conditions.{condition_tree};
@@ -25,21 +25,19 @@ use rg_tree::statement::Stmt;
 use rg_words::Layout;
 use std::alloc::{AllocError, Global};
 
-/// Adds the conditions of some of the lines, of which the statements are in this list.
+/// Adds the conditions of all lines, of which the statements are in this list.
 fn add_lines(
     alloc: Global,
     all: &mut Vec<Condition>,
     layout: &Layout,
     list: &[&Stmt],
     lines: &[DerivationLine],
-    some: &[DerivationLine],
 ) -> Result<(), AllocError>
     requires lines { AreTypedLines layout.now (map line_tree lines.now) }
-    requires some { AreTypedLines layout.now (map line_tree some.now) }
     requires statements { (n : ℕ) (s : Statement) → nth (map referred list.now) n ≡ Some s → IsTypedStatement layout.now s }
-    ensures { OnOk result (map condition_tree all.new.items ≡ map condition_tree all.old.items ++ map (as_condition layout.now) (conditions_asked (map referred list.now) (map line_tree lines.now) (map line_tree some.now))) }
+    ensures { OnOk result (map condition_tree all.new.items ≡ map condition_tree all.old.items ++ map (as_condition layout.now) (conditions_asked (map referred list.now) (map line_tree lines.now) (map line_tree lines.now))) }
 {
-    for line in some {
+    for line in lines {
         if let Some(s) = statement_at(list, line.number) {
             add_line(alloc, all, layout, lines, line, s)?;
         }
@@ -76,38 +74,6 @@ impl Derivation {
             &program.layout,
             list.as_slice(),
             self.lines.as_slice(),
-            self.lines.as_slice(),
-        )?;
-        Ok(all)
-    }
-
-    /// The conditions of the lines from one place on and before another, in their order; places count from 0. Those of all lines
-    /// are `conditions`.
-    ///
-    /// Refused only where memory was refused.
-    pub fn conditions_between(
-        &self,
-        alloc: Global,
-        program: &Program,
-        from: usize,
-        to: usize,
-    ) -> Result<Vec<Condition>, AllocError>
-        requires typed { AreTypedLines program.now.layout (map line_tree self.now.lines.items) }
-        requires order { from ≤ to }
-        requires bound { to ≤ length self.now.lines.items }
-        // Exactly the rules' list for these lines.
-        ensures { IfOk result (λ all. map condition_tree all.items ≡ map (as_condition program.now.layout) (conditions_asked (statements_of_parts (map part program.now.parts.items)) (map line_tree self.now.lines.items) (map line_tree (take (to - from) (drop from self.now.lines.items))))) }
-    {
-        let list = statements_by_number(alloc, program.parts.as_slice())?;
-        let lines = self.lines.as_slice();
-        let mut all = Vec::new(alloc);
-        add_lines(
-            alloc,
-            &mut all,
-            &program.layout,
-            list.as_slice(),
-            lines,
-            &lines[from..to],
         )?;
         Ok(all)
     }

@@ -24,14 +24,14 @@ use rg_monitor::record::Record;
 use rg_standing::walk::moves_stand;
 use rg_threads::gate::Gate;
 use rg_threads::log::print_all;
-use rg_threads::table::{Table, has_begun, stop};
-use rg_threads::threads::{Played, play_once};
+use rg_threads::table::{Table, stop};
+use rg_threads::threads::{Played, play_beside};
 use rg_tree::moves::Move;
 use rg_tree::program::Program;
 use rg_words::{Out, Refusal, RefusalNumber, State};
 use std::alloc::{AllocError, Global};
 use std::sync::{Condvar, Mutex, Wait};
-use std::thread::{Threads, join_mut};
+use std::thread::Threads;
 
 /// Prints what comes, and ends the run where that fails.
 fn print_or_stop<L: Round, W: Out, R: Wait>(
@@ -48,10 +48,6 @@ fn print_or_stop<L: Round, W: Out, R: Wait>(
     ensures failures { W.failures writer.new ≡ W.failures writer.old + failures_in result }
     ensures faults { IfErr result IsRunFault }
 {
-    if !has_begun(rt, table) {
-        stop(rt, table);
-        return Err(Refusal::new(RefusalNumber::Memory));
-    }
     let printed = print_all(rt, alloc, program, from, writer);
     if printed.is_err() {
         stop(rt, table);
@@ -94,14 +90,15 @@ fn play_and_print<L: Round + Send + Sync, G: Gate + Sync, W: Out, R: Threads + W
     ensures faults { IfErr result IsRunFault }
 {
     let (to, from) = crossbeam_channel::unbounded(alloc)?;
-    let mut seats = seats;
-    let mut to = Some(to);
-    let (played, printed) = join_mut(
+    let (played, printed) = play_beside(
         rt,
-        &mut || -> Result<Played<L>, AllocError>
-            requires { (program_tree program.now ≡ L.program) × AreMoves L.program.words (map move_tree moves.now) }
-            ensures { IfOk result (λ p. vec_len p.seats ≡ vec_len seats.entry) }
-        { play_once(rt, alloc, program, table, gate, moves, &mut seats, &mut to) },
+        alloc,
+        program,
+        table,
+        gate,
+        moves,
+        seats,
+        to,
         &mut || print_or_stop(rt, alloc, program, table, &from, writer),
     );
     both(played, printed)
@@ -195,14 +192,9 @@ pub fn run<'e, L: Round + Send + Sync, G: Gate + Sync, W: Out, R: Threads + Wait
     let table = Table {
         floor: Mutex::new(floor),
         changed: Condvar::new(),
-        begun: Mutex::new(false),
     };
     let (played, printed) = play_and_print(rt, alloc, program, &table, gate, moves, seats, writer)?;
-    let Table {
-        floor,
-        changed: _,
-        begun: _,
-    } = table;
+    let Table { floor, changed: _ } = table;
     finish(
         alloc,
         program,

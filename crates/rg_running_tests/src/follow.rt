@@ -1,5 +1,12 @@
-//! What `follows` says of traces of small programs over the words x and y, with the expected answers written by hand.
+//! What `follows` says of traces of small programs over the words x and y, with the expected answers written by hand; and that the machine does
+//! just those that it says are runs.
 
+ghost use Rattle.std.specs.Prelude.{◌≡◌};
+ghost use Rattle.rg_machine.specs.Replay.{EventFits};
+
+use rg_code::compile::compile;
+use rg_machine::config::Config;
+use rg_machine::event::Event;
 use rg_parse::{program, show, start};
 use rg_runs::{Step, Trace, follows};
 use rg_tree::program::Program;
@@ -37,10 +44,52 @@ fn answer(
     Ok(follows(alloc, read, &trace)?)
 }
 
+/// Whether the machine does this event, and then stands in this state.
+fn does(config: &mut Config, event: Event, after: &State) -> bool
+    requires { EventFits config.old event }
+    ensures words { config.new.words ≡ config.old.words }
+    ensures codes { config.new.codes ≡ config.old.codes }
+{
+    let events = [event];
+    config.replay(events.as_slice()) == 1 && config.words().same(after)
+}
+
+/// Whether the machine does this step, and then stands in the state that it leads to.
+fn does_step(
+    alloc: Global,
+    config: &mut Config,
+    layout: &Layout,
+    who: usize,
+    after: &str,
+) -> Result<bool, Refusal>
+    requires { config.old.words ≡ layout.now }
+    ensures { config.new.words ≡ layout.now }
+{
+    let after = start(alloc, layout, after.as_bytes())?;
+    if who == 0 {
+        let event = Event::Environment(after.copy()?);
+        return Ok(does(config, event, &after));
+    }
+    Ok(who <= config.parts() && does(config, Event::Part(who), &after))
+}
+
+/// Whether the machine does all of these steps in order, each into its state.
+fn does_all(alloc: Global, read: &Program, first: &str, steps: Steps) -> Result<bool, Refusal> {
+    let code = compile(alloc, read)?;
+    let first = start(alloc, &read.layout, first.as_bytes())?;
+    let mut config = Config::new(alloc, &code, first)?;
+    for (who, after) in steps {
+        if !does_step(alloc, &mut config, &read.layout, *who, after)? {
+            return Ok(false);
+        }
+    }
+    Ok(true)
+}
+
 /// A trace, and what is said of it: that it is no run, or whether the run has ended.
 type Row<'a> = (Steps<'a>, Option<bool>);
 
-/// Of each trace of a program this is said.
+/// Of each trace of a program this is said, and the machine does just the runs.
 fn expect_of(
     rt: &impl Abort,
     alloc: Global,
@@ -50,7 +99,8 @@ fn expect_of(
 ) -> Result<(), Fail> {
     for (steps, ended) in rows {
         let found = answer(alloc, read, first, steps)?;
-        assert!(rt; found == *ended);
+        let is_done = does_all(alloc, read, first, steps)?;
+        assert!(rt; found == *ended && is_done == ended.is_some());
     }
     Ok(())
 }
@@ -164,6 +214,30 @@ fn parts_take_turns(rt: HostRuntime) -> Result<(), Fail> {
         ([(3, "x = 1 y = 1")].as_slice(), None),
     ];
     expect(&rt, rt.alloc(), TWO_PARTS, "", rows.as_slice())
+}
+
+const EACH_SETS_A_WORD: &str = "words x:1 y:1
+pre true
+rely ((x' = x) and (y' = y))
+guar true
+post ((x = 1) and (y = 1))
+part a
+pre true rely (x' = x) guar (y' = y) post (x = 1)
+begin x := 1 end
+part b
+pre true rely (y' = y) guar (x' = x) post (y = 1)
+begin y := 1 end";
+
+#[test]
+fn each_part_sets_a_word(rt: HostRuntime) -> Result<(), Fail> {
+    let rows = [
+        ([].as_slice(), Some(false)),
+        ([(1, "x = 1")].as_slice(), Some(false)),
+        ([(1, "x = 1"), (2, "x = 1 y = 1")].as_slice(), Some(true)),
+        ([(1, "")].as_slice(), None),
+        ([(0, "x = 1 y = 1")].as_slice(), Some(false)),
+    ];
+    expect(&rt, rt.alloc(), EACH_SETS_A_WORD, "", rows.as_slice())
 }
 
 const FIXED: &str = "words x:2 fixed y:2 pre true rely true guar true post true

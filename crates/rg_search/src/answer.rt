@@ -2,7 +2,6 @@
 
 use crate::cases::close_cases;
 use crate::congruence::Classes;
-use crate::halves::{Halves, OneAfterOther, sweep_in_halves};
 use crate::leaves::{close_each, leaf_literals, refute_each};
 use crate::plain::{Twin, plain_values};
 use crate::refutation::Refutation;
@@ -142,53 +141,19 @@ fn sweep_gates<W: Watcher>(
 ) {
     solver.backtrack(0);
     if effort.conflicts > 0 && !solver.is_over() {
-        let mut sweep = Sweep::new(solver, circuit, classes, effort);
-        sweep.run_all(solver, circuit, classes, effort, watcher);
+        let mut sweep = Sweep::new(solver, circuit, classes);
+        sweep.run(solver, circuit, classes, effort, watcher);
     }
-}
-
-/// Sweeps in the same way, in two halves where that pays.
-fn sweep_by<W: Watcher, H: Halves>(
-    solver: &mut Solver,
-    circuit: &Circuit,
-    classes: &mut Classes,
-    effort: Effort,
-    watcher: &mut W,
-    halves: &H,
-)
-    requires { H.can_run halves.now }
-{
-    solver.backtrack(0);
-    if effort.conflicts == 0 || solver.is_over() {
-        return;
-    }
-    let mut sweep = Sweep::new(solver, circuit, classes, effort);
-    let Some(cut) = sweep.cut(solver, circuit, classes) else {
-        sweep.run_all(solver, circuit, classes, effort, watcher);
-        return;
-    };
-    if !sweep.is_long(solver, circuit, classes, cut, effort, watcher) {
-        let _end = sweep.run(
-            solver, circuit, classes, cut.start, cut.end, effort, watcher,
-        );
-        return;
-    }
-    sweep_in_halves(
-        solver, circuit, classes, sweep, effort, cut, watcher, halves,
-    );
 }
 
 /// The congruence closure, also under cases, a first sweep, and a first search.
-fn begin<W: Watcher, H: Halves>(
+fn begin<W: Watcher>(
     solver: &mut Solver,
     circuit: &Circuit,
     classes: &mut Classes,
     goal: &mut Goal,
     watcher: &mut W,
-    halves: &H,
-) -> Outcome
-    requires { H.can_run halves.now }
-{
+) -> Outcome {
     let steps = goal.decisions;
     close(solver, circuit, classes, steps);
     if steps > 0 && !solver.is_over() {
@@ -202,7 +167,7 @@ fn begin<W: Watcher, H: Halves>(
         work: limit(solver, steps, FIRST_SWEEP),
         most: limit(solver, steps, SWEEP),
     };
-    sweep_by(solver, circuit, classes, effort, watcher, halves);
+    sweep_gates(solver, circuit, classes, effort, watcher);
     close(solver, circuit, classes, steps);
     goal.conflicts = steps.min(FIRST_CONFLICTS);
     solver.search(circuit, goal, watcher)
@@ -253,19 +218,11 @@ fn go_on<W: Watcher>(
 }
 
 /// All phases.
-fn run<W: Watcher, H: Halves>(
-    solver: &mut Solver,
-    circuit: &Circuit,
-    steps: u64,
-    watcher: &mut W,
-    halves: &H,
-) -> Outcome
-    requires { H.can_run halves.now }
-{
+fn run<W: Watcher>(solver: &mut Solver, circuit: &Circuit, steps: u64, watcher: &mut W) -> Outcome {
     let alloc = solver.alloc;
     let mut classes = Classes::new(alloc, circuit.variables(), &mut solver.lacks_memory);
     let mut goal = Goal::whole(0, steps);
-    let outcome = begin(solver, circuit, &mut classes, &mut goal, watcher, halves);
+    let outcome = begin(solver, circuit, &mut classes, &mut goal, watcher);
     if outcome != Outcome::GaveUp || goal.decisions == 0 || solver.is_over() {
         return outcome;
     }
@@ -293,20 +250,17 @@ fn answer_of(
 }
 
 /// The search by a solver, which the caller lets go of in one place.
-fn solve_with<W: Watcher, H: Halves>(
+fn solve_by<W: Watcher>(
     solver: &mut Solver,
     given: Given<'_>,
     twins: &[Twin],
     steps: u64,
     watcher: &mut W,
-    halves: &H,
-) -> Answer
-    requires { H.can_run halves.now }
-{
+) -> Answer {
     let circuit = Circuit::read(solver.alloc, given, &mut solver.lacks_memory);
     solver.make_room(given.variables as usize);
     solver.load(given, &circuit);
-    let outcome = run(solver, &circuit, steps, watcher, halves);
+    let outcome = run(solver, &circuit, steps, watcher);
     answer_of(solver, given, twins, &circuit, outcome)
 }
 
@@ -323,21 +277,6 @@ pub fn solve<W: Watcher>(
     steps: u64,
     watcher: &mut W,
 ) -> Result<Answer, AllocError> {
-    solve_by(alloc, given, twins, steps, watcher, &OneAfterOther)
-}
-
-/// The same, by somebody who does the two halves of a sweep that is divided. Whether they are done side by side changes nothing of the
-/// answer.
-pub fn solve_by<W: Watcher, H: Halves>(
-    alloc: Global,
-    given: Given<'_>,
-    twins: &[Twin],
-    steps: u64,
-    watcher: &mut W,
-    halves: &H,
-) -> Result<Answer, AllocError>
-    requires { H.can_run halves.now }
-{
     if given.has_empty() {
         return Ok(Answer::Refuted(Refutation::new(alloc)));
     }
@@ -346,7 +285,7 @@ pub fn solve_by<W: Watcher, H: Halves>(
     }
     let number = u32::try_from(given.len()).unwrap_or(u32::MAX);
     let mut solver = Solver::new(alloc, given.inputs as usize, number);
-    let answer = solve_with(&mut solver, given, twins, steps, watcher, halves);
+    let answer = solve_by(&mut solver, given, twins, steps, watcher);
     if solver.lacks_memory {
         return Err(AllocError);
     }

@@ -4,7 +4,7 @@ use crate::leaders::Leaders;
 use rg_solver::circuit::{Circuit, Operands};
 use rg_solver::code::{Code, code_for, negated, variable_of};
 use rg_solver::solver::{FALSE, OPEN, Solver, TRUE};
-use rg_solver::table::{add, at, copied, put};
+use rg_solver::table::{add, at, put};
 use std::alloc::Global;
 
 /// The code that stands for true, and its negation for false.
@@ -31,16 +31,6 @@ pub struct Classes {
 }
 
 impl Classes {
-    /// The same classes, as far as memory was had.
-    pub fn copied(&self, alloc: Global, lacks_memory: &mut bool) -> Self {
-        Classes {
-            case: self.case,
-            parents: copied(alloc, &self.parents, lacks_memory),
-            kept: copied(alloc, &self.kept, lacks_memory),
-            gates: self.gates.copied(alloc, lacks_memory),
-        }
-    }
-
     /// Each literal is equal to itself alone.
     pub fn new(alloc: Global, variables: usize, lacks_memory: &mut bool) -> Self {
         let size = variables.saturating_add(1);

@@ -1,6 +1,6 @@
 //! The first variable of each hash.
 
-use rg_solver::table::{at, copied, fill, put};
+use rg_solver::table::{at, fill, put};
 use std::alloc::Global;
 
 const NOBODY: u32 = u32::MAX;
@@ -31,13 +31,6 @@ impl Leaders {
         let mut entries = Vec::new(alloc);
         fill(&mut entries, NO_ENTRY, size, lacks_memory);
         Leaders { entries }
-    }
-
-    /// The same table, as far as memory was had.
-    pub fn copied(&self, alloc: Global, lacks_memory: &mut bool) -> Self {
-        Leaders {
-            entries: copied(alloc, &self.entries, lacks_memory),
-        }
     }
 
     pub fn clear(&mut self) {

@@ -4,7 +4,7 @@ use crate::simulation::Simulation;
 use rg_solver::circuit::Circuit;
 use rg_solver::code::{Code, code_for};
 use rg_solver::search::MOST_ASSUMED;
-use rg_solver::table::{add, at, copied, put};
+use rg_solver::table::{add, at, put};
 use std::alloc::Global;
 
 /// How many words of samples are kept of each variable.
@@ -31,14 +31,6 @@ impl Samples {
         Samples {
             words: Vec::new(alloc),
             size: circuit.variables().saturating_add(1),
-        }
-    }
-
-    /// The same samples, as far as memory was had.
-    pub fn copied(&self, alloc: Global, lacks_memory: &mut bool) -> Self {
-        Samples {
-            words: copied(alloc, &self.words, lacks_memory),
-            size: self.size,
         }
     }
 

@@ -2,7 +2,7 @@
 
 use rg_solver::circuit::Circuit;
 use rg_solver::code::{Code, variable_of};
-use rg_solver::table::{at, copied, fill, put};
+use rg_solver::table::{at, fill, put};
 use std::alloc::Global;
 
 const MULTIPLIER: u64 = 0x9e37_79b9_7f4a_7c15;
@@ -34,17 +34,6 @@ impl Simulation {
         };
         simulation.make_room(circuit, lacks_memory);
         simulation
-    }
-
-    /// The same values, as far as memory was had.
-    pub fn copied(&self, alloc: Global, lacks_memory: &mut bool) -> Self {
-        Simulation {
-            words: copied(alloc, &self.words, lacks_memory),
-            hashes: copied(alloc, &self.hashes, lacks_memory),
-            flips: copied(alloc, &self.flips, lacks_memory),
-            ties: copied(alloc, &self.ties, lacks_memory),
-            random: self.random,
-        }
     }
 
     fn make_room(&mut self, circuit: &Circuit, lacks_memory: &mut bool) {

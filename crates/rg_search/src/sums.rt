@@ -10,9 +10,8 @@ use rg_solver::circuit::{Circuit, Operands};
 use rg_solver::code::{Code, code_for, variable_of};
 use rg_solver::search::{Goal, MOST_ASSUMED, Outcome};
 use rg_solver::solver::Solver;
-use rg_solver::table::{add, at, copied, fill, put};
+use rg_solver::table::{add, at, fill, put};
 use rg_solver::watcher::Watcher;
-use std::alloc::Global;
 
 /// The most exclusive ors and operands that are looked at.
 const MOST_OPENED: usize = 64;
@@ -46,16 +45,6 @@ impl Sums {
         sums
     }
 
-    /// The same, as far as memory was had.
-    pub fn copied(&self, alloc: Global, lacks_memory: &mut bool) -> Self {
-        Sums {
-            leaves: copied(alloc, &self.leaves, lacks_memory),
-            stack: copied(alloc, &self.stack, lacks_memory),
-            twins: copied(alloc, &self.twins, lacks_memory),
-            are_likely: self.are_likely,
-        }
-    }
-
     /// Looks whether a variable is an exclusive or.
     fn look_at(&mut self, circuit: &Circuit, classes: &mut Classes, variable: usize) {
         let Some(operands) = exclusive(circuit, variable) else {
@@ -75,13 +64,6 @@ impl Sums {
             return own;
         }
         exclusive(circuit, at(&self.twins, variable, 0))
-    }
-
-    /// Whether both of a pair are exclusive ors, or equal to some.
-    pub fn are_both(&self, circuit: &Circuit, pair: Operands) -> bool {
-        let first = self.operands(circuit, variable_of(pair.first));
-        let second = self.operands(circuit, variable_of(pair.second));
-        first.is_some() && second.is_some()
     }
 
     /// Enters a leaf, or takes it out where it is entered.
@@ -163,23 +145,6 @@ impl Sums {
             None => false,
         }
     }
-
-    /// Takes for shown what the samples say of the sum of the leaves that two exclusive ors don't share.
-    pub fn take_for_shown(
-        &mut self,
-        solver: &mut Solver,
-        circuit: &Circuit,
-        classes: &mut Classes,
-        samples: &Samples,
-        pair: Operands,
-    ) {
-        if !self.compare(solver, circuit, classes, pair) {
-            return;
-        }
-        if let Some(sum) = samples.sum_of(&self.leaves) {
-            take_sum(solver, sum);
-        }
-    }
 }
 
 /// The literals of a sum that these bits name, turned by this sign, and how many there are.
@@ -237,30 +202,6 @@ fn prove_sum<W: Watcher>(
         }
     }
     true
-}
-
-/// Takes it for shown that these literals of a sum exclude each other.
-fn take(solver: &mut Solver, sum: Sum, mask: u32, sign: Code) {
-    let (literals, count) = named(sum, mask, sign);
-    solver.take_for_shown(literals.get(..count).unwrap_or(&[]));
-}
-
-/// Takes each clause of a sum for shown.
-fn take_sum(solver: &mut Solver, sum: Sum) {
-    let too_many = sum.sum.saturating_add(1);
-    let too_few = sum.count.saturating_sub(sum.sum).saturating_add(1);
-    for mask in 1u32..64 {
-        let ones = mask.count_ones() as usize;
-        if !is_within(mask, sum.count) {
-            continue;
-        }
-        if ones == too_many {
-            take(solver, sum, mask, 0);
-        }
-        if ones == too_few {
-            take(solver, sum, mask, 1);
-        }
-    }
 }
 
 /// Whether all bits are among the first so many.

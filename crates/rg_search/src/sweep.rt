@@ -13,7 +13,7 @@ use rg_solver::circuit::{Circuit, Operands};
 use rg_solver::code::{Code, code_for, negated, variable_of};
 use rg_solver::search::{Goal, Outcome};
 use rg_solver::solver::{OPEN, Solver};
-use rg_solver::table::{add, at, copied, fill, put};
+use rg_solver::table::{add, at, fill, put};
 use rg_solver::watcher::Watcher;
 use std::alloc::Global;
 
@@ -27,9 +27,6 @@ const TRIES: usize = 16;
 const SOME_CONFLICTS: u64 = 100;
 
 const FEW_MISSES: u64 = 10;
-
-/// The same for a pair that is predicted in the back half of a sweep, which has learned less.
-const BACK_CONFLICTS: u64 = 200;
 
 /// The most conflicts of each clause of a sum, and in each direction of a pair that has one.
 const SUM_CONFLICTS: u64 = 30;
@@ -55,39 +52,23 @@ pub struct Effort {
     pub most: u64,
 }
 
-/// What a sweep goes over: all, or one of two halves.
-#[derive(Clone, Copy, PartialEq, Eq)]
-pub enum Part {
-    All,
-    Front,
-    Back,
-}
-
 #[derive(Drop)]
 pub struct Sweep {
     alloc: Global,
-    pub simulation: Simulation,
-    pub leaders: Leaders,
-    pub sums: Sums,
-    pub samples: Samples,
+    simulation: Simulation,
+    leaders: Leaders,
+    sums: Sums,
+    samples: Samples,
     /// By variable: whether it leads none, since it is equal to an earlier one, or may be.
-    pub follows: Vec<bool>,
+    follows: Vec<bool>,
     /// How many pairs were given up.
     misses: u64,
     /// The work of the solver after which the sweep ends.
     allowed: u64,
-    pub part: Part,
-    /// Whether the front half ended at a pair that was predicted to be equal and isn't proved, or as much work was done.
-    pub has_failed: bool,
 }
 
 impl Sweep {
-    pub fn new(
-        solver: &mut Solver,
-        circuit: &Circuit,
-        classes: &mut Classes,
-        effort: Effort,
-    ) -> Self {
+    pub fn new(solver: &mut Solver, circuit: &Circuit, classes: &mut Classes) -> Self {
         let alloc = solver.alloc;
         let size = circuit.variables().saturating_add(1);
         let mut sweep = Sweep {
@@ -99,31 +80,11 @@ impl Sweep {
             follows: Vec::new(alloc),
             misses: 0,
             allowed: 0,
-            part: Part::All,
-            has_failed: false,
         };
         fill(&mut sweep.follows, false, size, &mut solver.lacks_memory);
         sweep.tie(solver, circuit, classes);
         sweep.look(solver, circuit);
-        sweep.begin(effort);
         sweep
-    }
-
-    /// The same sweep, as far as memory was had.
-    pub fn copied(&self, lacks_memory: &mut bool) -> Self {
-        let alloc = self.alloc;
-        Sweep {
-            alloc,
-            simulation: self.simulation.copied(alloc, lacks_memory),
-            leaders: self.leaders.copied(alloc, lacks_memory),
-            sums: self.sums.copied(alloc, lacks_memory),
-            samples: self.samples.copied(alloc, lacks_memory),
-            follows: copied(alloc, &self.follows, lacks_memory),
-            misses: self.misses,
-            allowed: self.allowed,
-            part: self.part,
-            has_failed: self.has_failed,
-        }
     }
 
     /// Ties variables to what is equal to them, or to their values.
@@ -146,11 +107,11 @@ impl Sweep {
             self.samples
                 .take(&self.simulation, &mut solver.lacks_memory);
         }
-        self.lead(circuit.first_gate());
+        self.lead(circuit.inputs.saturating_add(1));
     }
 
     /// Enters the leaders before this variable anew, by their hashes.
-    pub fn lead(&mut self, end: usize) {
+    fn lead(&mut self, end: usize) {
         self.leaders.clear();
         for variable in 0..end {
             if !at(&self.follows, variable, false) {
@@ -160,23 +121,8 @@ impl Sweep {
         }
     }
 
-    /// Allows the work with which a sweep begins.
-    fn begin(&mut self, effort: Effort) {
-        self.allowed = effort.work;
-        if self.sums.are_likely {
-            self.allow(effort, SUMS_WORK);
-        }
-    }
-
-    /// Whether the sweep ends.
-    fn ends(&mut self, solver: &Solver) -> bool {
-        let is_done = solver.is_over() || solver.effort > self.allowed;
-        self.has_failed = self.has_failed || self.part == Part::Front && is_done;
-        is_done || self.has_failed
-    }
-
     /// Proves gates equal to earlier ones, in order, until the solver is refuted or much work is done.
-    pub fn run_all<W: Watcher>(
+    pub fn run<W: Watcher>(
         &mut self,
         solver: &mut Solver,
         circuit: &Circuit,
@@ -184,24 +130,14 @@ impl Sweep {
         effort: Effort,
         watcher: &mut W,
     ) {
-        let (from, to) = (circuit.first_gate(), circuit.end());
-        let _end = self.run(solver, circuit, classes, from, to, effort, watcher);
-    }
-
-    /// The same from one variable on and before another. It answers where it ended.
-    pub fn run<W: Watcher>(
-        &mut self,
-        solver: &mut Solver,
-        circuit: &Circuit,
-        classes: &mut Classes,
-        from: usize,
-        to: usize,
-        effort: Effort,
-        watcher: &mut W,
-    ) -> usize {
-        for variable in from..to {
-            if self.ends(solver) {
-                return variable;
+        self.allowed = effort.work;
+        if self.sums.are_likely {
+            self.allow(effort, SUMS_WORK);
+        }
+        let first = circuit.inputs.saturating_add(1);
+        for variable in first..circuit.variables().saturating_add(1) {
+            if solver.is_over() || solver.effort > self.allowed {
+                break;
             }
             if circuit.is_active(variable) {
                 let follows = self.follows(solver, circuit, classes, variable, effort, watcher);
@@ -209,7 +145,6 @@ impl Sweep {
                 solver.backtrack(0);
             }
         }
-        to
     }
 
     /// Whether a gate follows an earlier one, or may do so. A gate that doesn't leads from now on.
@@ -240,7 +175,6 @@ impl Sweep {
                 second: other,
             };
             let outcome = self.decide(solver, circuit, classes, pair, effort, watcher);
-            self.compare(circuit, pair, outcome);
             if outcome == Outcome::Excluded && other >= 2 {
                 classes.join(literal, other);
             }
@@ -250,14 +184,6 @@ impl Sweep {
             self.look_at_values(solver, circuit, variable);
         }
         true
-    }
-
-    /// Compares what became of a pair with what the back half takes for shown.
-    fn compare(&mut self, circuit: &Circuit, pair: Operands, outcome: Outcome) {
-        let is_proved = outcome == Outcome::Excluded;
-        if self.part == Part::Front && !is_proved && self.is_predicted(circuit, pair) {
-            self.has_failed = true;
-        }
     }
 
     /// Tries to prove a pair equal, after what may be known of the sum of their carries.
@@ -276,19 +202,16 @@ impl Sweep {
         let is_summed = self
             .sums
             .prove(solver, circuit, classes, samples, pair, limit, watcher);
-        let is_predicted = self.part == Part::Back && self.is_predicted(circuit, pair);
-        let limit = self.limit(effort, is_summed, is_predicted);
+        let limit = self.limit(effort, is_summed);
         let outcome = prove_equal(solver, circuit, pair.first, pair.second, limit, watcher);
         self.count(outcome, effort, solver.effort.saturating_sub(begun));
         outcome
     }
 
-    /// The most conflicts in each direction of a pair, which may be predicted in the back half.
-    fn limit(&self, effort: Effort, is_summed: bool, is_predicted: bool) -> u64 {
+    /// The most conflicts in each direction of a pair.
+    fn limit(&self, effort: Effort, is_summed: bool) -> u64 {
         let more = if is_summed {
             SUMMED_CONFLICTS
-        } else if is_predicted && self.misses < FEW_MISSES {
-            BACK_CONFLICTS
         } else if self.sums.are_likely && self.misses < FEW_MISSES {
             SOME_CONFLICTS
         } else {

@@ -280,7 +280,7 @@ impl Solver {
         count.max(1).min(GLUE)
     }
 
-    pub fn take_learned(&mut self) -> Vec<Code> {
+    fn take_learned(&mut self) -> Vec<Code> {
         let empty = Vec::new(self.alloc);
         mem::replace(&mut self.learned, empty)
     }

@@ -2,7 +2,7 @@
 
 use crate::code::{Code, code_of, negated, variable_of};
 use crate::given::Given;
-use crate::table::{add, at, copied, fill, put};
+use crate::table::{add, at, fill, put};
 use std::alloc::Global;
 
 /// The operands of an AND gate.
@@ -132,26 +132,6 @@ impl Circuit {
     /// The count of inputs and gates.
     pub fn variables(&self) -> usize {
         self.inputs.saturating_add(self.gates.len())
-    }
-
-    /// The same circuit, as far as memory was had.
-    pub fn copied(&self, alloc: Global, lacks_memory: &mut bool) -> Self {
-        Circuit {
-            inputs: self.inputs,
-            gates: copied(alloc, &self.gates, lacks_memory),
-            active: copied(alloc, &self.active, lacks_memory),
-            assertion: self.assertion,
-        }
-    }
-
-    /// The variable of the first gate.
-    pub fn first_gate(&self) -> usize {
-        self.inputs.saturating_add(1)
-    }
-
-    /// The variable behind the last gate.
-    pub fn end(&self) -> usize {
-        self.variables().saturating_add(1)
     }
 
     /// The operands of a variable, where it is a gate.

@@ -10,8 +10,6 @@ pub mod analysis;
 pub mod circuit;
 pub mod code;
 pub mod cone;
-pub mod copying;
-pub mod division;
 pub mod given;
 pub mod lists;
 pub mod loading;

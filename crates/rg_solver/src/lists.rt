@@ -1,6 +1,6 @@
 //! A list of lists, kept in one flat list.
 
-use crate::table::{add, at, extend};
+use crate::table::{add, at};
 use std::alloc::Global;
 
 /// All items in one list, and the place in it where each inner list ends.
@@ -46,13 +46,9 @@ impl<T: Copy + Drop> Lists<T> {
 
     /// Adds items to the list that isn't ended yet.
     pub fn extend(&mut self, items: &[T], lacks_memory: &mut bool) {
-        extend(&mut self.items, items, lacks_memory);
-    }
-
-    /// Takes what another list of lists has, into this one, which has nothing.
-    pub fn take(&mut self, other: &Self, lacks_memory: &mut bool) {
-        extend(&mut self.items, &other.items, lacks_memory);
-        extend(&mut self.ends, &other.ends, lacks_memory);
+        if self.items.extend_from_slice(items).is_err() {
+            *lacks_memory = true;
+        }
     }
 
     /// Ends a list.

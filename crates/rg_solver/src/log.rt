@@ -25,12 +25,6 @@ impl Log {
         }
     }
 
-    /// Takes what another log has, into this one, which has nothing.
-    pub fn take(&mut self, other: &Log, lacks_memory: &mut bool) {
-        self.literals.take(&other.literals, lacks_memory);
-        self.hints.take(&other.hints, lacks_memory);
-    }
-
     /// The count of learned clauses.
     pub fn len(&self) -> usize {
         self.literals.len()
@@ -50,7 +44,7 @@ impl Log {
         self.number_of(self.len().saturating_sub(1))
     }
 
-    pub fn number_of(&self, index: usize) -> u32 {
+    fn number_of(&self, index: usize) -> u32 {
         let count = u32::try_from(index).unwrap_or(u32::MAX);
         self.given.saturating_add(count).saturating_add(1)
     }

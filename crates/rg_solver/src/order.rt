@@ -1,6 +1,6 @@
 //! Variables by activity: a binary heap that knows where each stands.
 
-use crate::table::{at, extend, fill, put};
+use crate::table::{at, fill, put};
 use std::alloc::Global;
 
 const NOWHERE: usize = usize::MAX;
@@ -25,15 +25,6 @@ impl Order {
             activity: Vec::new(alloc),
             step: 1.0,
         }
-    }
-
-    /// Takes what another order has, into this one, which has no room yet.
-    pub fn take(&mut self, other: &Order, lacks_memory: &mut bool) {
-        extend(&mut self.heap, &other.heap, lacks_memory);
-        extend(&mut self.places, &other.places, lacks_memory);
-        extend(&mut self.activity, &other.activity, lacks_memory);
-        self.count = other.count;
-        self.step = other.step;
     }
 
     /// Room for the variables below this one.

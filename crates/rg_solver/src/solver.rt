@@ -156,7 +156,7 @@ impl Solver {
         self.make_marks(size);
     }
 
-    pub(crate) fn make_watches(&mut self, literals: usize) {
+    fn make_watches(&mut self, literals: usize) {
         let alloc = self.alloc;
         for _ in 0..literals {
             if self.watches.push(Vec::new(alloc)).is_err() {

@@ -4,4 +4,5 @@
 pub mod gate;
 pub mod log;
 pub mod table;
+mod task;
 pub mod threads;

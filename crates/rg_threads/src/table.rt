@@ -17,19 +17,13 @@ use rg_tree::program::Program;
 use rg_words::RefusalNumber;
 use std::alloc::{AllocError, Global};
 use std::sync::{Condvar, Mutex, Wait};
-use std::thread;
 
 /// The floor under its lock. Every change of the floor wakes all that wait.
 #[derive(Drop)]
 pub struct Table<'e, L: Round> {
     pub floor: Mutex<Floor<'e, L>>,
     pub changed: Condvar,
-    /// Whether the thread that plays has begun.
-    pub begun: Mutex<bool>,
 }
-
-/// The most looks at whether the thread that plays has begun, each with a rest: some seconds of them.
-const MOST_LOOKS: u32 = 5_000_000;
 
 /// What a worker leaves: its seat, and whether memory was refused.
 #[derive(Drop)]
@@ -43,22 +37,6 @@ pub(crate) struct Left<L: Round> {
 pub(crate) struct Moved {
     pub(crate) passed: Vec<Passed>,
     pub(crate) out_of_memory: bool,
-}
-
-/// Says that the thread that plays has begun.
-pub(crate) fn begin<L: Round>(rt: &impl Wait, table: &Table<'_, L>) {
-    *table.begun.lock(rt) = true;
-}
-
-/// Whether the thread that plays has begun. One that can't be had begins only behind the call that prints, which must not wait for it.
-pub fn has_begun<L: Round>(rt: &impl Wait, table: &Table<'_, L>) -> bool {
-    for _ in 0..MOST_LOOKS {
-        if *table.begun.lock(rt) {
-            return true;
-        }
-        thread::yield_now();
-    }
-    false
 }
 
 /// Ends the run, from any thread.

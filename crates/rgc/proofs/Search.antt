@@ -15,7 +15,6 @@ use Rattle.rg_tree.specs.declared.condition.Condition.{Condition}
 use Rattle.rg_tree.specs.Conditions.{condition_tree, ConditionHolds}
 use Rattle.rg_tree.specs.Programs.{nth}
 use Rattle.rg_rules.proofs.Find.{nth-at}
-use Rattle.std.proofs.lemmas.Result.{IfOk-weaker}
 use Rattle.std.proofs.lemmas.List.{length-map, take-map, drop-map}
 use Rattle.rg_find.specs.Judged.{IsJudged, IsJudgeRefusal}
 use Rattle.rg_hints.specs.Proved.{IsProofsRefusal}
@@ -24,7 +23,7 @@ use Rattle.rg_find.specs.declared.judgement.Judged.TheVariants.{Holds, Fails, Ga
 use Rattle.rgc.specs.declared.proofs_found.Unproved.{Unproved}
 use Rattle.rgc.specs.declared.proofs_found.Sought.{Sought}
 use Rattle.rg_pool.specs.Parts.{ArePartProved, IsPartRefusal}
-use Rattle.rgc.specs.Proofs.{IsUnproved, HoldFrom, IsNextTold, AreToldOrHold, AreUnproved, IsRange, in_range, outside, KeepLimit, IsFirstUnjudged, IsSearchRefusal, IsPartSearchRefusal}
+use Rattle.rgc.specs.Proofs.{IsUnproved, HoldFrom, AreToldOrHold, AreUnproved, IsRange, in_range, outside, KeepLimit, IsFirstUnjudged, IsSearchRefusal, IsPartSearchRefusal}
 use Rattle.rgc.specs.Inner.Search.{IsKept, IsHolding, Takes, IsJudgedAt, IsSoughtAt, IsUnsoughtAt, IsAnswerAt, AreSought}
 
 -- what is kept of a condition is true of the condition of its number

@@ -16,38 +16,9 @@ ghost use Rattle.rg_accept.specs.Stages.{derived_program, derived_lines};
 use rg_accept::{Derived, Parsed};
 use rg_clauses::Clauses;
 use rg_find::{Judged, Watcher, judge};
-use rg_groups::Deriver;
-use rg_hints::OneThread;
-use rg_pool::InThreads;
 use rg_tree::condition::Condition;
 use rg_words::{Place, Refusal, RefusalNumber, SourceFile};
 use std::alloc::Global;
-use std::thread::Threads;
-
-/// The program that a text spells, with the lines that a derivation spells, as this reader reads them, which derive its parts.
-///
-/// # Errors
-///
-/// As `derive_program`.
-fn derive_by<L: Deriver>(
-    reader: &L,
-    alloc: Global,
-    text: &[u8],
-    derivation: &[u8],
-) -> Result<Derived, Refusal>
-    requires { L.can_derive reader.now }
-    ensures derived { IfOk result (λ d. AreDerived text.now derivation.now (derived_program d) (derived_lines d)) }
-    ensures refused { IfErr result (IsDeriveRefusal text.now derivation.now) }
-{
-    let parsed = match Parsed::read(alloc, text) {
-        Ok(parsed) => parsed,
-        Err(refusal) => return Err(refusal),
-    };
-    match parsed.derive_by(reader, alloc, derivation) {
-        Ok(derived) => Ok(derived),
-        Err(refusal) => Err(refusal),
-    }
-}
 
 /// The program that a text spells, with the lines that a derivation spells, which derive its parts.
 ///
@@ -58,26 +29,14 @@ pub fn derive_program(alloc: Global, text: &[u8], derivation: &[u8]) -> Result<D
     ensures derived { IfOk result (λ d. AreDerived text.now derivation.now (derived_program d) (derived_lines d)) }
     ensures refused { IfErr result (IsDeriveRefusal text.now derivation.now) }
 {
-    derive_by(&OneThread, alloc, text, derivation)
-}
-
-/// The same, in at most so many threads: a long derivation is read in groups of lines, side by side. A thread that can't be had
-/// costs time alone.
-///
-/// # Errors
-///
-/// As `derive_program`.
-pub fn derive_program_all<R: Threads + Sync>(
-    rt: &R,
-    alloc: Global,
-    threads: usize,
-    text: &[u8],
-    derivation: &[u8],
-) -> Result<Derived, Refusal>
-    ensures derived { IfOk result (λ d. AreDerived text.now derivation.now (derived_program d) (derived_lines d)) }
-    ensures refused { IfErr result (IsDeriveRefusal text.now derivation.now) }
-{
-    derive_by(&InThreads { rt, threads }, alloc, text, derivation)
+    let parsed = match Parsed::read(alloc, text) {
+        Ok(parsed) => parsed,
+        Err(refusal) => return Err(refusal),
+    };
+    match parsed.derive(alloc, derivation) {
+        Ok(derived) => Ok(derived),
+        Err(refusal) => Err(refusal),
+    }
 }
 
 /// The condition of a number, from 1.

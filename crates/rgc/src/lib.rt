@@ -6,11 +6,8 @@ mod failures;
 mod pieces;
 mod proofs_found;
 mod shown;
-mod side_by_side;
 
-pub use chosen::{
-    chosen_condition, condition_clauses, derive_program, derive_program_all, find_condition,
-};
+pub use chosen::{chosen_condition, condition_clauses, derive_program, find_condition};
 pub use failures::failure_text;
 pub use pieces::{derive_in_pieces, one_piece_fits, one_piece_is_accepted};
 pub use proofs_found::{

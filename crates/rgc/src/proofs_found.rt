@@ -14,15 +14,15 @@ ghost use Rattle.rg_accept.specs.Names.{names_of_conditions};
 ghost use Rattle.rg_accept.specs.Stages.{derived_program, derived_lines};
 
 use crate::failures::failure_text;
-use crate::side_by_side::SideBySide;
 use rg_accept::Derived;
-use rg_find::{Halves, Judged, OneAfterOther, Watcher, judge_by};
+use rg_find::{Judged, Watcher, judge};
 use rg_hints::{Lines, prove};
-use rg_pool::{InThreads, deal, prove_all, prove_part};
+use rg_pool::{deal, prove_all, prove_part};
 use rg_tree::condition::Condition;
 use rg_words::limits::MOST_PROOF_BYTES;
 use rg_words::{Layout, Place, Refusal, RefusalNumber, SourceFile};
 use std::alloc::{AllocError, Global};
+use std::sync::Wait;
 use std::sync::atomic::{AtomicBool, Ordering};
 use std::thread::Threads;
 
@@ -77,22 +77,20 @@ fn with_section(alloc: Global, number: usize, judged: Judged) -> Result<Sought, 
 }
 
 /// Searches for lines for the condition at this place, from 0, with at most so many decisions.
-fn seek<P: Watcher, H: Halves>(
+fn seek<P: Watcher>(
     alloc: Global,
     conditions: &[Condition],
     place: usize,
     steps: u64,
     watcher: &mut P,
-    halves: &H,
 ) -> Result<Sought, Refusal>
-    requires place { place < length conditions.now }
-    requires ready { H.can_run halves.now }
+    requires { place < length conditions.now }
     ensures { IsAnswerAt (map condition_tree conditions.now) (place + 1) steps result }
 {
     let file = SourceFile::Derivation;
     let number = place as u64 + 1;
     let condition = &conditions[place];
-    match judge_by(alloc, condition, file, number, steps, watcher, halves) {
+    match judge(alloc, condition, file, number, steps, watcher) {
         Ok(judged) => with_section(alloc, place + 1, judged),
         Err(refusal) => Err(refusal),
     }
@@ -167,7 +165,7 @@ fn search_all<P: Watcher>(
         unproved: Vec::new(alloc),
     };
     for place in 0..conditions.len() {
-        let sought = match seek(alloc, conditions, place, steps, watcher, &OneAfterOther) {
+        let sought = match seek(alloc, conditions, place, steps, watcher) {
             Ok(sought) => sought,
             Err(refusal) => return Err(refusal),
         };
@@ -178,8 +176,7 @@ fn search_all<P: Watcher>(
 }
 
 /// What a search says of the condition at this place, from 0; nothing, where another condition was refused before.
-fn judge_one<R: Threads + Sync, P: Watcher + Copy>(
-    rt: &R,
+fn judge_one<P: Watcher + Copy>(
     alloc: Global,
     conditions: &[Condition],
     place: usize,
@@ -194,8 +191,7 @@ fn judge_one<R: Threads + Sync, P: Watcher + Copy>(
         return None;
     }
     let mut own = *watcher;
-    let halves = SideBySide { rt };
-    let sought = seek(alloc, conditions, place, steps, &mut own, &halves);
+    let sought = seek(alloc, conditions, place, steps, &mut own);
     if sought.is_err() {
         refused.store(true, Ordering::SeqCst);
     }
@@ -230,7 +226,7 @@ fn judge_some<R: Threads + Sync, P: Watcher + Copy + Sync>(
         &|index: usize| -> Option<Result<Sought, Refusal>>
             requires { (from + index < length conditions.now) × (length conditions.now < 2 ^ 64) }
             ensures { IfSome result (IsAnswerAt (map condition_tree conditions.entry.now) (from + index + 1) steps) }
-        { judge_one(rt, alloc, conditions, from + index, steps, watcher, told) },
+        { judge_one(alloc, conditions, from + index, steps, watcher, told) },
     )
 }
 
@@ -257,7 +253,7 @@ fn judged_at<P: Watcher + Copy>(
         }
     }
     let mut own = *watcher;
-    seek(alloc, conditions, place, steps, &mut own, &OneAfterOther)
+    seek(alloc, conditions, place, steps, &mut own)
 }
 
 /// Searches for lines for each condition from one place on and before another, with at most so many decisions each.
@@ -351,7 +347,7 @@ pub fn find_proofs<P: Watcher>(
 /// # Errors
 ///
 /// As `find_proofs`.
-pub fn find_proofs_all<R: Threads + Sync, P: Watcher + Copy + Sync>(
+pub fn find_proofs_all<R: Threads + Wait + Sync, P: Watcher + Copy + Sync>(
     rt: &R,
     alloc: Global,
     threads: usize,
@@ -363,7 +359,7 @@ pub fn find_proofs_all<R: Threads + Sync, P: Watcher + Copy + Sync>(
     ensures found { IfOk result (AreFoundFor (derived_program derived.now) (derived_lines derived.now)) }
     ensures refused { IfErr result (IsSearchRefusal (conditions_of (derived_program derived.now) (derived_lines derived.now)) steps) }
 {
-    let conditions = derived.conditions_by(&InThreads { rt, threads }, alloc)?;
+    let conditions = derived.conditions(alloc)?;
     let count = conditions.len();
     let suited = suiting(&derived.program().layout, count, threads);
     let all = conditions.as_slice();
@@ -410,7 +406,7 @@ fn check_range(first: u64, last: u64, count: usize) -> Result<(), Refusal>
 ///
 /// `UnknownCondition` at the condition of the derivation where there is none of the first or the last number, or where the
 /// last is below the first; then as `find_proofs`.
-pub fn find_part<R: Threads + Sync, P: Watcher + Copy + Sync>(
+pub fn find_part<R: Threads + Wait + Sync, P: Watcher + Copy + Sync>(
     rt: &R,
     alloc: Global,
     threads: usize,
@@ -424,7 +420,7 @@ pub fn find_part<R: Threads + Sync, P: Watcher + Copy + Sync>(
     ensures found { IfOk result (ArePartFoundFor (derived_program derived.now) (derived_lines derived.now) first last) }
     ensures refused { IfErr result (IsPartSearchRefusal (conditions_of (derived_program derived.now) (derived_lines derived.now)) first last steps) }
 {
-    let conditions = derived.conditions_by(&InThreads { rt, threads }, alloc)?;
+    let conditions = derived.conditions(alloc)?;
     let count = conditions.len();
     match check_range(first, last, count) {
         Ok(()) => {}

@@ -14,13 +14,14 @@ ghost use Rattle.rgc.specs.Valid.{clauses_shown, HasClauses, ShownHolds, IsShown
 
 use rg_clauses::Clauses;
 use rg_find::{Judged, Watcher, judge};
-use rg_hints::{Checker, OneThread};
+use rg_hints::{Checker, Lines, OneThread};
 use rg_parse::{one_meaning, show};
 use rg_pool::InThreads;
 use rg_tree::condition::Condition;
 use rg_words::limits::MOST_PROOF_BYTES;
 use rg_words::{Place, Refusal, RefusalNumber, SourceFile};
 use std::alloc::Global;
+use std::sync::Wait;
 use std::thread::Threads;
 
 /// The clauses of the formula that a text `words .. show ..` spells: they can be satisfied exactly where it fails for some pair
@@ -107,7 +108,7 @@ fn valid_by<C: Checker>(
     if proofs.len() > MOST_PROOF_BYTES {
         return Err(Refusal::at(RefusalNumber::Limit, SourceFile::Proofs, Place::Line(1)));
     }
-    let lines = match checker.read(alloc, proofs, 1, clauses.len()) {
+    let lines = match Lines::read(alloc, proofs, 1, clauses.len()) {
         Ok(lines) => lines,
         Err(refusal) => return Err(refusal),
     };
@@ -134,13 +135,13 @@ pub fn valid(alloc: Global, text: &[u8], proofs: &[u8]) -> Result<(), Refusal>
     valid_by(&OneThread, alloc, text, proofs)
 }
 
-/// The same, where a long text of hint lines is read in two threads, as `rg_pool::read_all` tells it, and many lines are checked
-/// in four, as `rg_pool::check_all` does, unless fewer than two threads may be used.
+/// The same, where many lines are checked in four threads, as `rg_pool::check_all` tells it, unless fewer than two threads
+/// may be used.
 ///
 /// # Errors
 ///
-/// As `valid`.
-pub fn valid_all<R: Threads + Sync>(
+/// As `valid`; `Memory` also where a thread can't be had for a piece of the lines.
+pub fn valid_all<R: Threads + Wait + Sync>(
     rt: &R,
     alloc: Global,
     threads: usize,

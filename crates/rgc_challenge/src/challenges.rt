@@ -19,6 +19,7 @@ use rgc::{ProofsFound, find_proofs_all};
 use rgc_pieces::derive_outline;
 use rgc_walked::NoVerdict;
 use std::alloc::{AllocError, Global};
+use std::sync::Wait;
 use std::thread::Threads;
 
 /// How an outline is challenged.
@@ -132,7 +133,7 @@ fn lines_of(
 }
 
 /// Proofs of all conditions of an outline's program, if they are found.
-fn proofs_of<R: Threads + Sync, P: Watcher + Copy + Sync>(
+fn proofs_of<R: Threads + Wait + Sync, P: Watcher + Copy + Sync>(
     rt: &R,
     alloc: Global,
     threads: usize,
@@ -162,7 +163,7 @@ fn known_by<'p>(
 }
 
 /// Asks of each small change of an outline's program whether its specification still holds.
-fn answers_in<R: Threads + Sync, P: Watcher + Copy + Sync>(
+fn answers_in<R: Threads + Wait + Sync, P: Watcher + Copy + Sync>(
     rt: &R,
     alloc: Global,
     threads: usize,
@@ -200,7 +201,7 @@ fn answers_in<R: Threads + Sync, P: Watcher + Copy + Sync>(
 /// - `NoVerdict::Outline` where the outline is refused, with what tells its first fault.
 /// - `NoVerdict::Refused` where the files of the outline or of a changed one are too deep, where more decisions are asked than a search may make,
 ///   where the writer failed, or where memory is refused.
-pub fn challenge<R: Threads + Sync, W: Out, P: Watcher + Copy + Sync>(
+pub fn challenge<R: Threads + Wait + Sync, W: Out, P: Watcher + Copy + Sync>(
     rt: &R,
     alloc: Global,
     threads: usize,

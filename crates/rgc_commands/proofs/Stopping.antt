@@ -15,10 +15,14 @@ use Rattle.rgc_running.specs.Refused.{IsRunRefusal, IsRunStopped}
 use Rattle.rgc_running.specs.Running.{IsRead}
 use Rattle.rgc_commands.specs.declared.files.Files.{Files}
 use Rattle.rgc_commands.specs.declared.stops.Stop.{Stop}
-use Rattle.rgc_commands.specs.declared.stops.Stop.TheVariants.{Device, Refused, Outline, Usage, Told}
+use Rattle.rgc_commands.specs.declared.stops.Stop.TheVariants.{Device, Refused, Outline, Usage, Told, GaveUp}
 use Rattle.rgc_commands.specs.Done.{SpellsRange}
 use Rattle.rgc_commands.specs.Stopped.{IsOverTexts, unread_line, unless_read, TellsOf, TellsWhy, IsOverRun, IsRunUnlike, IsMisfit, IsUntouched, RefusesProofs, RefusesRun}
 use Rattle.rgc_commands.specs.Stops.{IsDevice, Stops}
+use Rattle.rgc_commands.specs.Inner.Answers.{IsStopOf}
+use Rattle.rgc_print.specs.Answered.{AnswersCondition, AnswersFormula}
+use Rattle.rgc_print.specs.declared.judged.Answer.{Answer}
+use Rattle.rgc_print.specs.declared.judged.Answer.TheVariants.{Proved, Failed, Unknown}
 
 -- a file can't be read, before anything went out
 pub device_stops : (format : Format) (command : Command) (files : Files) (old : Option (List ℕ)) (m : ℕ) (stop : Stop) → IsDevice (unread_line command files) stop → Stops format command files old old m m stop
@@ -27,11 +31,26 @@ device_stops format command files old m (Refused e) h = absurd h
 device_stops format command files old m (Outline lines) h = absurd h
 device_stops format command files old m (Usage line) h = absurd h
 device_stops format command files old m Told h = absurd h
+device_stops format command files old m (GaveUp why) h = absurd h
 
 -- no proof was found, and the output tells why
 pub told_stops : (format : Format) (command : Command) (files : Files) (old new : Option (List ℕ)) (m n : ℕ) (is_found : Bool) (r : Result (Unit {0}) Stop) → IfErr r (λ stop. (stop ≡ Told) × (is_found ≡ false)) → n ≡ m → (is_found ≡ false → TellsWhy format command files old new) → IfErr r (Stops format command files old new m n)
 told_stops format command files old new m n is_found (Ok x) h same why = tt
 told_stops format command files old new m n is_found (Err stop) h same why = rw h.0 (why h.1, same)
+
+-- the formula isn't proved, and the output tells that
+pub formula_stops : (t : Bor (List ℕ)) (steps : ℕ) (files : Files) (text : Bor (List ℕ)) (old new : Option (List ℕ)) (m n : ℕ) (answer : Answer) (r : Result (Unit {0}) Stop) → files.text ≡ Some text → AnswersFormula text.now old new answer → n ≡ m → IfErr r (IsStopOf answer) → IfErr r (Stops Plain (Find t steps None) files old new m n)
+formula_stops t steps files text old new m n answer (Ok x) is answers same h = tt
+formula_stops t steps files text old new m n Proved (Err stop) is answers same h = absurd h
+formula_stops t steps files text old new m n Failed (Err stop) is answers same h = rw (h, is) (answers, same)
+formula_stops t steps files text old new m n (Unknown why) (Err stop) is answers same h = rw (h, is) (answers, same)
+
+-- the same of a condition
+pub condition_stops : (t : Bor (List ℕ)) (steps : ℕ) (chosen : Chosen) (files : Files) (text derivation : Bor (List ℕ)) (old new : Option (List ℕ)) (m n : ℕ) (answer : Answer) (r : Result (Unit {0}) Stop) → files.text ≡ Some text → files.derivation ≡ Some derivation → AnswersCondition text.now derivation.now chosen.condition old new answer → n ≡ m → IfErr r (IsStopOf answer) → IfErr r (Stops Plain (Find t steps (Some chosen)) files old new m n)
+condition_stops t steps chosen files text derivation old new m n answer (Ok x) is from answers same h = tt
+condition_stops t steps chosen files text derivation old new m n Proved (Err stop) is from answers same h = absurd h
+condition_stops t steps chosen files text derivation old new m n Failed (Err stop) is from answers same h = rw (h, is, from) (answers, same)
+condition_stops t steps chosen files text derivation old new m n (Unknown why) (Err stop) is from answers same h = rw (h, is, from) (answers, same)
 
 -- the words don't fit
 pub usage_stops : (format : Format) (command : Command) (files : Files) (old : Option (List ℕ)) (m : ℕ) → IsMisfit format command → IsMisfit format command × IsUntouched old old m m
@@ -104,6 +123,7 @@ plain_stops command files old new m n (Err (Refused e)) other h = h
 plain_stops command files old new m n (Err (Outline lines)) other h = absurd h
 plain_stops command files old new m n (Err (Usage line)) other h = (plain_misfit command h.0, h.1)
 plain_stops command files old new m n (Err Told) other h = (plain_tells command files.text files.derivation old new other h.0, h.1)
+plain_stops command files old new m n (Err (GaveUp why)) other h = h
 
 -- a command that none of these matches isn't over texts
 pub no_other : (command : Command) → ((a : Bor (List ℕ)) → command ≡ Number a → ⊥) → ((a b c : Bor (List ℕ)) → command ≡ Check a b c → ⊥) → ((a b : Bor (List ℕ)) (c : Bool) → command ≡ Conditions a b c → ⊥) → ((a b : Bor (List ℕ)) (d : ℕ) (e : Option (Bor (List ℕ))) → command ≡ Prove a b d e → ⊥)

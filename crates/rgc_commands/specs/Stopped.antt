@@ -16,7 +16,8 @@ use Rattle.rgc_line.specs.declared.command.Format.TheVariants.{Plain, Json}
 use Rattle.rgc_json.specs.Printed.{HasToldUnprovedJson, HasToldUnprovedPartJson}
 use Rattle.rgc_running.specs.Refused.{IsUnlike, IsRunRefusal}
 use Rattle.rgc_running.specs.Running.{IsRead}
-use Rattle.rgc_print.specs.Told.{HasToldFormula, HasToldCondition, HasToldUnproved, HasToldUnprovedPart}
+use Rattle.rgc_print.specs.Answered.{HasToldFormula, HasToldCondition, HasGivenUpFormula, HasGivenUpCondition}
+use Rattle.rgc_print.specs.Told.{HasToldUnproved, HasToldUnprovedPart}
 use Rattle.rgc_commands.specs.declared.files.Files.{Files}
 use Rattle.rgc_commands.specs.Done.{SpellsRange}
 
@@ -149,6 +150,16 @@ TellsOf format _ _ _ old new = ⊥
 -- the output tells why there is no proof, and what it tells is so
 abbrev pub TellsWhy : Format → Command → Files → Option (List ℕ) → Option (List ℕ) → Type 0
 TellsWhy format command files old new = TellsOf format command files.text files.derivation old new
+
+-- of a text and a derivation: it went out that a search gave up, and this line says why
+abbrev pub GivesUpOf : Command → Option (Bor (List ℕ)) → Option (Bor (List ℕ)) → List ℕ → Option (List ℕ) → Option (List ℕ) → Type 0
+GivesUpOf (Find _ _ None) (Some text) _ line old new = HasGivenUpFormula text.now line old new
+GivesUpOf (Find _ _ (Some chosen)) (Some text) (Some derivation) line old new = HasGivenUpCondition text.now derivation.now chosen.condition line old new
+GivesUpOf _ _ _ line old new = ⊥
+
+-- it went out that a search gave up, and this line says why
+abbrev pub GivesUp : Command → Files → List ℕ → Option (List ℕ) → Option (List ℕ) → Type 0
+GivesUp command files line old new = GivesUpOf command files.text files.derivation line old new
 
 -- the words don't fit: what stands for a range may be none, the number may be that of no refusal, or formulas or a picture are asked for as JSON
 abbrev pub IsMisfit : Format → Command → Type 0

@@ -4,8 +4,8 @@ use Rattle.rgc_line.specs.declared.command.Command.{Command}
 use Rattle.rgc_line.specs.declared.command.Format.{Format}
 use Rattle.rgc_commands.specs.declared.files.Files.{Files}
 use Rattle.rgc_commands.specs.declared.stops.Stop.{Stop}
-use Rattle.rgc_commands.specs.declared.stops.Stop.TheVariants.{Device, Refused, Outline, Usage, Told}
-use Rattle.rgc_commands.specs.Stopped.{IsUntouched, unread_line, IsStoppedBy, TellsWhy, IsMisfit}
+use Rattle.rgc_commands.specs.declared.stops.Stop.TheVariants.{Device, Refused, Outline, Usage, Told, GaveUp}
+use Rattle.rgc_commands.specs.Stopped.{IsUntouched, unread_line, IsStoppedBy, TellsWhy, GivesUp, IsMisfit}
 
 -- a file can't be read, and this line tells it
 abbrev pub IsDevice : Option (List ℕ) → Stop → Type 0
@@ -19,3 +19,4 @@ Stops format command files old new failed after (Refused e) = IsStoppedBy comman
 Stops format command files old new failed after (Outline lines) = ⊥
 Stops format command files old new failed after (Usage line) = IsMisfit format command × IsUntouched old new failed after
 Stops format command files old new failed after Told = TellsWhy format command files old new × (after ≡ failed)
+Stops format command files old new failed after (GaveUp why) = GivesUp command files why.now old new × (after ≡ failed)

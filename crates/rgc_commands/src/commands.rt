@@ -7,6 +7,7 @@ ghost use Rattle.rgc_line.specs.declared.command.Command.TheVariants.{Number, Ch
 ghost use Rattle.rgc_line.specs.declared.command.Format.TheVariants.{Plain};
 ghost use Rattle.rgc_commands.specs.Done.{IsDone};
 ghost use Rattle.rgc_commands.specs.Stops.{Stops};
+ghost use Rattle.rgc_commands.specs.Inner.Answers.{IsStopOf};
 
 use crate::explaining::print_explanation;
 use crate::files::{Files, derivation_of, inputs, proofs_of, text_of, three_files, two_files};
@@ -18,7 +19,7 @@ use rgc_explain::entry_of;
 use rgc_formulas::print_formulas;
 use rgc_line::Chosen;
 use rgc_print::{
-    print_accepted, print_clauses, print_condition_clauses, print_condition_found,
+    Answer, print_accepted, print_clauses, print_condition_clauses, print_condition_found,
     print_conditions, print_found, print_listing, print_numbers, print_proofs, print_proofs_part,
     print_valid,
 };
@@ -55,7 +56,7 @@ pub(crate) fn number<W: Out>(alloc: Global, files: &Files<'_>, out: &mut W) -> R
 }
 
 /// Prints `accepted` for a program.
-pub(crate) fn check<R: Threads + Sync, W: Out>(
+pub(crate) fn check<R: Threads + Wait + Sync, W: Out>(
     rt: &R,
     alloc: Global,
     threads: usize,
@@ -94,7 +95,7 @@ pub(crate) fn conditions<W: Out>(
 }
 
 /// Prints proofs of all conditions of a derivation.
-fn prove_all<R: Threads + Sync, W: Out, P: Watcher + Copy + Sync>(
+fn prove_all<R: Threads + Wait + Sync, W: Out, P: Watcher + Copy + Sync>(
     rt: &R,
     alloc: Global,
     threads: usize,
@@ -113,7 +114,7 @@ fn prove_all<R: Threads + Sync, W: Out, P: Watcher + Copy + Sync>(
 }
 
 /// Prints proofs of a range of the conditions of a derivation.
-fn prove_part<R: Threads + Sync, W: Out, P: Watcher + Copy + Sync>(
+fn prove_part<R: Threads + Wait + Sync, W: Out, P: Watcher + Copy + Sync>(
     rt: &R,
     alloc: Global,
     threads: usize,
@@ -138,7 +139,7 @@ fn prove_part<R: Threads + Sync, W: Out, P: Watcher + Copy + Sync>(
 }
 
 /// Prints proofs of all conditions of a derivation, or of a range of them.
-pub(crate) fn prove<R: Threads + Sync, W: Out, P: Watcher + Copy + Sync>(
+pub(crate) fn prove<R: Threads + Wait + Sync, W: Out, P: Watcher + Copy + Sync>(
     rt: &R,
     alloc: Global,
     threads: usize,
@@ -160,7 +161,7 @@ pub(crate) fn prove<R: Threads + Sync, W: Out, P: Watcher + Copy + Sync>(
 }
 
 /// Prints the listing of the code of an accepted program.
-pub(crate) fn emit<R: Threads + Sync, W: Out>(
+pub(crate) fn emit<R: Threads + Wait + Sync, W: Out>(
     rt: &R,
     alloc: Global,
     threads: usize,
@@ -244,7 +245,7 @@ pub(crate) fn run<R: Threads + Wait + Sync, W: Out, F: Out>(
 }
 
 /// Prints `holds` for a formula.
-pub(crate) fn valid<R: Threads + Sync, W: Out>(
+pub(crate) fn valid<R: Threads + Wait + Sync, W: Out>(
     rt: &R,
     alloc: Global,
     threads: usize,
@@ -285,6 +286,18 @@ pub(crate) fn clauses<W: Out>(
     Ok(())
 }
 
+/// Done only where the answer is a proof.
+fn answered(answer: Answer) -> Result<(), Stop>
+    ensures proved { OnOk result (answer ≡ Answer.Proved) }
+    ensures stopped { IfErr result (IsStopOf answer) }
+{
+    match answer {
+        Answer::Proved => Ok(()),
+        Answer::Failed => Err(Stop::Told),
+        Answer::Unknown(why) => Err(Stop::GaveUp(why)),
+    }
+}
+
 /// Prints lines that prove the formula, or the chosen condition.
 pub(crate) fn find<W: Out, P: Watcher>(
     alloc: Global,
@@ -301,11 +314,11 @@ pub(crate) fn find<W: Out, P: Watcher>(
 {
     let text = text_of(files)?;
     match chosen {
-        None => proved(print_found(alloc, text, steps, out, watcher)?),
+        None => answered(print_found(alloc, text, steps, out, watcher)?),
         Some(chosen) => {
             let derivation = derivation_of(files)?;
             let number = chosen.condition;
-            proved(print_condition_found(alloc, text, derivation, number, steps, out, watcher)?)
+            answered(print_condition_found(alloc, text, derivation, number, steps, out, watcher)?)
         }
     }
 }

@@ -130,7 +130,7 @@ fn carry_out_json<R: Threads + Wait + Sync, W: Out, F: Out, P: Watcher + Copy + 
 /// - `Stop::Device` for the first file that the command names and that has no bytes.
 /// - `Stop::Usage` where a range of conditions isn't one, where there is no refusal of the number to explain, or where what is asked for has no JSON.
 /// - `Stop::Refused` for the first fault of the files, where the output can't be written, or where memory is refused.
-/// - `Stop::Told` where no proof was found, which the output tells.
+/// - `Stop::Told` where no proof was found, which the output tells; `Stop::GaveUp` where the search of `find` gave up, which it tells too.
 pub fn carry_out<R: Threads + Wait + Sync, W: Out, F: Out, P: Watcher + Copy + Sync>(
     rt: &R,
     alloc: Global,

@@ -36,7 +36,7 @@ pub(crate) fn number_json<W: Out>(alloc: Global, files: &Files<'_>, out: &mut W)
 }
 
 /// Prints that a program is accepted.
-pub(crate) fn check_json<R: Threads + Sync, W: Out>(
+pub(crate) fn check_json<R: Threads + Wait + Sync, W: Out>(
     rt: &R,
     alloc: Global,
     threads: usize,
@@ -74,7 +74,7 @@ pub(crate) fn conditions_json<W: Out>(
 }
 
 /// Prints proofs of all conditions of a derivation.
-fn prove_all_json<R: Threads + Sync, W: Out, P: Watcher + Copy + Sync>(
+fn prove_all_json<R: Threads + Wait + Sync, W: Out, P: Watcher + Copy + Sync>(
     rt: &R,
     alloc: Global,
     threads: usize,
@@ -93,7 +93,7 @@ fn prove_all_json<R: Threads + Sync, W: Out, P: Watcher + Copy + Sync>(
 }
 
 /// Prints proofs of a range of the conditions of a derivation.
-fn prove_part_json<R: Threads + Sync, W: Out, P: Watcher + Copy + Sync>(
+fn prove_part_json<R: Threads + Wait + Sync, W: Out, P: Watcher + Copy + Sync>(
     rt: &R,
     alloc: Global,
     threads: usize,
@@ -118,7 +118,7 @@ fn prove_part_json<R: Threads + Sync, W: Out, P: Watcher + Copy + Sync>(
 }
 
 /// Prints proofs of all conditions of a derivation, or of a range of them.
-pub(crate) fn prove_json<R: Threads + Sync, W: Out, P: Watcher + Copy + Sync>(
+pub(crate) fn prove_json<R: Threads + Wait + Sync, W: Out, P: Watcher + Copy + Sync>(
     rt: &R,
     alloc: Global,
     threads: usize,

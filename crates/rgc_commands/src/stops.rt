@@ -14,6 +14,8 @@ pub enum Stop {
     Usage(&'static str),
     /// The output says that no proof was found.
     Told,
+    /// The output says that a search gave up; the line that says why.
+    GaveUp(&'static str),
 }
 
 impl From<Refusal> for Stop {

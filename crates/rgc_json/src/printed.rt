@@ -21,11 +21,11 @@ use crate::proofs::{write_part, write_proofs, write_unproved};
 use rg_find::Watcher;
 use rg_words::{Out, Refusal};
 use rgc::{
-    Derived, Parsed, ProofsFound, Unproved, accept_all, derive_program, derive_program_all,
-    find_part, find_proofs_all,
+    Derived, Parsed, ProofsFound, Unproved, accept_all, derive_program, find_part, find_proofs_all,
 };
 use serde_json::{Value, json};
 use std::alloc::{AllocError, Global};
+use std::sync::Wait;
 use std::thread::Threads;
 
 /// That files are accepted.
@@ -51,7 +51,7 @@ fn write_accepted<W: Out>(alloc: Global, out: &mut W) -> Result<(), Refusal>
 /// # Errors
 ///
 /// As `rgc::accept_all`; `Write` where the writer failed. `Memory` where memory is refused.
-pub fn print_accepted_json<R: Threads + Sync, W: Out>(
+pub fn print_accepted_json<R: Threads + Wait + Sync, W: Out>(
     rt: &R,
     alloc: Global,
     threads: usize,
@@ -170,7 +170,7 @@ fn tell_found<W: Out>(
 ///
 /// The first fault of the text, then of the derivation; else as `rgc::find_proofs_all`. `Write` where the writer failed.
 /// `Memory` where memory is refused.
-pub fn print_proofs_json<R: Threads + Sync, W: Out, P: Watcher + Copy + Sync>(
+pub fn print_proofs_json<R: Threads + Wait + Sync, W: Out, P: Watcher + Copy + Sync>(
     rt: &R,
     alloc: Global,
     threads: usize,
@@ -186,7 +186,7 @@ pub fn print_proofs_json<R: Threads + Sync, W: Out, P: Watcher + Copy + Sync>(
     ensures failures { OnOk result (W.failures out.new ≡ W.failures out.old) }
     ensures stopped { IfErr result (IsStopped (IsProveRefusal text.now derivation.now steps) (W.contents out.old) (W.contents out.new) (W.failures out.old) (W.failures out.new)) }
 {
-    let derived = derive_program_all(rt, alloc, threads, text, derivation)?;
+    let derived = derive_program(alloc, text, derivation)?;
     let found = find_proofs_all(rt, alloc, threads, &derived, steps, watcher)?;
     tell_found(alloc, &derived, &found, out)
 }
@@ -225,7 +225,7 @@ fn tell_part<W: Out>(
 ///
 /// The first fault of the text, then of the derivation; else as `rgc::find_part`. `Write` where the writer failed. `Memory`
 /// where memory is refused.
-pub fn print_proofs_part_json<R: Threads + Sync, W: Out, P: Watcher + Copy + Sync>(
+pub fn print_proofs_part_json<R: Threads + Wait + Sync, W: Out, P: Watcher + Copy + Sync>(
     rt: &R,
     alloc: Global,
     threads: usize,
@@ -243,7 +243,7 @@ pub fn print_proofs_part_json<R: Threads + Sync, W: Out, P: Watcher + Copy + Syn
     ensures failures { OnOk result (W.failures out.new ≡ W.failures out.old) }
     ensures stopped { IfErr result (IsStopped (IsProvePartRefusal text.now derivation.now first last steps) (W.contents out.old) (W.contents out.new) (W.failures out.old) (W.failures out.new)) }
 {
-    let derived = derive_program_all(rt, alloc, threads, text, derivation)?;
+    let derived = derive_program(alloc, text, derivation)?;
     let found = find_part(rt, alloc, threads, &derived, first, last, steps, watcher)?;
     tell_part(alloc, &derived, first, last, &found, out)
 }

@@ -4,6 +4,7 @@ use crate::program::{DERIVATION, LATE_FAULT, PROOFS, TEXT, TWO_FAULTS};
 use rg_words::{Place, Refusal, RefusalNumber, SourceFile};
 use rgc::{accept, accept_all, build_all};
 use std::alloc::Global;
+use std::sync::Wait;
 use std::test::Fail;
 use std::thread::Threads;
 
@@ -24,7 +25,7 @@ fn one_says(alloc: Global, proofs: &str) -> Result<(), Refusal> {
 }
 
 /// What so many threads say of proofs.
-fn all_say<R: Threads + Sync>(
+fn all_say<R: Threads + Wait + Sync>(
     rt: &R,
     alloc: Global,
     threads: usize,
@@ -73,7 +74,7 @@ fn all_counts_of_threads_say_the_same(rt: HostRuntime) -> Result<(), Fail> {
 }
 
 /// Whether the program comes to code in four threads.
-fn is_built<R: Threads + Sync>(rt: &R, alloc: Global) -> bool {
+fn is_built<R: Threads + Wait + Sync>(rt: &R, alloc: Global) -> bool {
     build_all(
         rt,
         alloc,

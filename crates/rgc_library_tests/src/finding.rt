@@ -5,6 +5,7 @@ use rg_find::Unwatched;
 use rg_words::{Place, Refusal, RefusalNumber, SourceFile};
 use rgc::{Derived, ProofsFound, derive_program, find_part, find_proofs, find_proofs_all};
 use std::alloc::Global;
+use std::sync::Wait;
 use std::test::Fail;
 use std::thread::Threads;
 
@@ -32,7 +33,7 @@ fn one_finds(alloc: Global, derived: &Derived) -> Result<String, Refusal> {
 }
 
 /// What so many threads find.
-fn all_find<R: Threads + Sync>(
+fn all_find<R: Threads + Wait + Sync>(
     rt: &R,
     alloc: Global,
     threads: usize,
@@ -43,7 +44,7 @@ fn all_find<R: Threads + Sync>(
 }
 
 /// Whether so many threads find what one finds, which is something.
-fn finds_the_same<R: Threads + Sync>(
+fn finds_the_same<R: Threads + Wait + Sync>(
     rt: &R,
     alloc: Global,
     threads: usize,
@@ -64,7 +65,7 @@ fn all_counts_of_threads_find_the_same(rt: HostRuntime) -> Result<(), Fail> {
 }
 
 /// Adds the sections of a range of conditions.
-fn add_range<R: Threads + Sync>(
+fn add_range<R: Threads + Wait + Sync>(
     rt: &R,
     alloc: Global,
     derived: &Derived,
@@ -79,7 +80,7 @@ fn add_range<R: Threads + Sync>(
 }
 
 /// Whether the sections of three ranges are the whole file.
-fn ranges_are_whole<R: Threads + Sync>(rt: &R, alloc: Global) -> Result<bool, Refusal> {
+fn ranges_are_whole<R: Threads + Wait + Sync>(rt: &R, alloc: Global) -> Result<bool, Refusal> {
     let derived = derived(alloc)?;
     let one = one_finds(alloc, &derived)?;
     let mut text = String::new(alloc);
@@ -97,7 +98,7 @@ fn ranges_in_order_are_the_whole_file(rt: HostRuntime) -> Result<(), Fail> {
 }
 
 /// The fault of a range of conditions.
-fn fault_of<R: Threads + Sync>(
+fn fault_of<R: Threads + Wait + Sync>(
     rt: &R,
     alloc: Global,
     first: u64,

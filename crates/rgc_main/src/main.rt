@@ -147,7 +147,7 @@ fn way_of(rt: &HostRuntime, line: &Line<'_>) -> Way {
         return Way::Whole;
     }
     match line.command {
-        Command::Find { .. } | Command::Prove { .. } if !rt.stdout().is_terminal() => Way::Whole,
+        Command::Prove { .. } if !rt.stdout().is_terminal() => Way::Whole,
         Command::Verify { .. } if is_coloured(rt) => Way::Whole,
         Command::Find { .. }
         | Command::Prove { .. }
@@ -222,11 +222,12 @@ fn told(rt: &HostRuntime, bytes: &[u8]) {
     let _ = write_all(&mut faults, bytes);
 }
 
-/// Writes what a command has printed to where it goes; the status. What is told of a search without a proof goes to standard error too, or
-/// there alone where the output is a file's.
+/// Writes what a command has printed to where it goes; the status. What `prove` tells of conditions without a proof goes to standard error
+/// too, or there alone where the output is a file's; the answer of `find` goes to standard output alone.
 fn written(rt: &HostRuntime, line: &Line<'_>, bytes: &[u8], status: u8) -> Result<u8, AllocError> {
     match (line.settings.output, line.command) {
         (Some(name), _) if status == 0 => write_whole(rt, name, bytes),
+        (Some(_), Command::Find { .. }) => Ok(shown(rt, bytes, status)),
         (Some(_), _) => {
             told(rt, bytes);
             Ok(status)

@@ -16,7 +16,7 @@ pub record HasToldRunOf (program : ProgramTree) (blocks : List (List BlockTree))
   pub left : IsRunLeft program blocks start moves limit closed
   pub printed : Appends old new (told_lines naming program closed.history ++ why_text closed.why)
 
--- some text, the pieces of some derivation, and some proofs are accepted for a program, whose code has exactly its runs; it was run, and what it did went
+-- some text, the pieces of some derivation, and some proofs are accepted for a program, and these are exactly the blocks of its code; it was run, and what it did went
 -- out, by some names of words and some lines of statements
 pub record HasToldRun (start moves : Option (Bor (List ℕ))) (limit : ℕ) (old new : Option (List ℕ)) : Type 0 where
   pub text : List ℕ

@@ -96,7 +96,7 @@ fn run_emitted<R: Threads + Wait + Sync, W: Out, F: Out>(
 }
 
 /// The code of a program, all of whose conditions these proofs prove.
-fn emitted_by<R: Threads + Sync>(
+fn emitted_by<R: Threads + Wait + Sync>(
     rt: &R,
     alloc: Global,
     threads: usize,

@@ -13,8 +13,9 @@ use crate::told::print_unproved;
 use rg_find::Watcher;
 use rg_outline_files::{OutlineFiles, OutlineSource, outline_map};
 use rg_words::{Out, Refusal, write_all};
-use rgc::{Derived, ProofsFound, derive_program_all, find_proofs_all};
+use rgc::{Derived, ProofsFound, derive_program, find_proofs_all};
 use std::alloc::{AllocError, Global};
+use std::sync::Wait;
 use std::thread::Threads;
 
 /// Which files are wanted beside the output.
@@ -100,7 +101,7 @@ fn put<W: Out>(
 }
 
 /// Looks for proofs where they are wanted; else there are none.
-fn proofs_where<R: Threads + Sync, P: Watcher + Copy + Sync>(
+fn proofs_where<R: Threads + Wait + Sync, P: Watcher + Copy + Sync>(
     rt: &R,
     alloc: Global,
     threads: usize,
@@ -138,7 +139,7 @@ fn map_where(alloc: Global, outline: OutlineSource<'_>, is_wanted: bool) -> Resu
 /// - `NotDone::Outline` where the outline is refused, with what tells its first fault.
 /// - `NotDone::Refused` where its text or derivation is refused, as any files are; where proofs are wanted, as `rgc::find_proofs_all`; then
 ///   `Write` where the writer failed. `Memory` where memory is refused.
-pub fn write_outline<R: Threads + Sync, W: Out, P: Watcher + Copy + Sync>(
+pub fn write_outline<R: Threads + Wait + Sync, W: Out, P: Watcher + Copy + Sync>(
     rt: &R,
     alloc: Global,
     threads: usize,
@@ -158,7 +159,7 @@ pub fn write_outline<R: Threads + Sync, W: Out, P: Watcher + Copy + Sync>(
 {
     let files = OutlineFiles::of(alloc, outline)?;
     let map = map_where(alloc, outline, wanted.has_map)?;
-    let derived = derive_program_all(rt, alloc, threads, &files.text, &files.derivation)?;
+    let derived = derive_program(alloc, &files.text, &files.derivation)?;
     match proofs_where(
         rt,
         alloc,

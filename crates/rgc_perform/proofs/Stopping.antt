@@ -17,7 +17,7 @@ use Rattle.rgc_outlined.specs.declared.stop.NotDone.{NotDone}
 use Rattle.rgc_outlined.specs.declared.stop.NotDone.TheVariants.{Outline as not_done, Refused as outline_refused}
 use Rattle.rgc_commands.specs.declared.files.Files.{Files}
 use Rattle.rgc_commands.specs.declared.stops.Stop.{Stop}
-use Rattle.rgc_commands.specs.declared.stops.Stop.TheVariants.{Device, Refused, Outline, Usage, Told}
+use Rattle.rgc_commands.specs.declared.stops.Stop.TheVariants.{Device, Refused, Outline, Usage, Told, GaveUp}
 use Rattle.rgc_commands.specs.Stopped.{IsOverTexts, unread_line}
 use Rattle.rgc_commands.specs.Stops.{IsDevice, Stops}
 use Rattle.rgc_perform.specs.Done.{IsVerdictDone}
@@ -34,6 +34,7 @@ texts_stop format command files old new m n (Err (Refused e)) (inr unlike) = inr
 texts_stop format command files old new m n (Err (Outline lines)) h = absurd h
 texts_stop format command files old new m n (Err (Usage line)) h = h
 texts_stop format command files old new m n (Err Told) h = (inl h.0, h.1)
+texts_stop format command files old new m n (Err (GaveUp why)) h = h
 
 -- a file can't be read, before anything went out
 pub device_stops : (format : Format) (command : Command) (files : Files) (old : Option (List ℕ)) (m : ℕ) (stop : Stop) → IsDevice (unread_line command files) stop → StopsLine format command files old old m m stop
@@ -42,6 +43,7 @@ device_stops format command files old m (Refused e) h = absurd h
 device_stops format command files old m (Outline lines) h = absurd h
 device_stops format command files old m (Usage line) h = absurd h
 device_stops format command files old m Told h = absurd h
+device_stops format command files old m (GaveUp why) h = absurd h
 
 -- there is no verdict on an outline
 pub no_verdict_stops : (format : Format) (command : Command) (files : Files) (P : Refusal → Type 0) (old new : Option (List ℕ)) (m n : ℕ) (none : NoVerdict) → IsOverOutline command → ((e : Refusal) → P e → AreFilesRefused command files e) → IsNoVerdict P old new m n none → StopsLine format command files old new m n (stop_of_verdict none)

@@ -11,7 +11,7 @@ use Rattle.rgc_line.specs.declared.line.Line.{Line}
 use Rattle.rg_words.specs.Stopped.{IsFailure}
 use Rattle.rgc_commands.specs.declared.files.Files.{Files}
 use Rattle.rgc_commands.specs.declared.stops.Stop.{Stop}
-use Rattle.rgc_commands.specs.declared.stops.Stop.TheVariants.{Device, Refused, Outline, Usage, Told}
+use Rattle.rgc_commands.specs.declared.stops.Stop.TheVariants.{Device, Refused, Outline, Usage, Told, GaveUp}
 use Rattle.rgc_perform.specs.Stopped.{Writes, IsLineStoppedBy, IsRefusedFor, TellsRefusal, refusal_status, is_failure, IsRefused, HasToldMisfit, HasFailed}
 use Rattle.rgc_perform.specs.Inner.Stops.{StopsLine, IsTold}
 
@@ -67,17 +67,19 @@ module _ (line : Line) (files : Files) (old new : Option (List ℕ)) (m n : ℕ)
   told_refused (Device words) status why tells one = absurd (omega (arith, tells.0, one))
   told_refused (Usage words) status why tells one = absurd (omega (arith, tells.0, one))
   told_refused Told status why tells one = inl (record { why = why.0; failures = why.1; silent = tells.1; faults = tells.2 })
-  told_refused (Outline lines) status why tells one = inr (inr (record { over = why.0; printed = why.1; lines = lines.items; tells = tells.1 }))
+  told_refused (GaveUp words) status why tells one = inr (inl (record { reason = words.now; why = why.0; failures = why.1; tells = tells.1 }))
+  told_refused (Outline lines) status why tells one = inr (inr (inr (record { over = why.0; printed = why.1; lines = lines.items; tells = tells.1 })))
   told_refused (Refused e) status why tells one =
       let at_one : TellsRefusal line.settings e 1 quiet told p q = subst (λ (s : ℕ). TellsRefusal line.settings e s quiet told p q) one tells in
       let number : refusal_status e.number ≡ 1 = told_one line e quiet told p q at_one in
-      inr (inl (record { refusal = e; why = status_one line.command files old new m n e number why; tells = at_one }))
+      inr (inr (inl (record { refusal = e; why = status_one line.command files old new m n e number why; tells = at_one })))
 
   -- what is so where it is 2
   pub told_misfit : (stop : Stop) (status : ℕ) → StopsLine line.settings.format line.command files old new m n stop → IsTold line.settings stop status quiet told p q → status ≡ 2 → HasToldMisfit line old new m n quiet told p q
   told_misfit (Device words) status why tells two = absurd (omega (arith, tells.0, two))
   told_misfit (Usage words) status why tells two = record { misfit = why.0; untouched = why.1; words = words.now; tells = tells.1 }
   told_misfit Told status why tells two = absurd (omega (arith, tells.0, two))
+  told_misfit (GaveUp words) status why tells two = absurd (omega (arith, tells.0, two))
   told_misfit (Outline lines) status why tells two = absurd (omega (arith, tells.0, two))
   told_misfit (Refused e) status why tells two = absurd (⊎_elim (λ w. not_two (is_failure e.number) status w.2 two) (λ w. omega (arith, w.0, two)) tells)
 
@@ -86,5 +88,6 @@ module _ (line : Line) (files : Files) (old new : Option (List ℕ)) (m n : ℕ)
   told_failed (Device words) status why tells three = inl (record { words = words.now; unread = why.0; untouched = why.1; tells = tells.1 })
   told_failed (Usage words) status why tells three = absurd (omega (arith, tells.0, three))
   told_failed Told status why tells three = absurd (omega (arith, tells.0, three))
+  told_failed (GaveUp words) status why tells three = absurd (omega (arith, tells.0, three))
   told_failed (Outline lines) status why tells three = absurd (omega (arith, tells.0, three))
   told_failed (Refused e) status why tells three = inr (record { refusal = e; why = why; tells = subst (λ (s : ℕ). TellsRefusal line.settings e s quiet told p q) three tells })

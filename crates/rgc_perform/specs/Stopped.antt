@@ -23,7 +23,7 @@ use Rattle.rgc_outlined.specs.Stopped.{IsSomeWriteRefusal}
 use Rattle.rgc_outlined.specs.Written.{HasToldMissing}
 use Rattle.rgc_verify.specs.Refused.{IsSomeTextRefusal, IsSomeVerifyRefusal}
 use Rattle.rgc_verify.specs.Verified.{HasBreakingRun, HasPrintedRuns}
-use Rattle.rgc_commands.specs.Stopped.{IsUntouched, unread_line, RefusesFiles, IsRunUnlike, TellsWhy, IsMisfit}
+use Rattle.rgc_commands.specs.Stopped.{IsUntouched, unread_line, RefusesFiles, IsRunUnlike, TellsWhy, GivesUp, IsMisfit}
 use Rattle.rgc_commands.specs.declared.files.Files.{Files}
 use Rattle.rgc_perform.specs.declared.outlines.TheConstants.{MOST_STEPS}
 use Rattle.rgc_perform.specs.Done.{IsVerdictDone, wanted_of}
@@ -124,6 +124,13 @@ pub record HasToldWhy (line : Line) (files : Files) (old new : Option (List ℕ)
   pub silent : told ≡ quiet
   pub faults : told_failed ≡ quiet_failed
 
+-- the output tells that a search gave up, and a line on the faults why
+pub record HasToldGivenUp (line : Line) (files : Files) (old new : Option (List ℕ)) (failed after : ℕ) (quiet told : Option (List ℕ)) (quiet_failed told_failed : ℕ) : Type 0 where
+  pub reason : List ℕ
+  pub why : GivesUp line.command files reason old new
+  pub failures : after ≡ failed
+  pub tells : Writes quiet told quiet_failed told_failed reason
+
 -- the files are refused, nothing went out, and the refusal is told on the faults
 pub record HasToldRefusal (line : Line) (files : Files) (old new : Option (List ℕ)) (failed after : ℕ) (quiet told : Option (List ℕ)) (quiet_failed told_failed : ℕ) : Type 0 where
   pub refusal : Refusal
@@ -151,6 +158,7 @@ pub record HasToldOutline (line : Line) (old new : Option (List ℕ)) (failed af
 abbrev pub IsRefused : Line → Files → Option (List ℕ) → Option (List ℕ) → ℕ → ℕ → Option (List ℕ) → Option (List ℕ) → ℕ → ℕ → Type 0
 IsRefused line files old new failed after quiet told quiet_failed told_failed =
     HasToldWhy line files old new failed after quiet told quiet_failed told_failed
+    ⊎ HasToldGivenUp line files old new failed after quiet told quiet_failed told_failed
     ⊎ HasToldRefusal line files old new failed after quiet told quiet_failed told_failed
     ⊎ HasToldOutline line old new failed after quiet told quiet_failed told_failed
 

@@ -198,6 +198,10 @@ fn tell<F: Out>(
             3
         }
         Stop::Told => 1,
+        Stop::GaveUp(why) => {
+            tell_text(why.as_bytes(), faults);
+            1
+        }
         Stop::Outline(lines) => {
             tell_text(lines, faults);
             1
@@ -216,7 +220,7 @@ fn tell<F: Out>(
 /// Does the command over the bytes of its files in at most so many threads (a run has one for each part besides), and answers the program's
 /// status: 0 done, 1 refused or no proof found, 2 where the words don't fit (a range of conditions that isn't one, no refusal of the number to
 /// explain), 3 where a file can't be read, where the output can't be written, or where memory is refused. A refusal is one line on `faults`,
-/// and what explains it below, where that is asked; moves of a run that were passed over are told there, and change no status. Each search has
+/// and what explains it below, where that is asked; why the search of `find` gave up is one line there, and moves of a run that were passed over are told there, and change no status. Each search has
 /// a copy of the watcher, which is told of a long one. A run that is drawn has its picture put behind what `sides` holds, and an outline its
 /// derivation and its map; of what is put there nothing is promised.
 pub fn perform<R: Threads + Wait + Sync, W: Out, F: Out, P: Watcher + Copy + Sync>(
@@ -236,7 +240,8 @@ pub fn perform<R: Threads + Wait + Sync, W: Out, F: Out, P: Watcher + Copy + Syn
     ensures failures { result ≡ 0 → W.failures out.new ≡ W.failures out.old }
     ensures done { result ≡ 0 → IsLineDone line.now files.now (W.contents out.old) (W.contents out.new) }
 
-    // There is no proof, and the output tells why; or the files are refused, nothing went out, and the refusal is told; or an outline is refused.
+    // There is no proof, and the output tells why; or it tells that the search gave up, and the faults why; or the files are refused, nothing
+    // went out, and the refusal is told; or an outline is refused.
     ensures refused { result ≡ 1 → IsRefused line.now files.now (W.contents out.old) (W.contents out.new) (W.failures out.old) (W.failures out.new) (F.contents faults.old) (F.contents faults.new) (F.failures faults.old) (F.failures faults.new) }
 
     // The words don't fit, nothing went out, and that is told.

@@ -77,7 +77,7 @@ impl Written<'_> {
 }
 
 /// Writes what stands for an outline: into `sides` what is wanted there, and the text to the output where it isn't.
-pub(crate) fn outline<R: Threads + Sync, W: Out, P: Watcher + Copy + Sync>(
+pub(crate) fn outline<R: Threads + Wait + Sync, W: Out, P: Watcher + Copy + Sync>(
     rt: &R,
     alloc: Global,
     threads: usize,
@@ -157,7 +157,7 @@ fn form_of<'a>(outlines: Outlines<'a>, format: rgc_line::Format) -> Form<'a> {
 
 /// Prints how many conditions of an outline's program were proved; else which have no proof, and a run that breaks the specification or that
 /// none was found. Its warnings are told on the faults.
-fn prove_outline<R: Threads + Sync, W: Out, F: Out, P: Watcher + Copy + Sync>(
+fn prove_outline<R: Threads + Wait + Sync, W: Out, F: Out, P: Watcher + Copy + Sync>(
     rt: &R,
     alloc: Global,
     threads: usize,
@@ -217,7 +217,7 @@ fn walk_outline<W: Out>(
 }
 
 /// Verifies an outline, or follows the runs of its program alone.
-pub(crate) fn verify<R: Threads + Sync, W: Out, F: Out, P: Watcher + Copy + Sync>(
+pub(crate) fn verify<R: Threads + Wait + Sync, W: Out, F: Out, P: Watcher + Copy + Sync>(
     rt: &R,
     alloc: Global,
     threads: usize,
@@ -247,7 +247,7 @@ pub(crate) fn verify<R: Threads + Sync, W: Out, F: Out, P: Watcher + Copy + Sync
 }
 
 /// Verifies an outline, and then tells which small changes of its program its specification doesn't see.
-pub(crate) fn challenge_outline<R: Threads + Sync, W: Out, P: Watcher + Copy + Sync>(
+pub(crate) fn challenge_outline<R: Threads + Wait + Sync, W: Out, P: Watcher + Copy + Sync>(
     rt: &R,
     alloc: Global,
     threads: usize,

@@ -16,6 +16,7 @@ short_built text derivation pieces proofs p code cut short built =
       spells = accepted.spells;
       built = record {
         accepted = accepted.accepted;
+        compiled = built.compiled;
         runs = built.runs;
         satisfied = built.satisfied;
       };

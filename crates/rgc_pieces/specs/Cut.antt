@@ -7,7 +7,7 @@ use Rattle.rg_words.specs.Refusals.{no_memory}
 use Rattle.rg_tree.specs.Lines.{LineTree}
 use Rattle.rg_tree.specs.Statements.{ProgramTree}
 use Rattle.rg_tree.specs.Programs.{IsSatisfied}
-use Rattle.rg_code.specs.Code.{BlockTree, HasRunsOf}
+use Rattle.rg_code.specs.Code.{BlockTree, HasRunsOf, program_code}
 use Rattle.rg_accept.specs.Accepted.{AreAccepted, IsBuiltText}
 use Rattle.rgc.specs.Pieces.{AreAcceptedInPieces, AreDerivedInPieces, IsDeriveInPiecesRefusal}
 
@@ -27,10 +27,11 @@ abbrev pub IsOfPiecesRefusal : List ℕ → List ℕ → Refusal → Type 0
 IsOfPiecesRefusal text derivation e =
     (e ≡ no_memory) ⊎ ((pieces : List (List ℕ)) × ArePiecesOf derivation pieces × IsDeriveInPiecesRefusal text pieces e)
 
--- the text, the pieces of a derivation and the proofs are accepted for this program by the written rules; the code has exactly its runs, and it
--- satisfies its specification
+-- the text, the pieces of a derivation and the proofs are accepted for this program by the written rules; the code is exactly that of the program
+-- and has exactly its runs, and it satisfies its specification
 pub record IsBuiltInPieces (text : List ℕ) (pieces : List (List ℕ)) (proofs : List ℕ) (p : ProgramTree) (code : List (List BlockTree)) : Type 0 where
   pub accepted : AreAcceptedInPieces text pieces proofs p
+  pub compiled : code ≡ program_code p.parts
   pub runs : HasRunsOf p code
   pub satisfied : IsSatisfied p
 

@@ -70,7 +70,7 @@ pub record IsOver (program : ProgramTree) (code : Code) : Type 0 where
   pub words : code.layout ≡ program.words
   pub names : names_of_code code ≡ map (λ p. p.name) program.parts
 
--- the files are accepted for a program, the code has exactly its runs, and the code's listing and a line end went out
+-- the files are accepted for a program, the code is exactly its code, and the code's listing and a line end went out
 pub record HasPrintedListing (text derivation proofs : List ℕ) (old new : Option (List ℕ)) : Type 0 where
   pub program : ProgramTree
   pub code : Code

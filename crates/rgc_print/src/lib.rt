@@ -7,6 +7,7 @@ mod numbers;
 mod printed;
 
 pub use conditions::{write_conditions, write_listing};
+pub use judged::Answer;
 pub use numbers::{kind_text, part_name, write_numbers};
 pub use printed::{
     print_accepted, print_clauses, print_condition_clauses, print_condition_found,

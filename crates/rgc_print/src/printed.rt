@@ -9,22 +9,23 @@ ghost use Rattle.rg_accept.specs.Stages.{derived_program, derived_lines};
 ghost use Rattle.rgc.specs.Chosen.{IsDeriveRefusal, IsChosenClausesRefusal, IsChosenFindRefusal};
 ghost use Rattle.rgc.specs.Proofs.{IsProveRefusal, IsProvePartRefusal};
 ghost use Rattle.rgc.specs.Valid.{IsClausesRefusal, IsFindRefusal, IsValidRefusal};
-ghost use Rattle.rgc_print.specs.Told.{HasToldFormula, HasToldCondition, HasToldUnproved, HasToldUnprovedPart};
+ghost use Rattle.rgc_print.specs.Answered.{AnswersFormula, AnswersCondition};
+ghost use Rattle.rgc_print.specs.Told.{HasToldUnproved, HasToldUnprovedPart};
 ghost use Rattle.rgc_print.specs.Inner.Lines.{PrintsFound, TellsFound};
-ghost use Rattle.rgc_print.specs.Printed.{HasPrintedNumbers, HasPrintedAccepted, HasPrintedConditions, HasPrintedProofs, HasPrintedPart, HasPrintedListing, HasPrintedHolds, HasPrintedClauses, HasPrintedConditionClauses, HasPrintedLines, HasPrintedConditionLines};
+ghost use Rattle.rgc_print.specs.Printed.{HasPrintedNumbers, HasPrintedAccepted, HasPrintedConditions, HasPrintedProofs, HasPrintedPart, HasPrintedListing, HasPrintedHolds, HasPrintedClauses, HasPrintedConditionClauses};
 
 use crate::conditions::{write_conditions, write_listing};
-use crate::judged::print_judged;
+use crate::judged::{Answer, print_judged};
 use crate::numbers::write_numbers;
 use rg_code::checked::Checked;
 use rg_find::Watcher;
 use rg_words::{Out, Refusal, write_all};
 use rgc::{
     Derived, Parsed, ProofsFound, accept_all, build_all, clauses, condition_clauses,
-    derive_program, derive_program_all, failures_text, find, find_condition, find_part,
-    find_proofs_all, valid_all,
+    derive_program, failures_text, find, find_condition, find_part, find_proofs_all, valid_all,
 };
 use std::alloc::Global;
+use std::sync::Wait;
 use std::thread::Threads;
 
 /// Prints the statements of a program with their numbers.
@@ -48,7 +49,7 @@ pub fn print_numbers<W: Out>(alloc: Global, text: &[u8], out: &mut W) -> Result<
 /// # Errors
 ///
 /// As `rgc::accept_all`; `Write` where the writer failed. `Memory` where memory is refused.
-pub fn print_accepted<R: Threads + Sync, W: Out>(
+pub fn print_accepted<R: Threads + Wait + Sync, W: Out>(
     rt: &R,
     alloc: Global,
     threads: usize,
@@ -119,7 +120,7 @@ fn print_search<W: Out>(
 /// # Errors
 ///
 /// The first fault of the text, then of the derivation; else as `rgc::find_proofs_all`. `Write` where the writer failed. `Memory` where memory is refused.
-pub fn print_proofs<R: Threads + Sync, W: Out, P: Watcher + Copy + Sync>(
+pub fn print_proofs<R: Threads + Wait + Sync, W: Out, P: Watcher + Copy + Sync>(
     rt: &R,
     alloc: Global,
     threads: usize,
@@ -135,7 +136,7 @@ pub fn print_proofs<R: Threads + Sync, W: Out, P: Watcher + Copy + Sync>(
     ensures told { IfOk result (λ b. b ≡ false → HasToldUnproved text.now derivation.now (W.contents out.old) (W.contents out.new)) }
     ensures stopped { IfErr result (IsStopped (IsProveRefusal text.now derivation.now steps) (W.contents out.old) (W.contents out.new) (W.failures out.old) (W.failures out.new)) }
 {
-    let derived = derive_program_all(rt, alloc, threads, text, derivation)?;
+    let derived = derive_program(alloc, text, derivation)?;
     let found = find_proofs_all(rt, alloc, threads, &derived, steps, watcher)?;
     print_search(alloc, &derived, &found, out)
 }
@@ -146,7 +147,7 @@ pub fn print_proofs<R: Threads + Sync, W: Out, P: Watcher + Copy + Sync>(
 /// # Errors
 ///
 /// The first fault of the text, then of the derivation; else as `rgc::find_part`. `Write` where the writer failed. `Memory` where memory is refused.
-pub fn print_proofs_part<R: Threads + Sync, W: Out, P: Watcher + Copy + Sync>(
+pub fn print_proofs_part<R: Threads + Wait + Sync, W: Out, P: Watcher + Copy + Sync>(
     rt: &R,
     alloc: Global,
     threads: usize,
@@ -164,7 +165,7 @@ pub fn print_proofs_part<R: Threads + Sync, W: Out, P: Watcher + Copy + Sync>(
     ensures told { IfOk result (λ b. b ≡ false → HasToldUnprovedPart text.now derivation.now first last (W.contents out.old) (W.contents out.new)) }
     ensures stopped { IfErr result (IsStopped (IsProvePartRefusal text.now derivation.now first last steps) (W.contents out.old) (W.contents out.new) (W.failures out.old) (W.failures out.new)) }
 {
-    let derived = derive_program_all(rt, alloc, threads, text, derivation)?;
+    let derived = derive_program(alloc, text, derivation)?;
     let found = find_part(rt, alloc, threads, &derived, first, last, steps, watcher)?;
     print_search(alloc, &derived, &found, out)
 }
@@ -174,7 +175,7 @@ pub fn print_proofs_part<R: Threads + Sync, W: Out, P: Watcher + Copy + Sync>(
 /// # Errors
 ///
 /// As `rgc::build_all`; `Write` where the writer failed. `Memory` where memory is refused.
-pub fn print_listing<R: Threads + Sync, W: Out>(
+pub fn print_listing<R: Threads + Wait + Sync, W: Out>(
     rt: &R,
     alloc: Global,
     threads: usize,
@@ -197,7 +198,7 @@ pub fn print_listing<R: Threads + Sync, W: Out>(
 /// # Errors
 ///
 /// As `rgc::valid_all`; `Write` where the writer failed. `Memory` where memory is refused.
-pub fn print_valid<R: Threads + Sync, W: Out>(
+pub fn print_valid<R: Threads + Wait + Sync, W: Out>(
     rt: &R,
     alloc: Global,
     threads: usize,
@@ -253,7 +254,7 @@ pub fn print_condition_clauses<W: Out>(
     Ok(())
 }
 
-/// Prints the lines that prove the formula; else, and then it answers false, the states at which it fails or that the search gave up.
+/// Prints the lines that prove the formula, or the states at which it fails, or that the search gave up; and answers which.
 ///
 /// # Errors
 ///
@@ -264,18 +265,17 @@ pub fn print_found<W: Out, P: Watcher>(
     steps: u64,
     out: &mut W,
     watcher: &mut P,
-) -> Result<bool, Refusal>
+) -> Result<Answer, Refusal>
     requires { CanCount (W.failures out.old) }
-    ensures printed { IfOk result (λ b. IsTrue b → HasPrintedLines text.now (W.contents out.old) (W.contents out.new)) }
+    ensures answered { IfOk result (AnswersFormula text.now (W.contents out.old) (W.contents out.new)) }
     ensures failures { OnOk result (W.failures out.new ≡ W.failures out.old) }
-    ensures told { IfOk result (λ b. b ≡ false → HasToldFormula text.now (W.contents out.old) (W.contents out.new)) }
     ensures stopped { IfErr result (IsStopped (IsFindRefusal text.now steps) (W.contents out.old) (W.contents out.new) (W.failures out.old) (W.failures out.new)) }
 {
     let (condition, judged) = find(alloc, text, steps, watcher)?;
     print_judged(alloc, &condition, &judged, out)
 }
 
-/// Prints the lines that prove a condition of a program; else, and then it answers false, the states at which it fails or that the search gave up.
+/// Prints the lines that prove a condition of a program, or the states at which it fails, or that the search gave up; and answers which.
 ///
 /// # Errors
 ///
@@ -288,11 +288,10 @@ pub fn print_condition_found<W: Out, P: Watcher>(
     steps: u64,
     out: &mut W,
     watcher: &mut P,
-) -> Result<bool, Refusal>
+) -> Result<Answer, Refusal>
     requires { CanCount (W.failures out.old) }
-    ensures printed { IfOk result (λ b. IsTrue b → HasPrintedConditionLines text.now derivation.now number (W.contents out.old) (W.contents out.new)) }
+    ensures answered { IfOk result (AnswersCondition text.now derivation.now number (W.contents out.old) (W.contents out.new)) }
     ensures failures { OnOk result (W.failures out.new ≡ W.failures out.old) }
-    ensures told { IfOk result (λ b. b ≡ false → HasToldCondition text.now derivation.now number (W.contents out.old) (W.contents out.new)) }
     ensures stopped { IfErr result (IsStopped (IsChosenFindRefusal text.now derivation.now number steps) (W.contents out.old) (W.contents out.new) (W.failures out.old) (W.failures out.new)) }
 {
     let (condition, judged) = find_condition(alloc, text, derivation, number, steps, watcher)?;

@@ -15,7 +15,7 @@ pub record HasPrintedRunJsonOf (program : ProgramTree) (blocks : List (List Bloc
   pub left : IsRunLeft program blocks start moves limit closed
   pub printed : Appends old new (run_text program closed)
 
--- the files are accepted for a program, whose code has exactly its runs; it was run, and what it did went out
+-- the files are accepted for a program, and these are exactly the blocks of its code; it was run, and what it did went out
 pub record HasPrintedRunJson (text derivation proofs : List ℕ) (start moves : Option (Bor (List ℕ))) (limit : ℕ) (old new : Option (List ℕ)) : Type 0 where
   pub program : ProgramTree
   pub blocks : List (List BlockTree)

@@ -4,34 +4,14 @@ use Rattle.std.specs.Io.KnownBytes.{Appends}
 use Rattle.serde_json.specs.Data.{Data, object, member, no_members, number, string, unsigned}
 use Rattle.serde_json.specs.Written.{compact_text}
 use Rattle.rg_words.specs.declared.limits.TheConstants.{MOST_TEXT_BYTES}
-use Rattle.rg_tree.specs.Lines.{LineTree}
 use Rattle.rg_tree.specs.Statements.{ProgramTree}
 use Rattle.rg_tree.specs.Programs.{IsSatisfied}
 use Rattle.rg_accept.specs.Accepted.{conditions_of, AreAccepted}
 use Rattle.rgc.specs.Pieces.{AreAcceptedInPieces}
-use Rattle.rgc.specs.Chosen.{AreDerived}
 use Rattle.rgc_pieces.specs.Cut.{ArePiecesOf}
 use Rattle.rgc_walked.specs.Refuted.{IsRefuted}
 use Rattle.rgc_verify.specs.declared.verdict.Form.{Form}
 use Rattle.rgc_verify.specs.declared.verdict.Form.TheVariants.{Alone, Named, Json}
-
--- a text went out that spells a program, whose parts some derivation derives
-pub record HasPrintedOutline (old new : Option (List ℕ)) : Type 0 where
-  pub text : List ℕ
-  pub derivation : List ℕ
-  pub program : ProgramTree
-  pub lines : List LineTree
-  pub derived : AreDerived text derivation program lines
-  pub printed : Appends old new text
-
--- a map went out, and some text spells a program, whose parts some derivation derives
-pub record HasPrintedMap (map : List ℕ) (old new : Option (List ℕ)) : Type 0 where
-  pub text : List ℕ
-  pub derivation : List ℕ
-  pub program : ProgramTree
-  pub lines : List LineTree
-  pub derived : AreDerived text derivation program lines
-  pub printed : Appends old new map
 
 -- how many conditions were proved, and for how many of them a search found lines
 abbrev pub verified_text : ℕ → ℕ → List ℕ

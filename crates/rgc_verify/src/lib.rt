@@ -1,14 +1,12 @@
 //! Outlines: what they stand for, whether it is proved, and whether a run breaks it.
 #![tactic(auto)]
 
-mod outline;
 mod outlines;
 mod pieces;
 mod runs;
 mod verdict;
 mod verify;
 
-pub use outline::{print_map, print_outline};
 pub use outlines::verify_outline;
 pub use pieces::short_derivations_are_accepted;
 pub use rgc_walked::NoVerdict;

@@ -19,6 +19,7 @@ use rgc::{Unproved, find};
 use rgc_failures::conditions_told;
 use rgc_walked::{NoVerdict, tell_walk};
 use std::alloc::{AllocError, Global};
+use std::sync::Wait;
 use std::thread::Threads;
 
 /// The most decisions of the search for a state that meets a pre.
@@ -110,7 +111,7 @@ fn push_warnings(
 ///
 /// - `NoVerdict::Outline` where the outline is refused, with what tells its first fault.
 /// - `NoVerdict::Refused` as `print_verified`.
-pub fn verify_outline<R: Threads + Sync, W: Out, P: Watcher + Copy + Sync>(
+pub fn verify_outline<R: Threads + Wait + Sync, W: Out, P: Watcher + Copy + Sync>(
     rt: &R,
     alloc: Global,
     threads: usize,

@@ -18,6 +18,7 @@ use rg_words::{Out, Refusal, write_all};
 use rgc::{Derived, ProofsFound, Unproved, find_proofs_all};
 use rgc_pieces::derive_outline;
 use std::alloc::Global;
+use std::sync::Wait;
 use std::thread::Threads;
 
 /// How many sections a proofs file has: each has one `s`, in its head.
@@ -26,7 +27,7 @@ fn sections_in(proofs: &[u8]) -> usize {
 }
 
 /// Prints how many conditions were proved, where the proofs prove them all.
-fn print_counts<R: Threads + Sync, W: Out>(
+fn print_counts<R: Threads + Wait + Sync, W: Out>(
     rt: &R,
     alloc: Global,
     threads: usize,
@@ -53,7 +54,7 @@ fn print_counts<R: Threads + Sync, W: Out>(
 /// # Errors
 ///
 /// As `rgc_pieces::derive_outline`; then as `rgc::find_proofs_all`. `Write` where the writer failed, `Memory` where memory is refused.
-pub fn print_verified<R: Threads + Sync, W: Out, P: Watcher + Copy + Sync>(
+pub fn print_verified<R: Threads + Wait + Sync, W: Out, P: Watcher + Copy + Sync>(
     rt: &R,
     alloc: Global,
     threads: usize,

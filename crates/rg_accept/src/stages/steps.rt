@@ -9,7 +9,7 @@ ghost use Rattle.rg_tree.specs.Programs.{IsSatisfied};
 ghost use Rattle.rg_tree.specs.Statements.{ProgramTree};
 ghost use Rattle.rg_tree.specs.Lines.{LineTree};
 ghost use Rattle.rg_hints.specs.Proved.{AreProved, IsProofsRefusal};
-ghost use Rattle.rg_code.specs.Code.{HasRunsOf};
+ghost use Rattle.rg_code.specs.Code.{HasRunsOf, program_code};
 ghost use Rattle.rg_rules.specs.Reading.{FitsProgram, IsDerivationRefusal};
 ghost use Rattle.rg_accept.specs.Accepted.{conditions_of};
 ghost use Rattle.rg_accept.specs.Names.{names_of_conditions};
@@ -18,7 +18,6 @@ ghost use Rattle.rg_accept.specs.Stages.{parsed_program, derived_program, derive
 
 use super::{Accepted, Derived, Emitted, Parsed};
 use rg_code::compile::compile;
-use rg_groups::Deriver;
 use rg_hints::{OneThread, Prover};
 use rg_par::conditions::add_conditions;
 use rg_par::names::add_names;
@@ -29,6 +28,7 @@ use rg_tree::condition::Condition;
 use rg_tree::program::Program;
 use rg_words::Refusal;
 use std::alloc::{AllocError, Global};
+use std::sync::Wait;
 use std::thread::Threads;
 
 impl Parsed {
@@ -56,30 +56,6 @@ impl Parsed {
         &self.program
     }
 
-    /// The program with the lines that a derivation spells, which derive its parts, as this reader reads them.
-    ///
-    /// # Errors
-    ///
-    /// As `Derived::read`.
-    pub fn derive_by<L: Deriver>(
-        self,
-        reader: &L,
-        alloc: Global,
-        derivation: &[u8],
-    ) -> Result<Derived, Refusal>
-        requires { L.can_derive reader.now }
-        ensures program { IfOk result (λ d. derived_program d ≡ parsed_program self) }
-        ensures fits { IfOk result (λ d. FitsProgram (parsed_program self) derivation.now (derived_lines d)) }
-        ensures refused { IfErr result (IsDerivationRefusal (parsed_program self) derivation.now) }
-        ensures accepts { (ls : List LineTree) → FitsProgram (parsed_program self) derivation.now ls → IfErr result (λ e. e ≡ no_memory) }
-    {
-        let Parsed { program } = self;
-        match Derived::read_by(reader, alloc, program, derivation) {
-            Ok(derived) => Ok(derived),
-            Err(refusal) => Err(refusal),
-        }
-    }
-
     /// The program with the lines that a derivation spells, which derive its parts.
     ///
     /// # Errors
@@ -91,62 +67,15 @@ impl Parsed {
         ensures refused { IfErr result (IsDerivationRefusal (parsed_program self) derivation.now) }
         ensures accepts { (ls : List LineTree) → FitsProgram (parsed_program self) derivation.now ls → IfErr result (λ e. e ≡ no_memory) }
     {
-        self.derive_by(&OneThread, alloc, derivation)
-    }
-
-    /// The same, in at most so many threads: a long derivation is read in groups of lines, side by side. A thread that can't be
-    /// had costs time alone.
-    ///
-    /// # Errors
-    ///
-    /// As `Derived::read`.
-    pub fn derive_all<R: Threads + Sync>(
-        self,
-        rt: &R,
-        alloc: Global,
-        threads: usize,
-        derivation: &[u8],
-    ) -> Result<Derived, Refusal>
-        ensures program { IfOk result (λ d. derived_program d ≡ parsed_program self) }
-        ensures fits { IfOk result (λ d. FitsProgram (parsed_program self) derivation.now (derived_lines d)) }
-        ensures refused { IfErr result (IsDerivationRefusal (parsed_program self) derivation.now) }
-        ensures accepts { (ls : List LineTree) → FitsProgram (parsed_program self) derivation.now ls → IfErr result (λ e. e ≡ no_memory) }
-    {
-        self.derive_by(&InThreads { rt, threads }, alloc, derivation)
+        let Parsed { program } = self;
+        match Derived::read(alloc, program, derivation) {
+            Ok(derived) => Ok(derived),
+            Err(refusal) => Err(refusal),
+        }
     }
 }
 
 impl Derived {
-    /// The program with the lines that a derivation spells, which derive its parts, as this reader reads them.
-    ///
-    /// # Errors
-    ///
-    /// As `read`.
-    pub fn read_by<L: Deriver>(
-        reader: &L,
-        alloc: Global,
-        program: Program,
-        derivation: &[u8],
-    ) -> Result<Derived, Refusal>
-        requires { L.can_derive reader.now }
-        ensures program { IfOk result (λ d. derived_program d ≡ program_tree program) }
-        ensures fits { IfOk result (λ d. FitsProgram (program_tree program) derivation.now (derived_lines d)) }
-        ensures refused { IfErr result (IsDerivationRefusal (program_tree program) derivation.now) }
-        ensures accepts { (ls : List LineTree) → FitsProgram (program_tree program) derivation.now ls → IfErr result (λ e. e ≡ no_memory) }
-    {
-        let (lines, last) = match reader.read(alloc, &program.layout, derivation) {
-            Ok(read) => read,
-            Err(refusal) => return Err(refusal),
-        };
-        match Derivation::of_lines(alloc, &program, lines, last) {
-            Ok(derivation) => Ok(Derived {
-                program,
-                derivation,
-            }),
-            Err(refusal) => Err(refusal),
-        }
-    }
-
     /// The program with the lines that a derivation spells, which derive its parts.
     ///
     /// # Errors
@@ -158,7 +87,13 @@ impl Derived {
         ensures refused { IfErr result (IsDerivationRefusal (program_tree program) derivation.now) }
         ensures accepts { (ls : List LineTree) → FitsProgram (program_tree program) derivation.now ls → IfErr result (λ e. e ≡ no_memory) }
     {
-        Derived::read_by(&OneThread, alloc, program, derivation)
+        match Derivation::read(alloc, &program, derivation) {
+            Ok(derivation) => Ok(Derived {
+                program,
+                derivation,
+            }),
+            Err(refusal) => Err(refusal),
+        }
     }
 
     /// The program.
@@ -166,28 +101,6 @@ impl Derived {
         ensures { program_tree result.now ≡ derived_program self.now }
     {
         &self.program
-    }
-
-    /// The conditions of the rules, made by this deriver: those of the lines in their order, then those of the parallel parts. They are
-    /// numbered from 1.
-    ///
-    /// # Errors
-    ///
-    /// Only where memory is refused.
-    pub fn conditions_by<L: Deriver>(
-        &self,
-        deriver: &L,
-        alloc: Global,
-    ) -> Result<Vec<Condition>, AllocError>
-        requires { L.can_derive deriver.now }
-        // Exactly the rules' list.
-        ensures list { IfOk result (λ all. map condition_tree all.items ≡ conditions_of (derived_program self.now) (derived_lines self.now)) }
-        // Where all of them are true, the program satisfies its specification.
-        ensures sound { IfOk result (λ all. AllConditionsHold (map condition_tree all.items) → IsSatisfied (derived_program self.now)) }
-    {
-        let mut all = deriver.conditions(alloc, &self.derivation, &self.program)?;
-        add_conditions(alloc, &mut all, &self.program)?;
-        Ok(all)
     }
 
     /// The conditions of the rules: those of the lines in their order, then those of the parallel parts. They are numbered from 1.
@@ -201,7 +114,9 @@ impl Derived {
         // Where all of them are true, the program satisfies its specification.
         ensures sound { IfOk result (λ all. AllConditionsHold (map condition_tree all.items) → IsSatisfied (derived_program self.now)) }
     {
-        self.conditions_by(&OneThread, alloc)
+        let mut all = self.derivation.conditions(alloc, &self.program)?;
+        add_conditions(alloc, &mut all, &self.program)?;
+        Ok(all)
     }
 
     /// The name of each condition, in the order of `conditions`.
@@ -222,30 +137,25 @@ impl Derived {
     /// # Errors
     ///
     /// The first fault of the proofs, as `rg_hints::prove` tells it.
-    pub fn prove_by<P: Prover + Deriver>(
+    pub fn prove_by<P: Prover>(
         self,
         prover: &P,
         alloc: Global,
         proofs: &[u8],
     ) -> Result<Accepted, Refusal>
-        requires proves { P.can_prove prover.now }
-        requires derives { P.can_derive prover.now }
+        requires { P.can_prove prover.now }
         ensures program { IfOk result (λ a. accepted_program a ≡ derived_program self) }
         ensures proved { OnOk result (AreProved (conditions_of (derived_program self) (derived_lines self)) proofs.now) }
         ensures satisfied { IfOk result (λ a. IsSatisfied (accepted_program a)) }
         ensures refused { IfErr result (IsProofsRefusal (conditions_of (derived_program self) (derived_lines self)) proofs.now) }
         ensures accepts { AreProved (conditions_of (derived_program self) (derived_lines self)) proofs.now → IfErr result (λ e. e ≡ no_memory) }
     {
-        let conditions = self.conditions_by(prover, alloc)?;
+        let conditions = self.conditions(alloc)?;
         match prover.prove(alloc, conditions.as_slice(), proofs) {
             Ok(()) => {}
             Err(refusal) => return Err(refusal),
         }
-        let Derived {
-            program,
-            derivation,
-        } = self;
-        prover.let_go(conditions, derivation.lines);
+        let Derived { program, .. } = self;
         Ok(Accepted { program })
     }
 
@@ -269,7 +179,7 @@ impl Derived {
     /// # Errors
     ///
     /// As `prove`.
-    pub fn prove_all<R: Threads + Sync>(
+    pub fn prove_all<R: Threads + Wait + Sync>(
         self,
         rt: &R,
         alloc: Global,
@@ -301,6 +211,8 @@ impl Accepted {
     /// Only where memory is refused.
     pub fn emit(self, alloc: Global) -> Result<Emitted, Refusal>
         ensures program { IfOk result (λ e. emitted_program e ≡ accepted_program self) }
+        // Exactly these blocks.
+        ensures blocks { IfOk result (λ e. emitted_blocks e ≡ program_code (accepted_program self).parts) }
         // A trace with its flag is a run of the code if and only if it is a run of the program, with any steps of the environment.
         ensures runs { IfOk result (λ e. HasRunsOf (accepted_program self) (emitted_blocks e)) }
         ensures refused { IfErr result (λ e. e ≡ no_memory) }

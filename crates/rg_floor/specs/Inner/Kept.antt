@@ -1,5 +1,5 @@
 -- What the fields of a floor keep.
-use Rattle.std.specs.Prelude.{◌≡◌, ℕ, ◌≤◌, Bool, true, List, length}
+use Rattle.std.specs.Prelude.{◌≡◌, ℕ, ◌≤◌, Bool, true, List, length, map}
 use Rattle.rg_words.specs.Layout.{widths_of}
 use Rattle.rg_words.specs.States.{Valuation}
 use Rattle.rg_words.specs.declared.limits.TheConstants.{MOST_RUN_STEPS}
@@ -10,7 +10,7 @@ use Rattle.rg_tree.specs.Programs.{OthersInside}
 use Rattle.rg_code.specs.Code.{BlockTree, zeros}
 use Rattle.rg_machine.specs.Machine.{Configuration}
 use Rattle.rg_stepping.specs.Changes.{Changing, rebuilt, state_after, AreChangesOf}
-use Rattle.rg_floor.specs.History.{FloorView, GoTogether, RecordsLead, steps_of, own_steps}
+use Rattle.rg_floor.specs.History.{FloorView, GoTogether, RecordsLead, steps_of, own_steps, change_in}
 
 -- the fields are those of this code, start and limit, and the changes are those of a legal history
 pub record IsKept (p : ProgramTree) (codes : List (List BlockTree)) (start : State) (limit : ℕ) (code : List (List BlockTree)) (c ahead : Configuration) (first scratch : Valuation) (changes : List Changing) (most own total : ℕ) : Type 0 where
@@ -34,6 +34,7 @@ pub record IsKept (p : ProgramTree) (codes : List (List BlockTree)) (start : Sta
   pub within : own ≤ limit
   pub booked : total ≡ own
   pub fit : AreChangesOf (widths_of p.words) changes
+  pub exact : changes ≡ map change_in (rebuilt p 0 start changes)
 
 -- what contracts see of a floor with these fields
 abbrev pub view_of : ProgramTree → State → Configuration → List Changing → Bool → Bool → FloorView

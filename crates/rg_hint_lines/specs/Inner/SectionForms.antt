@@ -1,10 +1,10 @@
 -- Sections as the code holds them, and parts of a text.
-use Rattle.std.specs.Prelude.{◌≡◌, ◌==◌, ◌⊎◌, ℕ, ◌+◌, ◌<◌, ◌≤◌, false, Option, Some, None, Result, Err, List, [], length, All}
+use Rattle.std.specs.Prelude.{◌≡◌, ◌==◌, ◌⊎◌, ℕ, ◌+◌, ◌<◌, ◌≤◌, false, Option, Some, None, Result, Err, List, [], ◌++◌, length, All}
 use Rattle.std.specs.Str.Lines.{lines}
 use Rattle.rg_words.specs.declared.refusal.Refusal.{Refusal}
 use Rattle.rg_hint_lines.specs.declared.sections.SectionBytes.{SectionBytes}
 use Rattle.rg_hint_lines.specs.Text.{fields_of}
-use Rattle.rg_hint_lines.specs.LineEnds.{IsFrontLine, AreFrontLines}
+use Rattle.rg_hint_lines.specs.LineEnds.{EndsLine, IsFrontLine}
 use Rattle.rg_hint_lines.specs.Sections.{SectionText, is_head, headed_lines, behind_front, sections_under}
 
 -- a number that stands for another: it is the same, or both are greater than the most that counts
@@ -29,6 +29,13 @@ pub record IsPlainLine (text rest : List ℕ) : Type 0 where
 -- no lines stand before the first head
 abbrev pub BeginsWithHead : List ℕ → Type 0
 BeginsWithHead text = (number : ℕ) → (headed_lines (lines text) number).0 ≡ []
+
+-- a text is so many lines, with their ends, and the rest
+pub record AreFrontLines (text front rest : List ℕ) (count : ℕ) : Type 0 where
+  pub is : text ≡ front ++ rest
+  pub ends : (rest ≡ []) ⊎ EndsLine front
+  pub lines_are : lines text ≡ lines front ++ lines rest
+  pub count_is : count ≡ length (lines front)
 
 -- a text begins with these lines, none of which is a head, and goes on with the rest
 pub record ArePlainLines (text front rest : List ℕ) (count : ℕ) : Type 0 where

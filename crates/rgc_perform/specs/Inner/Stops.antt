@@ -7,10 +7,10 @@ use Rattle.rgc_walked.specs.declared.no_verdict.NoVerdict.{NoVerdict}
 use Rattle.rgc_walked.specs.declared.no_verdict.NoVerdict.TheVariants.{Outline as no_verdict, Refused as verdict_refused}
 use Rattle.rgc_outlined.specs.declared.stop.NotDone.{NotDone}
 use Rattle.rgc_outlined.specs.declared.stop.NotDone.TheVariants.{Outline as not_done, Refused as outline_refused}
-use Rattle.rgc_commands.specs.Stopped.{IsUntouched, unread_line, IsMisfit}
+use Rattle.rgc_commands.specs.Stopped.{IsUntouched, unread_line, GivesUp, IsMisfit}
 use Rattle.rgc_commands.specs.declared.files.Files.{Files}
 use Rattle.rgc_commands.specs.declared.stops.Stop.{Stop}
-use Rattle.rgc_commands.specs.declared.stops.Stop.TheVariants.{Device, Refused, Outline, Usage, Told}
+use Rattle.rgc_commands.specs.declared.stops.Stop.TheVariants.{Device, Refused, Outline, Usage, Told, GaveUp}
 use Rattle.rgc_perform.specs.Stopped.{Writes, IsLineStoppedBy, IsWhyTold, IsOverOutline, WentOut, TellsRefusal}
 
 -- no verdict on an outline, as a stop
@@ -30,6 +30,7 @@ StopsLine format command files old new failed after (Refused e) = IsLineStoppedB
 StopsLine format command files old new failed after (Outline lines) = IsOverOutline command × WentOut command old new failed after
 StopsLine format command files old new failed after (Usage line) = IsMisfit format command × IsUntouched old new failed after
 StopsLine format command files old new failed after Told = IsWhyTold format command files old new × (after ≡ failed)
+StopsLine format command files old new failed after (GaveUp why) = GivesUp command files why.now old new × (after ≡ failed)
 
 -- how it is told on the faults, and the status
 abbrev pub IsTold : Settings → Stop → ℕ → Option (List ℕ) → Option (List ℕ) → ℕ → ℕ → Type 0
@@ -38,3 +39,4 @@ IsTold settings (Refused e) status old new failed after = TellsRefusal settings 
 IsTold settings (Outline lines) status old new failed after = (status ≡ 1) × Writes old new failed after lines.items
 IsTold settings (Usage line) status old new failed after = (status ≡ 2) × Writes old new failed after line.now
 IsTold settings Told status old new failed after = (status ≡ 1) × (new ≡ old) × (after ≡ failed)
+IsTold settings (GaveUp why) status old new failed after = (status ≡ 1) × Writes old new failed after why.now

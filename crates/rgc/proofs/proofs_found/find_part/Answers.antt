@@ -1,10 +1,10 @@
-use Rattle.std.proofs.Common.{◌≡◌, ◌∙◌, ◌+◌, ◌-◌, List, length, map, arith, ap, sym, inr}
+use Rattle.std.proofs.Common.{◌≡◌, ◌∙◌, ◌+◌, ◌-◌, List, length, map, arith, ap, inr}
 use Rattle.std.specs.Prelude.{string_bytes}
 use Rattle.rg_tree.specs.declared.condition.Condition.{Condition}
 use Rattle.rg_tree.specs.Conditions.{condition_tree}
 use Rattle.rg_accept.specs.Accepted.{conditions_of}
 use Rattle.rg_accept.specs.Stages.{derived_program, derived_lines}
-use Rattle.rgc.proofs.Search.{part_found, part_refused, range_same, range_refused, part_unsought, unproved_of}
+use Rattle.rgc.proofs.Search.{part_found, part_refused, range_same, range_refused, part_unsought}
 use Rattle.rgc.proofs.proofs_found.find_part.Goals as goal
 
 pub returns-in-Err-clause-refused : goal.returns-in-Err-clause-refused

@@ -8,7 +8,7 @@ use Rattle.rgc_commands.specs.declared.files.Files.{Files}
 use Rattle.rgc_commands.specs.declared.stops.Stop.{Stop}
 use Rattle.rgc_commands.specs.Stopped.{text_line, derivation_line}
 use Rattle.rgc_commands.specs.Stops.{IsDevice, Stops}
-use Rattle.rgc_commands.proofs.Stopping.{read_past, device_stops, told_stops}
+use Rattle.rgc_commands.proofs.Stopping.{read_past, device_stops, formula_stops, condition_stops}
 use Rattle.rgc_commands.proofs.commands.find.Goals as goal
 
 -- the text can't be read, of a formula or of a condition
@@ -28,8 +28,8 @@ returns-in_err-print_found-in-None-clause-stopped g c = λ t.
 
 pub returns-in_ok-print_found-in-None-clause-stopped : goal.returns-in_ok-print_found-in-None-clause-stopped
 returns-in_ok-print_found-in-None-clause-stopped g c = λ t.
-    rw c.in-None.is (told_stops Plain (Find t c.args.steps None) c.args.files.now _ _ _ _ _ _ c.proved.ensures.told c.in_ok-print_found-in-None.ensures.failures
-    (λ none. rw c.in_ok-text.ensures.bytes (c.in_ok-print_found-in-None.ensures.told none)))
+    let found = c.in_ok-print_found-in-None.ensures in
+    rw c.in-None.is (formula_stops t c.args.steps c.args.files.now _ _ _ _ _ _ c.answered.result c.in_ok-text.ensures.bytes found.answered found.failures c.answered.ensures.stopped)
 
 pub returns-in_err-derivation-in-Some-clause-stopped : goal.returns-in_err-derivation-in-Some-clause-stopped
 returns-in_err-derivation-in-Some-clause-stopped g c = λ t.
@@ -43,5 +43,5 @@ returns-in_err-print_condition_found-in-Some-clause-stopped g c = λ t.
 
 pub returns-in_ok-print_condition_found-in-Some-clause-stopped : goal.returns-in_ok-print_condition_found-in-Some-clause-stopped
 returns-in_ok-print_condition_found-in-Some-clause-stopped g c = λ t.
-    rw c.in-Some.is (told_stops Plain (Find t c.args.steps (Some c.in-Some.chosen)) c.args.files.now _ _ _ _ _ _ c.proved-in-Some.ensures.told c.in_ok-print_condition_found-in-Some.ensures.failures
-    (λ none. rw (c.in_ok-text.ensures.bytes, c.in_ok-derivation-in-Some.ensures.bytes) (c.in_ok-print_condition_found-in-Some.ensures.told none)))
+    let found = c.in_ok-print_condition_found-in-Some.ensures in
+    rw c.in-Some.is (condition_stops t c.args.steps c.in-Some.chosen c.args.files.now _ _ _ _ _ _ _ c.answered-in-Some.result c.in_ok-text.ensures.bytes c.in_ok-derivation-in-Some.ensures.bytes found.answered found.failures c.answered-in-Some.ensures.stopped)

@@ -1,6 +1,6 @@
-use Rattle.std.proofs.Common.{◌∙◌, subst, inl}
+use Rattle.std.proofs.Common.{◌≡◌, ◌∙◌, subst, inl}
 use Rattle.std.proofs.lemmas.Result.{err_from_is_err_and}
-use Rattle.rg_code.specs.Code.{HasRunsOf}
+use Rattle.rg_code.specs.Code.{HasRunsOf, program_code}
 use Rattle.rg_tree.specs.Programs.{IsSatisfied}
 use Rattle.rg_tree.specs.Statements.{ProgramTree}
 use Rattle.rg_accept.specs.Stages.{emitted_blocks}
@@ -14,6 +14,7 @@ returns-clause-emitted g c =
       same = coded.program ∙ proved.program;
       proved = proved.proved;
       satisfied = subst (λ (p : ProgramTree). IsSatisfied p) proved.program proved.satisfied;
+      compiled = subst (λ (p : ProgramTree). emitted_blocks c.in_ok-emitted.emitted ≡ program_code p.parts) proved.program coded.blocks;
       runs = subst (λ (p : ProgramTree). HasRunsOf p (emitted_blocks c.in_ok-emitted.emitted)) proved.program coded.runs;
     }
 

@@ -28,6 +28,7 @@ returns-in-Proofs-clause-printed g c = λ _.
           derived = cut.derived;
           proved = told.proved;
         };
+        compiled = told.compiled;
         runs = told.runs;
         satisfied = told.satisfied;
       };

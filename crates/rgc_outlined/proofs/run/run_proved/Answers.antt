@@ -18,6 +18,7 @@ returns-clause-printed g c =
       code = blocks;
       proved = emitted.proved;
       satisfied = emitted.satisfied;
+      compiled = emitted.compiled;
       runs = emitted.runs;
       naming = c.in_ok-naming.naming;
       run = subst (λ (p : ProgramTree). HasToldRunOf p blocks c.in_ok-naming.naming files.start files.moves files.limit (g.W.Out.contents c.args.out.now) (g.W.Out.contents c.run_emitted.new.out)) emitted.same c.in_ok-run_emitted.ensures.printed;

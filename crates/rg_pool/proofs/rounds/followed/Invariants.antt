@@ -1,6 +1,0 @@
-use Rattle.rg_pool.specs.Inner.PieceAnswers.{IsPieceAnswer}
-use Rattle.rg_pool.proofs.rounds.followed.Given as goal
-
--- the answer is for the lines up to this place
-abbrev pub invariant-loop-number : goal.invariant-loop-number
-invariant-loop-number l = IsPieceAnswer l.one.clauses.clauses l.one.lines 0 l.at l.answer
