@@ -25,7 +25,7 @@ import traceback
 import project
 
 # The page that has the seconds of each crate at one job, as a table whose rows begin "| `NAME` | SECONDS |".
-SECONDS = f"{project.ROOT}/docs/GATE.md"
+SECONDS = f"{project.ROOT}/docs/CONTRIBUTING.md"
 # How long a build of everything takes on four processors, in minutes.
 MINUTES = 60
 # More jobs of one crate bring little.
@@ -82,7 +82,7 @@ def clock(seconds):
 
 
 def known_seconds():
-    """Returns the seconds of each crate at one job, by docs/GATE.md."""
+    """Returns the seconds of each crate at one job, by docs/CONTRIBUTING.md."""
     rows = project.text_of(SECONDS).split("\n") if os.path.isfile(SECONDS) else []
     found = [re.match(r"\| `(\w+)` \| ≈?(\d+) \|", it) for it in rows]
     return {it[1]: int(it[2]) for it in found if it}

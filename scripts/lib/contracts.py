@@ -421,9 +421,12 @@ class Repository:
 
 # What the pages share
 
+# From docs/generated, where they are, to the root of the repository.
+TO_ROOT = "../../"
 
-def link(definition, text, to_root="../"):
-    """Returns a link of a page of docs/ to a definition's lines."""
+
+def link(definition, text, to_root=TO_ROOT):
+    """Returns a link of a page of docs/generated to a definition's lines."""
     lines = f"#L{definition.first}" + (f"-L{definition.last}" if definition.last > definition.first else "")
     return f"[{text}]({to_root}{definition.file}{lines})"
 

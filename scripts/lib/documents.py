@@ -1,4 +1,5 @@
-"""The documents of the repository: whether each link leads somewhere, whether what they name is there, and whether each refusal is met.
+"""The documents of the repository: whether each link leads somewhere, whether what they name is there, whether each refusal is met, and
+whether the promised wrong bodies are those that the gate tries.
 
     faults = documents.faults()
 
@@ -11,8 +12,11 @@ import json
 import os
 import re
 
+import edits
 import project
 
+# The page with the wrong bodies that the gate tries, in a row for each crate, and the heading above them.
+PROMISED, PROMISES = "docs/CONTRIBUTING.md", "\n## The promised wrong bodies\n"
 # Refusals that no row meets, and why.
 NOT_BY_ROWS = {
     63: "a row's output can always be written",
@@ -21,6 +25,8 @@ NOT_BY_ROWS = {
     66: "only a caller of the library can ask for it",
     99: "scripts/refuse_memory refuses each call for memory",
 }
+# The page whose names are those of C functions of the toolchain: its links are looked at, its names aren't.
+OF_THE_TOOLCHAIN = "docs/generated/TRUSTED.md"
 # Names of other languages that stand on the pages.
 ELSEWHERE = {"fetch_add", "memory_order_seq_cst"}
 LINK = re.compile(r"\[[^\]\[]*\]\(([^()\s]+)\)")
@@ -31,10 +37,8 @@ PATH = re.compile(r"(crates|docs|examples|scripts|share)/[\w./-]*\w")
 
 def pages():
     """The paths of all documents, from the root of the repository."""
-    found = glob.glob("*.md", root_dir=project.ROOT) + glob.glob("docs/*.md", root_dir=project.ROOT)
-    # (the names of that page are those of C functions of the toolchain)
-    found.remove("docs/TRUSTED.md")
-    return sorted(found + glob.glob("examples/**/*.md", root_dir=project.ROOT, recursive=True))
+    where = ("*.md", "docs/*.md", "docs/generated/*.md", "examples/**/*.md")
+    return sorted(it for at in where for it in glob.glob(at, root_dir=project.ROOT, recursive=True))
 
 
 @functools.lru_cache(maxsize=None)
@@ -71,7 +75,7 @@ def fault_of_link(page, target):
         return f"the link {target} leads nowhere"
     lines = re.fullmatch(r"L(\d+)(?:-L(\d+))?", anchor)
     if lines and int(lines[2] or lines[1]) > len(project.text_of(f"{project.ROOT}/{to}").splitlines()):
-        return f"the link {target} leads behind the file's end"
+        return f"the link {target} leads past the file's end"
     if anchor and not lines and (not to.endswith(".md") or anchor not in anchors(to)):
         return f"the link {target} leads to no heading"
     return None
@@ -81,6 +85,7 @@ def fault_of_link(page, target):
 def identifiers():
     """All names that stand in sources of the crates and the scripts, and in the examples, and those of these files."""
     found = {it.name for it in project.crates()} | {*os.listdir(f"{project.ROOT}/examples")} | ELSEWHERE
+    found |= {os.path.basename(file).removesuffix(".edit") for it in project.crates() for file in edits.files_of(it)}
     files = [path for it in project.crates() for path in project.files_of(it)]
     for folder in ("scripts", "examples"):
         files += [f"{at}/{name}" for at, _, names in os.walk(f"{project.ROOT}/{folder}") for name in names if not name.endswith((".md", ".svg", ".lrat"))]
@@ -119,7 +124,7 @@ def faults_of(page):
         for fault in (fault_of_link(page, it) for it in LINK.findall(bare)):
             if fault:
                 yield f"{page} line {number}: {fault}"
-        for fault in (fault_of_name(page, it) for it in SPAN.findall(line)):
+        for fault in (fault_of_name(page, it) for it in SPAN.findall(line) if page != OF_THE_TOOLCHAIN):
             if fault:
                 yield f"{page} line {number}: {fault}"
 
@@ -128,7 +133,7 @@ def faults_of_refusals():
     """The refusals that no row meets, or that rows meet though they can't, and those that the page of refusals hasn't."""
     page = {int(it) for it in re.findall(r"^\| (\d+) \|", project.text_of(f"{project.ROOT}/docs/REFUSALS.md"), re.M)}
     met = set()
-    for path in glob.glob(f"{project.ROOT}/crates/rgc_rows/data/*.json"):
+    for path in glob.glob(f"{project.ROOT}/rows/*.json"):
         met |= {int(it) for it in re.findall(r"\brefused (\d+)\b", json.dumps(json.loads(project.text_of(path))))}
     for number in sorted(page | met):
         if number not in page:
@@ -137,6 +142,15 @@ def faults_of_refusals():
             yield f"docs/REFUSALS.md: no row meets {number}"
 
 
+def faults_of_promises():
+    """The wrong bodies that the gate tries and that the page hasn't in the row of their crate, and those that it has and the gate doesn't try."""
+    rows = re.findall(r"^\| `(\w+)` \| (.*) \|$", project.text_of(f"{project.ROOT}/{PROMISED}").partition(PROMISES)[2], re.M)
+    named = {(crate, it) for crate, row in rows for it in SPAN.findall(row)}
+    tried = {(it.name, os.path.basename(file).removesuffix(".edit")) for it in project.crates() for file in edits.files_of(it, ("must-fail",))}
+    for crate, name in sorted(named ^ tried):
+        yield f"{PROMISED}: {crate}/{name} {'is not named' if (crate, name) in tried else 'is not tried by the gate'}"
+
+
 def faults():
     """What is wrong with all documents."""
-    return [it for page in pages() for it in faults_of(page)] + [*faults_of_refusals()]
+    return [it for page in pages() for it in faults_of(page)] + [*faults_of_refusals(), *faults_of_promises()]
