@@ -1,16 +1,18 @@
 //! The program `rgc`: it reads the words and the files, and does the command.
 #![tactic(auto)]
 
+mod memory;
 mod version;
 
 ghost use Rattle.std.specs.Prelude.{◌≡◌};
 ghost use Rattle.rg_words.specs.Written.{CanCount};
 
 use clap::error::ErrorKind;
+use memory::Memory;
 use rg_find::Watcher;
 use rg_outline_paint::painted;
 use rg_words::limits::{MOST_PROOF_BYTES, MOST_TEXT_BYTES};
-use rg_words::{Buffered, Device, Out, Taker, write_all};
+use rg_words::{Buffered, Device, Out, write_all};
 use rgc_line::{Command, Line, LineFault, Named};
 use rgc_perform::{Files, Sides, perform};
 use std::alloc::AllocError;
@@ -160,19 +162,20 @@ fn way_of(rt: &HostRuntime, line: &Line<'_>) -> Way {
     }
 }
 
-/// Does the command with this writer for its output; the status.
-fn performed<R: Threads + Wait + Sync, W: Out>(
+/// Does the command with these writers for its output and its faults; the status.
+fn performed<R: Threads + Wait + Sync, W: Out, F: Out>(
     means: &Means<'_, R>,
     line: &Line<'_>,
     files: &Files<'_>,
     out: &mut W,
+    faults: &mut F,
     sides: &mut Sides,
 ) -> u8
-    requires { CanCount (W.failures out.old) }
+    requires out { CanCount (W.failures out.old) }
+    requires faults { CanCount (F.failures faults.old) }
     ensures { result ≡ 0 → W.failures out.new ≡ W.failures out.old }
 {
     let rt = means.rt;
-    let mut faults = Device::new(rt.stderr());
     let watcher = Terminal {
         rt,
         is_terminal: rt.stderr().is_terminal(),
@@ -185,7 +188,7 @@ fn performed<R: Threads + Wait + Sync, W: Out>(
         line,
         files,
         out,
-        &mut faults,
+        faults,
         &watcher,
         sides,
     )
@@ -200,7 +203,8 @@ fn buffered<R: Threads + Wait + Sync>(
 ) -> Result<u8, AllocError> {
     let rt = means.rt;
     let mut out = Buffered::new(rt.alloc(), Device::new(rt.stdout()))?;
-    let status = performed(means, line, files, &mut out, sides);
+    let mut faults = Device::new(rt.stderr());
+    let status = performed(means, line, files, &mut out, &mut faults, sides);
     if status == 0 && out.flush().is_err() {
         return Ok(tell(rt, "refused 63"));
     }
@@ -245,16 +249,23 @@ fn written(rt: &HostRuntime, line: &Line<'_>, bytes: &[u8], status: u8) -> Resul
     }
 }
 
-/// Does the command with its output in memory, and writes that; the status.
+/// Does the command with its output and its faults in memory, and writes these; the status.
 fn whole<R: Threads + Wait + Sync>(
     means: &Means<'_, R>,
     line: &Line<'_>,
     files: &Files<'_>,
     sides: &mut Sides,
 ) -> Result<u8, AllocError> {
-    let mut out = Taker::new(means.rt.alloc(), usize::MAX);
-    let status = performed(means, line, files, &mut out, sides);
-    written(means.rt, line, out.bytes(), status)
+    let rt = means.rt;
+    let mut out = Memory::new(rt.alloc());
+    let mut faults = Memory::new(rt.alloc());
+    let status = performed(means, line, files, &mut out, &mut faults, sides);
+    if out.is_refused() || faults.is_refused() {
+        return Err(AllocError);
+    }
+    let status = written(rt, line, out.bytes(), status)?;
+    told(rt, faults.bytes());
+    Ok(status)
 }
 
 /// Does the command over its files, and writes what it printed; the status. What it writes beside that is put into `sides`.
@@ -267,7 +278,8 @@ fn done<R: Threads + Wait + Sync>(
     match way_of(means.rt, line) {
         Way::AtOnce => {
             let mut out = Device::new(means.rt.stdout());
-            Ok(performed(means, line, files, &mut out, sides))
+            let mut faults = Device::new(means.rt.stderr());
+            Ok(performed(means, line, files, &mut out, &mut faults, sides))
         }
         Way::Buffered => buffered(means, line, files, sides),
         Way::Whole => whole(means, line, files, sides),
@@ -296,8 +308,11 @@ fn write_whole(rt: &HostRuntime, name: &str, bytes: &[u8]) -> Result<u8, AllocEr
     }
     match fs::rename(rt, beside.as_str(), name) {
         Ok(()) => Ok(0),
-        Err(_) => {
+        Err(error) => {
             let _ = fs::remove_file(rt, beside.as_str());
+            if error.kind() == io::ErrorKind::OutOfMemory {
+                return Err(AllocError);
+            }
             Ok(tell(rt, "device output"))
         }
     }
