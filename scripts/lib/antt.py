@@ -81,7 +81,7 @@ def antt_definitions(crate, file, text):
     found, imports, comment, at = [], {}, [], 0
 
     def end_of(start, indent):
-        """Returns the line behind a definition that begins at this line."""
+        """Returns the line after a definition that begins at this line."""
         last = start
         for k in range(start + 1, len(lines)):
             line = lines[k]
@@ -144,7 +144,7 @@ def operators(names):
 
 
 def names_used(text, known, is_made, is_clause):
-    """Returns which known names an antt text uses, in order, each with the name behind its dot.
+    """Returns which known names an antt text uses, in order, each with the name after its dot.
 
     `known` has the local names and aliases, `is_made` says whether a name is a constructor, which a pattern may name. A variable that a
     binder or a pattern makes hides a name from there to the end of its part: a signature, an equation or a field of a record."""
@@ -192,8 +192,8 @@ def parts_of(text):
     return parts
 
 
-def behind_of(part):
-    """Returns where the right side of an equation begins: behind its =, or 0 where it has none."""
+def after_of(part):
+    """Returns where the right side of an equation begins: after its =, or 0 where it has none."""
     depth = 0
     for it in re.finditer(r"[(){}\[\]]|(?<=\s)=(?=\s|$)|(?<=\s):(?=\s|$)", part):
         if it[0] in "({[":
@@ -206,11 +206,11 @@ def behind_of(part):
 
 
 def patterns_in(part, is_clause):
-    """Returns the spans of a part that are patterns: an equation's left side behind its name, and the cases of an elim."""
-    spans, behind = [], 0 if is_clause else behind_of(part)
-    if behind:
+    """Returns the spans of a part that are patterns: an equation's left side after its name, and the cases of an elim."""
+    spans, after = [], 0 if is_clause else after_of(part)
+    if after:
         head = re.match(r"\s*\S+", part)
-        spans.append((head.end(), behind))
+        spans.append((head.end(), after))
     for it in re.finditer(r"[\[|]([^\[|\]↦]*)↦", part):
         spans.append(it.span(1))
     return spans

@@ -190,31 +190,31 @@ class Build:
             below = {lower.name for lower in it.below()} & names
             takes = seconds.get(it.name) or guessed_seconds(by_name[it.name])
             self.left[it.name] = Library(it, it.name, below, takes, (ONE_KEEPING_JOB if keeps else ONE_JOB) * rt.need(it))
-        self.behind = self.chains()
+        self.after = self.chains()
         self.running, self.alone, self.most = {}, set(), collections.Counter()
-        self.told = time.time()
+        self.reported = time.time()
 
     def chains(self):
         """Returns for each library the seconds of the longest chain that begins with it."""
-        behind = {}
+        after = {}
         for it in reversed(self.left.values()):
-            others = [behind[name] for name, other in self.left.items() if it.name in other.below]
-            behind[it.name] = it.seconds + max(others, default=0)
-        return behind
+            others = [after[name] for name, other in self.left.items() if it.name in other.below]
+            after[it.name] = it.seconds + max(others, default=0)
+        return after
 
     def say(self, text):
-        self.told = time.time()
+        self.reported = time.time()
         self.tell(text)
 
     def remaining(self, run):
         """Returns about how many seconds of the longest chain that begins with a running library are left."""
-        return self.behind[run.library.name] - min(time.time() - run.began, run.library.seconds)
+        return self.after[run.library.name] - min(time.time() - run.began, run.library.seconds)
 
     def ready(self):
         """Returns the libraries whose libraries are built, the one with the longest chain first."""
         waited_for = {*self.left, *(it.library.name for it in self.running.values())}
         found = [it for it in self.left.values() if not it.below & waited_for]
-        return sorted(found, key=lambda it: -self.behind[it.name])
+        return sorted(found, key=lambda it: -self.after[it.name])
 
     def has_room(self, library, jobs):
         """Returns whether memory holds one more library, beside what those that run may still ask for."""
@@ -231,7 +231,7 @@ class Build:
                 return
             if self.alone and (self.running or library.name not in self.alone):
                 continue
-            before = sum(self.remaining(it) > self.behind[library.name] for it in self.running.values())
+            before = sum(self.remaining(it) > self.after[library.name] for it in self.running.values())
             place = min(before, len(NICE) - 1)
             most = 1 if library.name in self.alone else min(math.ceil(SHARES[place] * self.processors), MOST_JOBS)
             jobs = next((it for it in range(most, 0, -1) if self.has_room(library, it)), 0)
@@ -267,7 +267,7 @@ class Build:
         """Notes how much memory each run takes, and after a silence tells that work goes on."""
         for name, used in memory_of_runs().items():
             self.most[name] = max(self.most[name], used)
-        if time.time() - self.told > SILENCE:
+        if time.time() - self.reported > SILENCE:
             names = ", ".join(progress(it) for it in self.running.values())
             self.say(f"still at {names}; {clock(time.time() - self.began)} in all")
 
@@ -287,9 +287,9 @@ class Build:
 
 
 def progress(run):
-    """Returns the name of a library that is being proved, with how far it is where its prover told."""
-    told = re.findall(r"^so far: (\d+ of \d+ functions)", project.text_of(run.log), re.M)
-    return run.library.name + (f" ({told[-1]})" if told else "")
+    """Returns the name of a library that is being proved, with how far it is where its prover reported."""
+    reported = re.findall(r"^so far: (\d+ of \d+ functions)", project.text_of(run.log), re.M)
+    return run.library.name + (f" ({reported[-1]})" if reported else "")
 
 
 def needed(library, jobs):

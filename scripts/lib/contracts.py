@@ -1,11 +1,11 @@
 """What the contracts of a repository say: its public functions with their clauses, its definitions, and what rests on what.
 
-    told = contracts.Repository(project.ROOT)
-    told.promises()                 each public function, law, trait and type that has clauses
-    told.reached(names)             the definitions that these names rest on, in reading order
+    repository = contracts.Repository(project.ROOT)
+    repository.promises()               each public function, law, trait and type that has clauses
+    repository.reached(names)           the definitions that these names rest on, in reading order
 
 It reads crates.txt, src/*.rt and specs/*.antt of each crate, and nothing is listed by hand. It is a reader of text and no prover: a name
-counts as used where it stands in a text and no variable of that text has it. Names of the toolchain's libraries are told, not followed."""
+counts as used where it stands in a text and no variable of that text has it. Names of the toolchain's libraries are reported, not followed."""
 import collections
 import dataclasses
 import functools
@@ -159,9 +159,9 @@ class Repository:
         self.of_items[item] = made
         if kind == TRAIT:
             block = item.owner
-            told = [it.text for it in block.members] + [it.text for function in block.functions for it in function.clauses]
+            clauses = [it.text for it in block.members] + [it.text for function in block.functions for it in function.clauses]
             own = {it.name for it in block.members}
-            made.uses, made.given = self.clauses_mean(told, {name: at for name, at in item.ghost.items() if name not in own}, module)
+            made.uses, made.given = self.clauses_mean(clauses, {name: at for name, at in item.ghost.items() if name not in own}, module)
         else:
             made.uses = tuple(self.types_in(shown_of(item), module, item))
             view = self.view_of(item)
@@ -363,7 +363,7 @@ class Repository:
         groups = collections.defaultdict(list)
         for it in found:
             groups[self.group_of(it)].append(it)
-        # (a type stands before all definitions of its crate, so what contracts see of it stands behind it)
+        # (a type stands before all definitions of its crate, so what contracts see of it stands after it)
         before = {group: {self.group_of(used) for it in them for used in it.uses if used in found and (used.kind != VIEW or group[1])} - {group} for group, them in groups.items()}
         ordered, seen = [], set()
 
@@ -380,7 +380,7 @@ class Repository:
         return [it for group in ordered for it in self.by_use(groups[group])]
 
     def by_use(self, group):
-        """Returns the definitions of a group by line, but each behind those of the group that it uses."""
+        """Returns the definitions of a group by line, but each after those of the group that it uses."""
         ordered, left = {}, {it: True for it in group}
 
         def take(it):

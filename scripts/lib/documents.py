@@ -1,5 +1,5 @@
-"""The documents of the repository: whether each link leads somewhere, whether what they name is there, whether each refusal is met, and
-whether the promised wrong bodies are those that the gate tries.
+"""The documents of the repository: whether each link leads somewhere, whether what they name is there, whether each refusal is met,
+whether the promised wrong bodies are those that the gate tries, and whether the table of crates says what each crate says of itself.
 
     faults = documents.faults()
 
@@ -17,6 +17,8 @@ import project
 
 # The page with the wrong bodies that the gate tries, in a row for each crate, and the heading above them.
 PROMISED, PROMISES = "docs/CONTRIBUTING.md", "\n## The promised wrong bodies\n"
+# The page with the table of crates.
+CRATES = "docs/ARCHITECTURE.md"
 # Refusals that no row meets, and why.
 NOT_BY_ROWS = {
     63: "a row's output can always be written",
@@ -151,6 +153,24 @@ def faults_of_promises():
         yield f"{PROMISED}: {crate}/{name} {'is not named' if (crate, name) in tried else 'is not tried by the gate'}"
 
 
+def description(crate):
+    """What a crate says of itself: the first paragraph of its root's comment."""
+    roots = [it for it in project.files_of(crate, ("src",)) if it.endswith(("/src/lib.rt", "/src/main.rt"))]
+    found = re.match(r"(//! .+\n)+", project.text_of(roots[0]))
+    return " ".join(it.removeprefix("//! ") for it in found[0].splitlines()) if found else ""
+
+
+def faults_of_crates():
+    """The crates whose row in the table isn't what they say of themselves, and rows out of the order of crates.txt."""
+    rows = dict(re.findall(r"^\| `(rgc?(?:_\w+)?)` \| (.*) \|$", project.text_of(f"{project.ROOT}/{CRATES}"), re.M))
+    known = [it.name for it in project.crates()]
+    for crate in project.crates():
+        if rows.get(crate.name) != description(crate):
+            yield f"{CRATES}: the row of {crate.name} is not: {description(crate)}"
+    if [*rows] != known and {*rows} == {*known}:
+        yield f"{CRATES}: the rows don't stand in the order of crates.txt"
+
+
 def faults():
     """What is wrong with all documents."""
-    return [it for page in pages() for it in faults_of(page)] + [*faults_of_refusals(), *faults_of_promises()]
+    return [it for page in pages() for it in faults_of(page)] + [*faults_of_refusals(), *faults_of_promises(), *faults_of_crates()]

@@ -20,7 +20,7 @@ import project
 from functions import functions_in, key, names_of
 
 HOMES = ("must-fail", "more-must-fail")
-# What a proof file is told where the edit took away a name that it uses.
+# What the prover says of a proof file where the edit took away a name that it uses.
 NAMES = re.compile(r"has no field|is not in scope|has no `|was not admitted")
 
 # The text is that of the edit's file. The changes are, for each file of the crate, the lines that are replaced (from, up to) and by what.
@@ -144,11 +144,11 @@ class Heard:
 
     def together(self, edit):
         """Returns the answer for an edit of bodies that others were tried with, and the line that says so. The answer is None where what the function calls is at fault."""
-        told = [self.of_function(it) for it in edit.functions]
-        refused = [why for answer, why in told if answer == "refused"]
+        reported = [self.of_function(it) for it in edit.functions]
+        refused = [why for answer, why in reported if answer == "refused"]
         if refused:
             return "refused", refused[0]
-        return ("survives", "") if all(answer == "survives" for answer, _ in told) else (None, "")
+        return ("survives", "") if all(answer == "survives" for answer, _ in reported) else (None, "")
 
     def in_cycles(self, edit):
         """Returns the errors in the proofs of functions that call each other, which lie in one folder for all of them, beside an edited function."""

@@ -209,6 +209,35 @@ def copy_kept(crate, to, part):
     return os.path.isdir(copied)
 
 
+class GateStore:
+    """The libraries that `rt ci` keeps on this machine, by all that each was proved from: for the copy of a repository in a folder.
+
+    It calls what `rt ci` itself calls, so another toolchain can need a change here."""
+
+    def __init__(self, folder):
+        rt = toolchain()
+        plain, rt.Crate.cuts_libraries, rt.Crate.allowed = rt.rtlib.Crate, True, rt.handles_of(folder)
+        rt.rtlib.Crate = rt.Crate
+        try:
+            self.of = {it.name: it for it in rt.rtlib.crates_below(folder)}
+        finally:
+            rt.rtlib.Crate = plain
+        self.store, self.taken = rt.Kept([*self.of.values()]), set()
+
+    def take(self, name):
+        """Puts the library of this name into its crate's out/, where `rt ci` keeps it and each library below was taken before. Returns whether it did."""
+        crate = self.of[name]
+        # (a library that stands there already would be taken for a damaged one, and what is kept of it be removed)
+        shutil.rmtree(f"{crate.folder}/out/rlib", ignore_errors=True)
+        if not {it.name for it in crate.below()} <= self.taken or not self.store.give(crate, False, self.store.key(crate)):
+            return False
+        self.store.is_built(crate)
+        with open(f"{crate.folder}/out/rlib/stamp", "w", encoding="utf-8") as it:
+            it.write(crate.stamp())
+        self.taken.add(name)
+        return True
+
+
 def listing(folder):
     """Returns the paths of all files below a folder, sorted."""
     return sorted(os.path.relpath(f"{at}/{name}", folder) for at, _, names in os.walk(folder) for name in names)
@@ -257,7 +286,7 @@ stamping = threading.local()
 
 def each_library_once(of):
     """Has a crate's stamp, the sum of all that it is made from, ask each library below it once. The toolchain's own asks a library once for each
-    way down to it, of which there are tens of thousands below `rgc_perform`. A stamp that is asked for reads all files anew, as before."""
+    way down to it, of which there are tens of thousands below `rgc_commands`. A stamp that is asked for reads all files anew, as before."""
     plain = of.stamp
 
     def stamp(crate):
@@ -314,7 +343,7 @@ def free_memory():
 
 
 def commit(of, root=ROOT):
-    """Returns the short name of the commit that the repository stands at, with + behind it where a file of these crates, or of what they stand on, differs from it. Returns - where there is none."""
+    """Returns the short name of the commit that the repository stands at, with + after it where a file of these crates, or of what they stand on, differs from it. Returns - where there is none."""
     if not shutil.which("git"):
         return "-"
     git = ["git", "--no-optional-locks"]

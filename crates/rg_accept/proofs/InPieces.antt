@@ -10,19 +10,19 @@ use Rattle.rg_parse.specs.Derivations.{SpellsDerivation, IsDerivationTextRefusal
 use Rattle.rg_rules.specs.Faults.{Derives, IsFirstFault, DerivationsHaveNoFault}
 use Rattle.rg_accept.specs.Pieces.{AreSpelledInPieces, FitsInPieces, IsPieceRefusal}
 
--- a list is what stands before one of its items, this item, and what stands behind it; and so it is under a function
+-- a list is what stands before one of its items, this item, and what stands after it; and so it is under a function
 pub around : {X Y : Type 0} (f : X → Y) (xs : List X) (i : ℕ) (d : X) → i < length xs → map f xs ≡ map f (take i xs) ++ f (get_or xs i d) ∷ map f (drop (i + 1) xs)
 around {X} f xs i d below =
     let cut : xs ≡ take i xs ++ get_or xs i d ∷ drop (i + 1) xs =
     sym (take-append-drop i xs) ∙ ap (λ (ys : List X). take i xs ++ ys) (drop_more xs i d below) in
     ap (λ (ys : List X). map f ys) cut ∙ map-append f (take i xs) (get_or xs i d ∷ drop (i + 1) xs)
 
--- lines behind lines are typed where both are
+-- lines after lines are typed where both are
 pub typed_append : (words : List Word) (some more : List LineTree) → AreTypedLines words some → AreTypedLines words more → AreTypedLines words (some ++ more)
 typed_append words [] more _ typed = typed
 typed_append words (line ∷ some) more both typed = (both.0, typed_append words some more both.1 typed)
 
--- one piece more spells its lines behind those that there are
+-- one piece more spells its lines after those that there are
 pub spelled_more : (words : List Word) (before : ℕ) (pieces : List (List ℕ)) (lines : List LineTree) (last : ℕ) (piece : List ℕ) (first : List LineTree) (end : ℕ) → AreSpelledInPieces words before pieces lines last → SpellsDerivation words piece first end → AreSpelledInPieces words before (pieces ++ piece ∷ []) (lines ++ first) end
 spelled_more words before [] lines last piece first end s spells =
     (first, end, [], spells, (refl, refl), ap (λ (l : List LineTree). l ++ first) s.0 ∙ sym (append-nil first))
@@ -36,15 +36,15 @@ spelled_more words before (p ∷ pieces) lines last piece first end s spells = (
 )
 
 -- a piece that is refused is the first where those before it spell lines
-pub piece_refused : (words : List Word) (before : ℕ) (pieces : List (List ℕ)) (lines : List LineTree) (last : ℕ) (piece : List ℕ) (behind : List (List ℕ)) (e : Refusal) → AreSpelledInPieces words before pieces lines last → IsDerivationTextRefusal words piece e → IsPieceRefusal words (pieces ++ piece ∷ behind) e
-piece_refused words before [] lines last piece behind e s refused = inl refused
-piece_refused words before (p ∷ pieces) lines last piece behind e s refused =
-    inr (s.0, s.1, s.3, piece_refused words s.1 pieces s.2 last piece behind e s.4 refused)
+pub piece_refused : (words : List Word) (before : ℕ) (pieces : List (List ℕ)) (lines : List LineTree) (last : ℕ) (piece : List ℕ) (after : List (List ℕ)) (e : Refusal) → AreSpelledInPieces words before pieces lines last → IsDerivationTextRefusal words piece e → IsPieceRefusal words (pieces ++ piece ∷ after) e
+piece_refused words before [] lines last piece after e s refused = inl refused
+piece_refused words before (p ∷ pieces) lines last piece after e s refused =
+    inr (s.0, s.1, s.3, piece_refused words s.1 pieces s.2 last piece after e s.4 refused)
 
 -- each of the pieces that spell lines spells some of them
-pub piece_spelled : (words : List Word) (before : ℕ) (pieces : List (List ℕ)) (piece : List ℕ) (behind : List (List ℕ)) (lines : List LineTree) (last : ℕ) → AreSpelledInPieces words before (pieces ++ piece ∷ behind) lines last → (first : List LineTree) × (end : ℕ) × SpellsDerivation words piece first end
-piece_spelled words before [] piece behind lines last s = (s.0, s.1, s.3)
-piece_spelled words before (p ∷ pieces) piece behind lines last s = piece_spelled words s.1 pieces piece behind s.2 last s.4
+pub piece_spelled : (words : List Word) (before : ℕ) (pieces : List (List ℕ)) (piece : List ℕ) (after : List (List ℕ)) (lines : List LineTree) (last : ℕ) → AreSpelledInPieces words before (pieces ++ piece ∷ after) lines last → (first : List LineTree) × (end : ℕ) × SpellsDerivation words piece first end
+piece_spelled words before [] piece after lines last s = (s.0, s.1, s.3)
+piece_spelled words before (p ∷ pieces) piece after lines last s = piece_spelled words s.1 pieces piece after s.2 last s.4
 
 -- the same pieces spell one list of lines, which ends on one line
 pub one_in_pieces : OneSpelledDerivation → (words : List Word) (before : ℕ) (pieces : List (List ℕ)) (ls ls' : List LineTree) (last last' : ℕ) → AreSpelledInPieces words before pieces ls last → AreSpelledInPieces words before pieces ls' last' → (ls ≡ ls') × (last ≡ last')

@@ -1,4 +1,4 @@
--- A derivation in pieces, each of whole lines and no longer than a file may be: one behind another, their lines derive the parts of a program.
+-- A derivation in pieces, each of whole lines and no longer than a file may be: one after another, their lines derive the parts of a program.
 use Rattle.std.specs.Prelude.{◌≡◌, ◌⊎◌, ℕ, List, [], ◌∷◌, ◌++◌}
 use Rattle.rg_words.specs.Layout.{Word}
 use Rattle.rg_words.specs.declared.refusal.Refusal.{Refusal}
@@ -8,7 +8,7 @@ use Rattle.rg_tree.specs.Statements.{ProgramTree}
 use Rattle.rg_parse.specs.Derivations.{SpellsDerivation, IsDerivationTextRefusal}
 use Rattle.rg_rules.specs.Faults.{Derives, IsFirstFault}
 
--- the first piece spells the first of these lines, the other pieces spell the rest; the number behind the lines is the line of the last piece's last
+-- the first piece spells the first of these lines, the other pieces spell the rest; the number after the lines is the line of the last piece's last
 -- token, and the one before the pieces what it is where there is no piece
 abbrev pub AreSpelledInPieces : List Word → ℕ → List (List ℕ) → List LineTree → ℕ → Type 0
 AreSpelledInPieces words before [] lines last = (lines ≡ []) × (last ≡ before)
@@ -27,7 +27,7 @@ IsPieceRefusal words [] e = ⊥
 IsPieceRefusal words (piece ∷ pieces) e =
     IsDerivationTextRefusal words piece e ⊎ ((first : List LineTree) × (end : ℕ) × SpellsDerivation words piece first end × IsPieceRefusal words pieces e)
 
--- the pieces spell lines over the program's words, and their first fault is refused; a line is told by where it begins in its own piece
+-- the pieces spell lines over the program's words, and their first fault is refused; a line is reported by where it begins in its own piece
 pub record IsLinesRefusalInPieces (program : ProgramTree) (pieces : List (List ℕ)) (e : Refusal) : Type 0 where
   pub lines : List LineTree
   pub last : ℕ

@@ -21,8 +21,8 @@ use std::thread::Threads;
 ///
 /// # Errors
 ///
-/// The first fault over both files: of the derivation, as `rg_rules::Derivation::read` tells it; then of the proofs, as
-/// `rg_hints::prove` tells it. `Memory` where memory is refused.
+/// The first fault over both files: of the derivation, as `rg_rules::Derivation::read` reports it; then of the proofs, as
+/// `rg_hints::prove` reports it. `Memory` where memory is refused.
 pub fn accept_program(
     alloc: Global,
     program: Program,
@@ -119,8 +119,8 @@ fn accept_by<P: Prover>(
 ///
 /// # Errors
 ///
-/// The first fault over all three files: of the text, as `rg_parse::program` tells it; then of the derivation, as
-/// `rg_rules::Derivation::read` tells it; then of the proofs, as `rg_hints::prove` tells it. `Memory` where memory is refused.
+/// The first fault over all three files: of the text, as `rg_parse::program` reports it; then of the derivation, as
+/// `rg_rules::Derivation::read` reports it; then of the proofs, as `rg_hints::prove` reports it. `Memory` where memory is refused.
 pub fn accept(
     alloc: Global,
     text: &[u8],
@@ -137,7 +137,7 @@ pub fn accept(
     accept_by(&OneThread, alloc, text, derivation, proofs)
 }
 
-/// The same, in at most so many threads: conditions are looked at side by side, and each section is checked as
+/// As `accept`, in at most so many threads: conditions are looked at side by side, and each section is checked as
 /// `rg_pool::check_all` does; with fewer than two threads, all is done in the thread that asks.
 ///
 /// # Errors
@@ -161,8 +161,12 @@ pub fn accept_all<R: Threads + Wait + Sync>(
     accept_by(&InThreads { rt, threads }, alloc, text, derivation, proofs)
 }
 
-/// The same as `build`, where this prover decides of the proofs.
-fn build_by<P: Prover>(
+/// As `build`, where this prover decides of the proofs: `OneThread`, or `InThreads`.
+///
+/// # Errors
+///
+/// As `accept`.
+pub fn build_by<P: Prover>(
     prover: &P,
     alloc: Global,
     text: &[u8],
@@ -202,24 +206,4 @@ pub fn build(
     ensures refused { IfErr result (IsAcceptTextRefusal text.now derivation.now proofs.now) }
 {
     build_by(&OneThread, alloc, text, derivation, proofs)
-}
-
-/// The same, in at most so many threads, as `accept_all`.
-///
-/// # Errors
-///
-/// As `accept`.
-pub fn build_all<R: Threads + Wait + Sync>(
-    rt: &R,
-    alloc: Global,
-    threads: usize,
-    text: &[u8],
-    derivation: &[u8],
-    proofs: &[u8],
-) -> Result<Emitted, Refusal>
-    ensures built { IfOk result (λ e. IsBuiltText text.now derivation.now proofs.now (emitted_program e) (emitted_blocks e)) }
-    ensures accepts { IsAcceptedText text.now derivation.now proofs.now → IfErr result (λ e. e ≡ no_memory) }
-    ensures refused { IfErr result (IsAcceptTextRefusal text.now derivation.now proofs.now) }
-{
-    build_by(&InThreads { rt, threads }, alloc, text, derivation, proofs)
 }

@@ -4,5 +4,5 @@
 mod acceptance;
 mod stages;
 
-pub use acceptance::{accept, accept_all, accept_program, build, build_all, build_program};
+pub use acceptance::{accept, accept_all, accept_program, build, build_by, build_program};
 pub use stages::{Accepted, Derived, Emitted, Parsed};

@@ -278,7 +278,7 @@ fn second_rows(
 /// # Errors
 ///
 /// `TooManyVariables` where inputs and gates would be more than `MOST_VARIABLES`. After an error the gates that were made
-/// stay behind the older ones.
+/// stay after the older ones.
 pub fn formula<T: Table>(
     alloc: Global,
     gates: &mut Gates<T>,

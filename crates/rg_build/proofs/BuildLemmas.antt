@@ -3,8 +3,8 @@ use Rattle.std.proofs.Common.{◌≡◌, ℕ, ◌+◌, ◌<◌, List, [], ◌∷
 use Rattle.std.proofs.lemmas.List.{take_more, map-append}
 use Rattle.rg_text.specs.declared.token.Token.{Token}
 use Rattle.rg_syntax.specs.Grammar.{Lexeme, lexeme_of}
-use Rattle.rg_frames.specs.Frames.{Open}
-use Rattle.rg_frames.specs.Steps.{step}
+use Rattle.rg_build.specs.Frames.{Open}
+use Rattle.rg_build.specs.Steps.{step}
 use Rattle.rg_build.specs.Inner.Building.{steps}
 
 steps-append : (os : List Open) (xs ys : List Lexeme) → steps os (xs ++ ys) ≡ steps (steps os xs) ys

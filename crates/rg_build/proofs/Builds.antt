@@ -9,9 +9,9 @@ use Rattle.rg_syntax.specs.Grammar.{Lexeme, WordsSpelling, ShowSpelling, Setting
 use Rattle.rg_syntax.specs.Written.{DeclaredWord, SettingTree, WrittenMove, number}
 use Rattle.rg_syntax.specs.OneReading.{OneStart, OneMoves}
 use Rattle.rg_syntax.specs.Written as syntax
-use Rattle.rg_frames.specs.Frames.{Open, SetFor, for_start, for_move, setting_words, moving, whole, finished, declaring, showing, finished_show, negated, inverted, first, another, second, comparing, operating, chosen, condition, consequent, alternative, after_next}
+use Rattle.rg_build.specs.Frames.{Open, SetFor, for_start, for_move, setting_words, moving, whole, finished, declaring, showing, finished_show, negated, inverted, first, another, second, comparing, operating, chosen, condition, consequent, alternative, after_next}
 use Rattle.rg_syntax.specs.Texts.{claim_of, chain_of, term_of, declared_words, settings_of, moves_of}
-use Rattle.rg_frames.specs.Steps.{with_claim, with_term, with_name, with_number, is_apart}
+use Rattle.rg_build.specs.Steps.{with_claim, with_term, with_name, with_number, is_apart}
 use Rattle.rg_build.specs.Inner.Building.{steps, whole_moves_of}
 
 mutual

@@ -11,10 +11,10 @@ use Rattle.rg_tree.specs.declared.line.Rule.{Rule}
 use Rattle.rg_tree.specs.declared.line.Rule.TheVariants as rules
 use Rattle.rg_syntax.specs.Grammar.{Lexeme, fixed, opening, a_line, an_if, number, lexeme_as, lexeme_of, FormulaSpelling, ChainSpelling, ExpressionSpelling, truth, negation, junction, conditional, comparison, pair, longer, numeral, word, next_word, inverse, operation, shift, choice, formula, chain, expression, SpecSpelling, specification, PremisesSpelling, one_premise, and_premise, LineSpelling, DerivationSpelling, no_line, and_line, rule_terminal, some_premises, premises, a_derived_line, derivation}
 use Rattle.rg_syntax.specs.Written.{WrittenLine}
-use Rattle.rg_frames.specs.Frames as frames
-use Rattle.rg_frames.specs.Frames.{whole, finished}
+use Rattle.rg_build.specs.Frames as frames
+use Rattle.rg_build.specs.Frames.{whole, finished}
 use Rattle.rg_syntax.specs.Texts.{claim_of, some_premises_of, premises_of, derivation_of}
-use Rattle.rg_frames.specs.Steps.{step}
+use Rattle.rg_build.specs.Steps.{step}
 use Rattle.rg_build.specs.Inner.Building.{steps}
 use Rattle.rg_build.specs.Inner.BuildingLines.{Said, begins, counts, rules_by, to_pre, to_next, nothing, said, LineStart, Earlier, no_claim, a_pre, a_rely, a_guar, numbered, ruled, with_premises, in_head, in_claim, Drafted, nothing_read, on_claim, line_step, line_steps, whole_lines}
 use Rattle.rg_syntax.specs.OneReading.{OneDerivation}

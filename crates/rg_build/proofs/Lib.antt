@@ -1,3 +1,12 @@
+pub mod Views
 pub mod BuildLemmas
 pub mod Builds
 pub mod BuildsLines
+pub mod Beginnings
+pub mod BegunExamples
+pub mod BegunLemmas
+pub mod BuildsPrograms
+pub mod Counts
+pub mod DraftLemmas
+pub mod Lengths
+pub mod ProgramRows

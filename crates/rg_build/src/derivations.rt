@@ -4,13 +4,13 @@ ghost use Rattle.std.specs.Prelude.{◌≡◌, false, ℕ, List, [], ◌∷◌, 
 ghost use Rattle.rg_text.specs.Text.{leaf_of};
 ghost use Rattle.rg_syntax.specs.Written.{claim, line_text};
 ghost use Rattle.rg_build.specs.Inner.Building.{whole_of};
-ghost use Rattle.rg_frames.specs.Frames.{stack, whole};
+ghost use Rattle.rg_build.specs.Frames.{stack, whole};
 ghost use Rattle.rg_syntax.specs.Grammar.{DerivationSpelling, derivation, lexeme_as, lexeme_of};
 ghost use Rattle.rg_syntax.specs.Texts.{derivation_of};
 ghost use Rattle.rg_build.specs.Inner.BuildingLines.{sign, said, line_start, earlier, head, open_line, drafted, in_claim, one_premise_more, on_head, next_claim, end_line, on_claim, line_step, line_steps, whole_lines, nothing_read};
 
 use crate::formulas::take_whole;
-use rg_frames::{Frame, put, take_token};
+use crate::{Frame, put, take_token};
 use rg_syntax::written::{FormulaText, LineText, SpecText};
 use rg_text::kind::{Keyword, Kind, Terminal};
 use rg_text::token::Token;
@@ -118,7 +118,7 @@ fn sign_of_keyword(keyword: Keyword, token: Token) -> LineSign
     }
 }
 
-/// The place before the formula behind these.
+/// The place before the formula after these.
 fn claim_wanted(alloc: Global, line: LineHead, claims: Claims) -> Result<LinePlace, AllocError>
     ensures { IfOk result (λ p. (src : List ℕ) → open_line src p ≡ in_claim (line_start src line) (earlier src claims) (whole ∷ [])) }
 {
@@ -195,7 +195,7 @@ fn next_claim(
     }
 }
 
-/// The lines with one that ends behind this formula.
+/// The lines with one that ends after this formula.
 fn end_line(
     lines: Vec<LineText>,
     line: LineHead,

@@ -4,10 +4,10 @@ ghost use Rattle.std.specs.Prelude.{◌≡◌, ℕ, List, [], ◌∷◌, map, If
 ghost use Rattle.rg_syntax.specs.Written.{claim, show_text, setting, move_text};
 ghost use Rattle.rg_syntax.specs.Grammar.{FormulaSpelling, ShowSpelling, SettingsSpelling, MovesSpelling, formula, show, settings, moves, lexeme_of};
 ghost use Rattle.rg_syntax.specs.Texts.{claim_of, shown_claim, settings_of, moves_of};
-ghost use Rattle.rg_frames.specs.Frames.{stack, open_of, setter_of};
+ghost use Rattle.rg_build.specs.Frames.{stack, open_of, setter_of};
 ghost use Rattle.rg_build.specs.Inner.Building.{steps, whole_of, whole_show_of, whole_start_of, whole_moves_of, with_last};
 
-use rg_frames::{Frame, Setter, put, take_token};
+use crate::{Frame, Setter, put, take_token};
 use rg_syntax::written::{FormulaText, MoveText, Setting, ShowText};
 use rg_text::token::Token;
 use std::alloc::{AllocError, Global};

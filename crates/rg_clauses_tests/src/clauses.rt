@@ -3,7 +3,8 @@
 use crate::conditions::shown;
 use rg_clauses::Clauses;
 use rg_words::{Fuse, Refusal, RefusalNumber, SourceFile, Taker};
-use std::alloc::{AllocError, Global};
+use std::alloc::Global;
+use std::test::Fail;
 
 /// The text for `((x = 1) and (y = 1)) implies (x = 1)`.
 const IMPLICATION: &[u8] =
@@ -11,21 +12,17 @@ const IMPLICATION: &[u8] =
 
 /// The clauses that are satisfied where `((x = 1) and (y = 1)) implies (x = 1)` fails, x the variable 1 and y the variable 2.
 fn implication(alloc: Global) -> Result<Clauses, Refusal> {
-    let condition = shown(
-        alloc,
-        "words x:1 y:1 show (((x = 1) and (y = 1)) implies (x = 1))",
-    )?;
+    let text = "words x:1 y:1 show (((x = 1) and (y = 1)) implies (x = 1))";
+    let condition = shown(alloc, text)?;
     Clauses::of(alloc, &condition, SourceFile::Text, 1)
 }
 
-/// Whether these are seven clauses over four variables, of which two are inputs.
-fn counts_are_the_worked_ones(clauses: &Clauses) -> bool {
-    clauses.variables() == 4 && clauses.inputs() == 2 && clauses.len() == 7
-}
-
-/// Whether the third clause is the worked one.
-fn third_is_the_worked_one(clauses: &Clauses) -> bool {
-    2 < clauses.len() && clauses.literals(2) == [3, -1, -2].as_slice()
+/// Whether these are seven clauses over four variables, of which two are inputs, and the third clause is the worked one.
+fn are_seven(clauses: &Clauses) -> bool {
+    clauses.variables() == 4
+        && clauses.inputs() == 2
+        && clauses.len() == 7
+        && clauses.literals(2) == [3, -1, -2].as_slice()
 }
 
 /// Whether the list of all literals and the places of the clauses in it are the worked ones.
@@ -35,21 +32,11 @@ fn flat_is_the_worked_one(clauses: &Clauses) -> bool {
     literals == expected.as_slice() && starts == [0, 2, 4, 7, 9, 11, 14].as_slice()
 }
 
-/// Whether the clauses of the implication are the worked ones.
-fn are_worked(alloc: Global) -> bool {
-    match implication(alloc) {
-        Ok(clauses) => {
-            counts_are_the_worked_ones(&clauses)
-                && third_is_the_worked_one(&clauses)
-                && flat_is_the_worked_one(&clauses)
-        }
-        Err(_) => false,
-    }
-}
-
 #[test]
-fn hands_out_the_worked_clauses(rt: HostRuntime) {
-    assert!(rt; are_worked(rt.alloc()));
+fn hands_out_the_worked_clauses(rt: HostRuntime) -> Result<(), Fail> {
+    let clauses = implication(rt.alloc())?;
+    assert!(rt; are_seven(&clauses) && flat_is_the_worked_one(&clauses));
+    Ok(())
 }
 
 /// Whether the text of clauses is this, to a writer that takes so many bytes a call.
@@ -58,72 +45,31 @@ fn is_text(alloc: Global, clauses: &Clauses, most: usize, expected: &[u8]) -> bo
     clauses.write_cnf(&mut taker).is_ok() && taker.bytes() == expected
 }
 
-/// Whether the text of the implication's clauses is the worked one, to such a writer.
-fn writes_worked(alloc: Global, most: usize) -> bool {
-    match implication(alloc) {
-        Ok(clauses) => is_text(alloc, &clauses, most, IMPLICATION),
-        Err(_) => false,
-    }
-}
-
-#[test]
-fn writes_the_worked_text(rt: HostRuntime) {
-    for most in [1, 2, 3, 1_000] {
-        assert!(rt; writes_worked(rt.alloc(), most));
-    }
-}
-
-/// Whether a writer that fails after so many calls, each of a byte, has these bytes, and its failure is told.
+/// Whether a writer that fails after so many calls, each of a byte, has these bytes, and its failure is reported.
 fn stops_after(alloc: Global, clauses: &Clauses, written: &[u8]) -> bool {
     let mut fuse = Fuse::new(Taker::new(alloc, 1), written.len() as u64);
-    let told = clauses
-        .write_cnf(&mut fuse)
-        .map_err(|refusal| refusal.number);
-    told == Err(RefusalNumber::Write) && fuse.inner().bytes() == written
-}
-
-/// Whether each such writer stops there, with the implication's clauses.
-fn stops_at_each(alloc: Global, clauses: &Clauses) -> bool {
-    for calls in 0..IMPLICATION.len() {
-        if !stops_after(alloc, clauses, &IMPLICATION[..calls]) {
-            return false;
-        }
-    }
-    true
-}
-
-/// The same of the clauses of the implication.
-fn worked_stops(alloc: Global) -> bool {
-    match implication(alloc) {
-        Ok(clauses) => stops_at_each(alloc, &clauses),
-        Err(_) => false,
-    }
+    let reported = clauses.write_cnf(&mut fuse).err();
+    reported == Some(Refusal::new(RefusalNumber::Write)) && fuse.inner().bytes() == written
 }
 
 #[test]
-fn stops_at_each_failure(rt: HostRuntime) {
-    assert!(rt; worked_stops(rt.alloc()));
+fn writes_the_worked_text_and_stops_at_each_failure(rt: HostRuntime) -> Result<(), Fail> {
+    let clauses = implication(rt.alloc())?;
+    for most in [1, 2, 3, 1_000] {
+        assert!(rt; is_text(rt.alloc(), &clauses, most, IMPLICATION));
+    }
+    for calls in 0..IMPLICATION.len() {
+        assert!(rt; stops_after(rt.alloc(), &clauses, &IMPLICATION[..calls]));
+    }
+    Ok(())
 }
 
-/// A clause of two literals, and an empty one.
-fn given_clauses(alloc: Global) -> Result<Clauses, AllocError> {
-    let mut clauses = Clauses::new(alloc, 2);
+#[test]
+fn takes_given_clauses(rt: HostRuntime) -> Result<(), Fail> {
+    let mut clauses = Clauses::new(rt.alloc(), 2);
     clauses.push(&[1, -2])?;
     clauses.push(&[])?;
-    Ok(clauses)
-}
-
-/// Whether the given clauses are over two inputs, with their text.
-fn are_given(alloc: Global) -> bool {
-    match given_clauses(alloc) {
-        Ok(clauses) => {
-            clauses.inputs() == 2 && is_text(alloc, &clauses, 1_000, b"p cnf 2 2\n1 -2 0\n0\n")
-        }
-        Err(_) => false,
-    }
-}
-
-#[test]
-fn takes_given_clauses(rt: HostRuntime) {
-    assert!(rt; are_given(rt.alloc()));
+    assert!(rt; clauses.inputs() == 2);
+    assert!(rt; is_text(rt.alloc(), &clauses, 1_000, b"p cnf 2 2\n1 -2 0\n0\n"));
+    Ok(())
 }

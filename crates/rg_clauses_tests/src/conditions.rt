@@ -3,12 +3,14 @@
 use crate::scan::scanning;
 use rg_bits::{formula as gates_of, inputs};
 use rg_clauses::Clauses;
+use rg_gates::GateError;
 use rg_par::conditions::add_conditions;
 use rg_parse::{program, show};
 use rg_rules::Derivation;
 use rg_tree::condition::Condition;
 use rg_words::{Refusal, SourceFile, Taker};
 use std::alloc::Global;
+use std::test::Fail;
 
 /// The text of clauses.
 fn text_of(alloc: Global, clauses: &Clauses) -> Taker {
@@ -25,40 +27,23 @@ fn same(alloc: Global, left: &Clauses, right: &Clauses) -> bool {
 }
 
 /// The clauses of a condition by the table that is searched from its front.
-fn scanned(alloc: Global, condition: &Condition) -> Option<Clauses> {
+fn scanned(alloc: Global, condition: &Condition) -> Result<Clauses, GateError> {
     let mut gates = scanning(alloc, inputs(condition));
-    let literal = gates_of(alloc, &mut gates, condition).ok()?;
-    Clauses::of_gates(alloc, &gates, literal.negated()).ok()
+    let literal = gates_of(alloc, &mut gates, condition)?;
+    Ok(Clauses::of_gates(alloc, &gates, literal.negated())?)
 }
 
 /// Whether a condition has the same clauses by both tables.
-fn agrees(alloc: Global, condition: &Condition) -> bool {
-    match scanned(alloc, condition) {
-        Some(plain) => is_of(alloc, condition, &plain),
-        None => false,
-    }
-}
-
-/// Whether these are the clauses of a condition.
-fn is_of(alloc: Global, condition: &Condition, plain: &Clauses) -> bool {
-    match Clauses::of(alloc, condition, SourceFile::Text, 1) {
-        Ok(clauses) => same(alloc, &clauses, plain),
-        Err(_) => false,
-    }
+fn agrees(alloc: Global, condition: &Condition) -> Result<bool, Fail> {
+    let plain = scanned(alloc, condition)?;
+    let clauses = Clauses::of(alloc, condition, SourceFile::Text, 1)?;
+    Ok(same(alloc, &clauses, &plain))
 }
 
 /// The condition that a text shows.
 pub(crate) fn shown(alloc: Global, text: &str) -> Result<Condition, Refusal> {
     let (layout, goal) = show(alloc, text.as_bytes())?;
     Ok(Condition::show(alloc, layout, goal))
-}
-
-/// Whether what a text shows has the same clauses by both tables.
-fn shown_agrees(alloc: Global, text: &str) -> bool {
-    match shown(alloc, text) {
-        Ok(condition) => agrees(alloc, &condition),
-        Err(_) => false,
-    }
 }
 
 /// Texts that each show something.
@@ -76,21 +61,12 @@ const SHOWN: &[&str] = &[
 ];
 
 #[test]
-fn both_tables_give_the_clauses_of_a_formula(rt: HostRuntime) {
+fn both_tables_give_the_clauses_of_a_formula(rt: HostRuntime) -> Result<(), Fail> {
     for text in SHOWN {
-        assert!(rt; shown_agrees(rt.alloc(), text));
+        let condition = shown(rt.alloc(), text)?;
+        assert!(rt; agrees(rt.alloc(), &condition)?);
     }
-}
-
-/// How many of these conditions have the same clauses by both tables.
-fn count_agreeing(alloc: Global, conditions: &[Condition]) -> usize {
-    let mut count = 0usize;
-    for condition in conditions {
-        if agrees(alloc, condition) {
-            count = count.wrapping_add(1);
-        }
-    }
-    count
+    Ok(())
 }
 
 /// The conditions of a program's lines and of the parallel rule.
@@ -100,16 +76,6 @@ fn conditions_of(alloc: Global, text: &str, lines: &str) -> Result<Vec<Condition
     let mut conditions = derivation.conditions(alloc, &program)?;
     add_conditions(alloc, &mut conditions, &program)?;
     Ok(conditions)
-}
-
-/// Whether a program has so many conditions, which all have the same clauses by both tables.
-fn program_agrees(alloc: Global, text: &str, lines: &str, count: usize) -> bool {
-    match conditions_of(alloc, text, lines) {
-        Ok(conditions) => {
-            conditions.len() == count && count_agreeing(alloc, &conditions) == count
-        }
-        Err(_) => false,
-    }
 }
 
 /// Programs with their lines, and how many conditions they have: a part that keeps one of two words and sets the other to its own value; two parts
@@ -148,8 +114,13 @@ guar ((a' = a) and ((x = (a + b)) implies (x' = (a' + b')))) post ((x = (a + b))
 ];
 
 #[test]
-fn both_tables_give_the_clauses_of_programs(rt: HostRuntime) {
+fn both_tables_give_the_clauses_of_programs(rt: HostRuntime) -> Result<(), Fail> {
     for (text, lines, count) in PROGRAMS {
-        assert!(rt; program_agrees(rt.alloc(), text, lines, *count));
+        let conditions = conditions_of(rt.alloc(), text, lines)?;
+        assert!(rt; conditions.len() == *count);
+        for condition in &conditions {
+            assert!(rt; agrees(rt.alloc(), condition)?);
+        }
     }
+    Ok(())
 }

@@ -10,31 +10,14 @@ use rg_words::limits::MOST_VARIABLES;
 use std::alloc::Global;
 use std::test::Fail;
 
-fn variable(number: u32, negative: bool) -> Lit
+/// A variable, or its negation.
+pub(crate) fn variable(number: u32, negative: bool) -> Lit
     ensures { result ≡ Variable number negative }
 {
     Lit::Variable { number, negative }
 }
 
-/// The gates of `((x = 1) and (y = 1)) implies (x = 1)`, where x is the variable 1 and y the variable 2.
-fn implication<T: Table>(gates: &mut Gates<T>) -> Result<Lit, GateError>
-    requires { 2 ≤ variable_count gates.old }
-    ensures { gates.new.inputs ≡ gates.old.inputs }
-{
-    let both = gates.and(variable(1, false), variable(2, false))?;
-    let fails = gates.and(both, variable(1, true))?;
-    Ok(Gates::not(fails))
-}
-
-/// The first gate of the implication.
-fn first_gate() -> Gate {
-    Gate {
-        first: variable(1, false),
-        second: variable(2, false),
-    }
-}
-
-/// Its second gate.
+/// The second gate of `((x = 1) and (y = 1)) implies (x = 1)`, where x is the variable 1 and y the variable 2.
 fn second_gate() -> Gate {
     Gate {
         first: variable(1, true),
@@ -42,38 +25,33 @@ fn second_gate() -> Gate {
     }
 }
 
-/// Whether the gates of the implication are these two, after which its literal is the negation of the second one.
-fn builds_worked_gates<T: Table>(gates: &mut Gates<T>) -> Result<bool, GateError>
-    requires { 2 ≤ variable_count gates.old }
-{
-    let literal = implication(gates)?;
-    let expected = [first_gate(), second_gate()];
-    Ok(literal == variable(4, true) && gates.gates() == expected.as_slice())
-}
-
-#[test]
-fn worked_gates(rt: HostRuntime) {
-    let mut gates = Gates::input(rt.alloc(), 2);
-    let worked = builds_worked_gates(&mut gates);
-    let place = gates.table().get_index_of(&second_gate());
-    assert!(rt; worked == Ok(true) && place == Some(1));
-}
-
-/// Whether the values of the implication's gates, where both words are 1, are the worked ones.
-fn has_worked_values<T: Table>(alloc: Global, gates: &mut Gates<T>) -> Result<bool, Fail>
+/// Whether the implication has its two gates, after which its literal is the negation of the second one, and whether their values are the
+/// worked ones where both words are 1.
+fn builds_worked_gates<T: Table>(alloc: Global, gates: &mut Gates<T>) -> Result<bool, Fail>
     requires inputs { gates.old.inputs ≡ 2 }
     requires count { 2 ≤ variable_count gates.old }
 {
-    implication(gates)?;
+    let both = gates.and(variable(1, false), variable(2, false))?;
+    let fails = gates.and(both, variable(1, true))?;
+    let first_gate = Gate {
+        first: variable(1, false),
+        second: variable(2, false),
+    };
+    let expected = [first_gate, second_gate()];
     let values = gates.eval(alloc, &[true, true])?;
-    Ok(values.as_slice() == [true, true, true, false].as_slice())
+    Ok(
+        Gates::not(fails) == variable(4, true)
+            && gates.gates() == expected.as_slice()
+            && values.as_slice() == [true, true, true, false].as_slice(),
+    )
 }
 
 #[test]
-fn worked_values(rt: HostRuntime) -> Result<(), Fail> {
+fn worked_gates_and_values(rt: HostRuntime) -> Result<(), Fail> {
     let mut gates = Gates::input(rt.alloc(), 2);
-    let worked = has_worked_values(rt.alloc(), &mut gates)?;
-    assert!(rt; worked);
+    let worked = builds_worked_gates(rt.alloc(), &mut gates)?;
+    let place = gates.table().get_index_of(&second_gate());
+    assert!(rt; worked && place == Some(1));
     values_are_one();
     Ok(())
 }

@@ -6,6 +6,12 @@ mod clauses;
 #[cfg(test)]
 mod conditions;
 #[cfg(test)]
+mod files;
+#[cfg(test)]
+mod finder;
+#[cfg(test)]
 mod gates;
+#[cfg(test)]
+mod meeting;
 #[cfg(test)]
 mod scan;

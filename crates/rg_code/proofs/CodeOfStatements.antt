@@ -10,8 +10,8 @@ use Rattle.rg_tree.specs.Runs.{Behavior, AllEnv, Atomic, Then, Within, Past, Yes
 use Rattle.rg_tree.proofs.Guards.{last-append}
 use Rattle.rg_tree.proofs.Stands.{Stands, stands_get, stands_tail, stands_front, stands_back}
 use Rattle.rg_tree.proofs.Joins.{runs_tails, Below, then_map, then_assoc_left, then_assoc_right, then_env, then_own}
-use Rattle.rg_code.specs.Operations.{formula_operations, told_by}
-use Rattle.rg_code.proofs.Operations.{told_formula, stored_assigned}
+use Rattle.rg_code.specs.Operations.{formula_operations, reported_by}
+use Rattle.rg_code.proofs.Operations.{reported_formula, stored_assigned}
 use Rattle.rg_code.specs.Code.{stored, store_of, BlockTree, do_block, await_block, test_block, end_block, Makes_step, is_end, count_of, count_of_items, code_of, code_of_items, part_code}
 
 -- the runs of one part's code from a place, as the part sees them
@@ -175,13 +175,13 @@ module _ (code : List BlockTree) where
   block_to row first next b act at =
       atomic_to code first next (holds_at b) (assigned act) (ap is_end at)
       (λ s t to m. let m' = subst (λ o. Makes_step o s t to) at m in
-      let g = told_formula b s in
+      let g = reported_formula b s in
       (cc (g, m'.0), stored_is act s t m'.1, m'.2))
 
   block_from : (row first next : ℕ) (b : Proposition) (act : List Assignment) → slice_get code first ≡ Some (await_block row next (formula_operations b) (map store_of act)) → Below (Then (Atomic (holds_at b) (assigned act)) (From code next)) (From code first)
   block_from row first next b act at =
       atomic_from code first next (holds_at b) (assigned act) (ap is_end at)
-      (λ s h. subst (λ o. Makes_step o s (assigned act s) next) (sym at) (told_formula b s ∙ ap (λ v. Some v) h, stored_assigned act s, refl))
+      (λ s h. subst (λ o. Makes_step o s (assigned act s) next) (sym at) (reported_formula b s ∙ ap (λ v. Some v) h, stored_assigned act s, refl))
 
   do_to : (row first next : ℕ) (act : List Assignment) → slice_get code first ≡ Some (do_block row next (map store_of act)) → Below (From code first) (Then (Atomic always (assigned act)) (From code next))
   do_to row first next act at =
@@ -193,8 +193,8 @@ module _ (code : List BlockTree) where
       atomic_from code first next always (assigned act) (ap is_end at)
       (λ s h. subst (λ o. Makes_step o s (assigned act s) next) (sym at) (stored_assigned act s, refl))
 
-  test_place : (b : Proposition) (yes_place no_place : ℕ) (s : State) → option_map (λ v. if v then yes_place else no_place) (told_by (formula_operations b) s) ≡ Some (pick (holds_at b s) yes_place no_place)
-  test_place b yes_place no_place s = ap (λ o. option_map (λ v. if v then yes_place else no_place) o) (told_formula b s)
+  test_place : (b : Proposition) (yes_place no_place : ℕ) (s : State) → option_map (λ v. if v then yes_place else no_place) (reported_by (formula_operations b) s) ≡ Some (pick (holds_at b s) yes_place no_place)
+  test_place b yes_place no_place s = ap (λ o. option_map (λ v. if v then yes_place else no_place) o) (reported_formula b s)
 
   test_goes : (row first yes_place no_place : ℕ) (b : Proposition) → slice_get code first ≡ Some (test_block row yes_place no_place (formula_operations b)) → (s t : State) (to : ℕ) → Makes_step (slice_get code first) s t to → (t ≡ s) × (to ≡ pick (holds_at b s) yes_place no_place)
   test_goes row first yes_place no_place b at s t to m =

@@ -6,7 +6,7 @@ use Rattle.rg_words.specs.Layout.{Word, widths_of}
 use Rattle.rg_words.specs.States.{IsState, IsPair}
 use Rattle.rg_tree.specs.Traces.{State}
 use Rattle.rg_tree.proofs.Steps.{set_values, agree_self, agree_set, agree_trans}
-use Rattle.rg_code.specs.Operations.{left_by, told_by}
+use Rattle.rg_code.specs.Operations.{left_by, reported_by}
 use Rattle.rg_code.specs.Code.{StoreTree, do_block, await_block, test_block, end_block, stored}
 use Rattle.rg_code.specs.Legal.{IsBelow, AreLegalStores}
 use Rattle.rg_code.specs.Laws.{BlockStepsArePairs}
@@ -42,5 +42,5 @@ pub block_steps_are_pairs : BlockStepsArePairs
 block_steps_are_pairs words n (do_block row next act) s t to legal st m = (stores_pair words act s t legal.1 st m.0, place_at n next to m.1 legal.0)
 block_steps_are_pairs words n (await_block row next b act) s t to legal st m = (stores_pair words act s t legal.2 st m.1, place_at n next to m.2 legal.0)
 block_steps_are_pairs words n (test_block row yes_place no_place b) s t to legal st m =
-    (pair_self words s t st (sym m.0), chosen_place n yes_place no_place to (told_by b s) m.1 legal.0 legal.1)
+    (pair_self words s t st (sym m.0), chosen_place n yes_place no_place to (reported_by b s) m.1 legal.0 legal.1)
 block_steps_are_pairs words n end_block s t to legal st m = absurd m

@@ -8,7 +8,7 @@ use Rattle.rg_tree.specs.Trees.{Assignment}
 use Rattle.rg_tree.specs.ConditionTrees.{assigned}
 use Rattle.rg_code.specs.declared.operation.Operation.{Operation}
 use Rattle.rg_code.specs.declared.operation.Operation.TheVariants.{Inverse, Binary, Shifted, Pick, Compare, Not, Connect}
-use Rattle.rg_code.specs.Operations.{number_of_truth, truth_of, after_operation, after_operations, alone, left_by, told_by, expression_operations, formula_operations, OperationsLeaveValues}
+use Rattle.rg_code.specs.Operations.{number_of_truth, truth_of, after_operation, after_operations, alone, left_by, reported_by, expression_operations, formula_operations, OperationsLeaveValues}
 use Rattle.rg_code.specs.Code.{stored, store_of}
 
 -- what goes on in two ways from a stack that may be missing
@@ -74,8 +74,8 @@ left_expression e s = ap (λ o. option_and_then alone o) (expression_leaves e s 
 pub left_formula : (f : Proposition) (s : State) → left_by (formula_operations f) s ≡ Some (number_of_truth (holds_at f s))
 left_formula f s = ap (λ o. option_and_then alone o) (formula_leaves f s [])
 
-pub told_formula : (f : Proposition) (s : State) → told_by (formula_operations f) s ≡ Some (holds_at f s)
-told_formula f s = ap (λ o. option_map truth_of o) (left_formula f s) ∙ ap (λ v. Some v) (truth-number (holds_at f s))
+pub reported_formula : (f : Proposition) (s : State) → reported_by (formula_operations f) s ≡ Some (holds_at f s)
+reported_formula f s = ap (λ o. option_map truth_of o) (left_formula f s) ∙ ap (λ v. Some v) (truth-number (holds_at f s))
 
 -- the stores of assignments do what the assignments do
 pub stored_assigned : (act : List Assignment) (s : State) → stored (map store_of act) s ≡ Some (assigned act s)

@@ -5,7 +5,7 @@ use Rattle.rg_tree.specs.Trees.{Assignment}
 use Rattle.rg_tree.specs.Statements.{Statement, skip, assign, await, sequence, branch, loop, Items, one, more, PartTree, ProgramTree}
 use Rattle.rg_tree.specs.Traces.{State, Step, IsTraceOf}
 use Rattle.rg_tree.specs.Programs.{IsRun}
-use Rattle.rg_code.specs.Operations.{left_by, told_by, expression_operations, formula_operations}
+use Rattle.rg_code.specs.Operations.{left_by, reported_by, expression_operations, formula_operations}
 use Rattle.rg_code.specs.declared.operation.Operation.{Operation}
 
 -- a store: the number that the operations leave goes to a word
@@ -29,8 +29,8 @@ stored (a ∷ act) s = option_and_then (λ x. stored act (slice_set s a.target x
 abbrev pub Makes_step : Option BlockTree → State → State → ℕ → Type 0
 Makes_step None s t to = ⊥
 Makes_step (Some (do_block row next act)) s t to = (stored act s ≡ Some t) × (to ≡ next)
-Makes_step (Some (await_block row next b act)) s t to = (told_by b s ≡ Some true) × (stored act s ≡ Some t) × (to ≡ next)
-Makes_step (Some (test_block row yes_place no_place b)) s t to = (t ≡ s) × (option_map (λ v. if v then yes_place else no_place) (told_by b s) ≡ Some to)
+Makes_step (Some (await_block row next b act)) s t to = (reported_by b s ≡ Some true) × (stored act s ≡ Some t) × (to ≡ next)
+Makes_step (Some (test_block row yes_place no_place b)) s t to = (t ≡ s) × (option_map (λ v. if v then yes_place else no_place) (reported_by b s) ≡ Some to)
 Makes_step (Some end_block) s t to = ⊥
 
 -- there is a block, and it is an end

@@ -61,8 +61,8 @@ abbrev pub left_by : List Operation → State → Option ℕ
 left_by os s = option_and_then alone (after_operations s os [])
 
 -- the truth value that operations leave in a state
-abbrev pub told_by : List Operation → State → Option Bool
-told_by os s = option_map truth_of (left_by os s)
+abbrev pub reported_by : List Operation → State → Option Bool
+reported_by os s = option_map truth_of (left_by os s)
 
 -- the operations of a tree: those of its operands from left to right, and then its own
 abbrev mutual

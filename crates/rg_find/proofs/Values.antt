@@ -26,7 +26,7 @@ pub numbers_pushed : (lines : List HintLine) (line : HintLine) (last next : ℕ)
 numbers_pushed lines line last next all le here =
     All-push (λ (l : HintLine). l.id ≤ next) lines line (λ k d h. omega (arith, all k d h)) here
 
--- a count of lines behind the given clauses, and one more line
+-- a count of lines after the given clauses, and one more line
 pub count_pushed : (given last : ℕ) (lines : List HintLine) (line : HintLine) → last ≡ given + length lines → last + 1 ≡ given + length (lines ++ line ∷ [])
 count_pushed given last lines line e = omega (arith, e, length-append lines (line ∷ []))
 

@@ -181,7 +181,7 @@ pub fn find(alloc: Global, clauses: &Clauses, steps: u64) -> Result<Found, Refus
     find_watched(alloc, clauses, steps, &mut Unwatched)
 }
 
-/// The same as `find`, while somebody is told of it.
+/// As `find`, with a watcher that hears of a long search.
 ///
 /// # Errors
 ///
@@ -207,7 +207,7 @@ pub fn find_watched<W: Watcher>(
     find_with(alloc, clauses, &[], steps, watcher)
 }
 
-/// The same, where of the values that satisfy some are sought in which these words have the same value in both states. Nothing is
+/// As `find_watched`, where of the values that satisfy some are sought in which these words have the same value in both states. Nothing is
 /// promised of that.
 pub fn find_with<W: Watcher>(
     alloc: Global,

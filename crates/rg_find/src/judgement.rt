@@ -55,7 +55,7 @@ fn find_near<W: Watcher>(
 }
 
 /// Looks for lines that prove a condition or for states at which it fails, as `find` does on its clauses. The file and the
-/// condition's number, from 1, are for a refusal alone. The watcher is told of a long search.
+/// condition's number, from 1, are for a refusal alone. The watcher hears of a long search.
 ///
 /// # Errors
 ///

@@ -13,7 +13,7 @@ use Rattle.rg_tree.specs.Programs.{OthersInside, nth}
 use Rattle.rg_tree.specs.Moves.{given, IsValueOf}
 use Rattle.rg_code.specs.Code.{BlockTree, PlacesGo, zeros}
 use Rattle.rg_monitor.specs.Entry.{Entry, entry_of}
-use Rattle.rg_stepping.specs.Changes.{Changing, changed, rebuilt, state_after}
+use Rattle.rg_floor.specs.Changes.{Changing, changed, rebuilt, state_after}
 use Rattle.rg_floor.specs.History.{step_of, steps_of, own_steps, steps_by, IsRecordAt, RecordsLead}
 use Rattle.rg_floor.specs.Inner.Counts.{made_by}
 
@@ -149,17 +149,17 @@ no_record p s cs number past =
     let e : number ≡ suc (number - 1) = omega (arith, past) in
     sym (nth_at (rebuilt p 0 s cs) number (number - 1) e ∙ slice_get_past (rebuilt p 0 s cs) (number - 1) (omega (arith, past, length-rebuilt p 0 s cs)))
 
--- the records behind so many are those of the changes behind so many
+-- the records after so many are those of the changes after so many
 drop-rebuilt : (p : ProgramTree) (n k m : ℕ) (s : State) (cs : List Changing) → m ≡ k + n → drop k (rebuilt p n s cs) ≡ rebuilt p m (state_after s (take k cs)) (drop k cs)
 drop-rebuilt p n zero m s cs e = let same : n ≡ m = omega (arith, e) in ap (λ j. rebuilt p j s cs) same
 drop-rebuilt p n (suc k) m s [] e = refl
 drop-rebuilt p n (suc k) m s (c ∷ cs) e = drop-rebuilt p (suc n) k m (given c.values s) cs (omega (arith, e))
 
-pub records_behind : (p : ProgramTree) (s before : State) (cs : List Changing) (k : ℕ) → before ≡ state_after s (take k cs) → rebuilt p k before (drop k cs) ≡ drop k (rebuilt p 0 s cs)
-records_behind p s before cs k at = ap (λ t. rebuilt p k t (drop k cs)) at ∙ sym (drop-rebuilt p 0 k k s cs (omega arith))
+pub records_after : (p : ProgramTree) (s before : State) (cs : List Changing) (k : ℕ) → before ≡ state_after s (take k cs) → rebuilt p k before (drop k cs) ≡ drop k (rebuilt p 0 s cs)
+records_after p s before cs k at = ap (λ t. rebuilt p k t (drop k cs)) at ∙ sym (drop-rebuilt p 0 k k s cs (omega arith))
 
-pub none_behind : (p : ProgramTree) (s : State) (cs : List Changing) (k : ℕ) → length cs ≤ k → drop k (rebuilt p 0 s cs) ≡ []
-none_behind p s cs k past = drop_of_length-le (rebuilt p 0 s cs) (omega (arith, past, length-rebuilt p 0 s cs))
+pub none_after : (p : ProgramTree) (s : State) (cs : List Changing) (k : ℕ) → length cs ≤ k → drop k (rebuilt p 0 s cs) ≡ []
+none_after p s cs k past = drop_of_length-le (rebuilt p 0 s cs) (omega (arith, past, length-rebuilt p 0 s cs))
 
 -- one more record was made, and the rest is to be made
 pub one_made : (p : ProgramTree) (records records' whole : List Entry) (changes : List Changing) (i : ℕ) (x : Entry) (c : Changing) (s t : State)

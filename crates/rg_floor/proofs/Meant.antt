@@ -16,7 +16,7 @@ use Rattle.rg_code.specs.Code.{BlockTree, AllCodeRuns, IsCodeRun, all_at_end, ze
 use Rattle.rg_monitor.specs.Entry.{Entry, covering}
 use Rattle.rg_floor.specs.History.{GoTogether, RecordsLead, steps_of}
 use Rattle.rg_floor.specs.Laws.{HistoriesAreRuns, StepsAreCovered, EndsAreInPost}
-use Rattle.rg_stepping.proofs.Readiness.{or_true, same_test}
+use Rattle.rg_floor.proofs.Readiness.{or_true, same_test}
 
 -- the records' steps are those of a run
 run_along : (p : ProgramTree) (codes : List (List BlockTree)) (n : ℕ) (ks : List ℕ) (s : State) (rs : List Entry) (to : List ℕ) → RecordsLead p codes n ks s rs to → AllCodeRuns codes ks s (steps_of rs) (all_at_end codes to)

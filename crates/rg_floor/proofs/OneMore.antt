@@ -22,18 +22,18 @@ use Rattle.rg_tree.specs.Moves.{IsValueOf}
 use Rattle.rg_code.specs.Code.{BlockTree, PlacesGo, zeros, is_end, all_at_end}
 use Rattle.rg_machine.specs.Machine.{Configuration}
 use Rattle.rg_monitor.specs.Entry.{Entry, entry_of}
-use Rattle.rg_stepping.specs.Changes.{Changing, changed, rebuilt, state_after, change_of}
+use Rattle.rg_floor.specs.Changes.{Changing, changed, rebuilt, state_after, change_of}
 use Rattle.rg_floor.specs.History.{FloorView, step_of, steps_of, own_steps, change_in, IsRecordAt, RecordsLead, IsLegal, GoTogether}
-use Rattle.rg_stepping.specs.Ready.{block_at, line_at, can_go, any_can_go}
+use Rattle.rg_floor.specs.Ready.{block_at, line_at, can_go, any_can_go}
 use Rattle.rg_floor.specs.Turns.{case_of, Goes, MoveGives}
 use Rattle.rg_floor.specs.Inner.Kept.{IsKept, view_of}
-use Rattle.rg_stepping.specs.Steps.{StepMakes, MoveMakes}
+use Rattle.rg_floor.specs.Steps.{StepMakes, MoveMakes}
 use Rattle.rg_floor.specs.declared.turn.Case.{Case}
 use Rattle.rg_floor.specs.declared.turn.Case.TheVariants.{IsOver, AtEnd, Waits, Steps}
 use Rattle.rg_floor.specs.declared.turn.Why.TheVariants.{Ended as all_ended, Limit, Stuck, Stopped}
 use Rattle.rg_floor.specs.declared.turn.Turn.TheVariants.{Did}
 use Rattle.rg_floor.proofs.Histories.{length-rebuilt, rebuilt-push, state_after-push, last_of-rebuilt, given-changed, changed-fits, steps_of-push, IsTraceOf-push, OthersInside-push, own_steps-push, RecordsLead-push, goes_sized, stays, length-zeros}
-use Rattle.rg_stepping.proofs.Readiness.{same_by_test}
+use Rattle.rg_floor.proofs.Readiness.{same_by_test}
 
 -- the records after one more change
 pub history-push : (p : ProgramTree) (start s t : State) (changes : List Changing) (who line : ℕ) → s ≡ state_after start changes → length s ≡ length t

@@ -6,8 +6,8 @@ use Rattle.rg_tree.specs.Traces.{State, Step, holds_at, IsTraceOf, last_of}
 use Rattle.rg_tree.specs.Programs.{IsSatisfied, OthersInside}
 use Rattle.rg_code.specs.Code.{BlockTree, HasRunsOf, PlacesGo, zeros}
 use Rattle.rg_monitor.specs.Entry.{Entry, covering}
-use Rattle.rg_stepping.specs.Changes.{Changing, change_of, rebuilt}
-use Rattle.rg_stepping.specs.Ready.{line_at}
+use Rattle.rg_floor.specs.Changes.{Changing, change_of, rebuilt}
+use Rattle.rg_floor.specs.Ready.{line_at}
 
 -- what contracts see of a floor: the words, the place of each part, each step's change, the records, whether the run was stopped,
 -- and whether moves may still come

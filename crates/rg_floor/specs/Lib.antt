@@ -1,7 +1,11 @@
-pub use Rattle.rg_stepping.specs.Changes
-pub use Rattle.rg_stepping.specs.Ready
+pub mod Changes
+pub mod Ready
+pub mod Steps
+pub use Rattle.rg_floor.specs.Changes
+pub use Rattle.rg_floor.specs.Ready
 pub mod History
 pub mod Seats
 pub mod Turns
 pub mod Laws
 pub mod Inner
+pub mod Moves

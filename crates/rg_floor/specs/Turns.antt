@@ -19,10 +19,10 @@ use Rattle.rg_floor.specs.declared.turn.Why.{Why}
 use Rattle.rg_floor.specs.declared.turn.Why.TheVariants.{Ended as all_ended, Limit, Stuck, Stopped}
 use Rattle.rg_floor.specs.declared.turn.Turn.{Turn}
 use Rattle.rg_floor.specs.declared.turn.Turn.TheVariants.{Did, Blocked, Ended, Over}
-use Rattle.rg_stepping.specs.Changes.{Changing, change_of}
+use Rattle.rg_floor.specs.Changes.{Changing, change_of}
 use Rattle.rg_floor.specs.History.{FloorView, own_steps}
-use Rattle.rg_stepping.specs.Ready.{block_at, line_at, can_go, any_can_go}
-pub use Rattle.rg_stepping.specs.Steps.{keeps_fixed, move_fault, IsErrorOf}
+use Rattle.rg_floor.specs.Ready.{block_at, line_at, can_go, any_can_go}
+pub use Rattle.rg_floor.specs.Steps.{keeps_fixed, move_fault, IsErrorOf}
 
 -- which case a turn of this part is: the first that fits
 abbrev pub case_of : List (List BlockTree) → ℕ → FloorView → ℕ → Case

@@ -5,14 +5,14 @@ ghost use Rattle.rg_words.specs.Layout.{widths_of};
 ghost use Rattle.rg_tree.specs.Moves.{given, IsValueOf};
 ghost use Rattle.rg_tree.specs.Programs.{nth};
 ghost use Rattle.rg_tree.specs.ProgramTrees.{program as program_tree};
-ghost use Rattle.rg_stepping.specs.Changes.{rebuilt, state_after, AreChangesOf};
+ghost use Rattle.rg_floor.specs.Changes.{rebuilt, state_after, AreChangesOf};
 ghost use Rattle.rg_floor.specs.History.{change_in, steps_by};
 ghost use Rattle.rg_floor.specs.Turns.{CloseGives};
 ghost use Rattle.rg_floor.specs.Inner.Counts.{made_by};
 
+use crate::change::Change;
 use crate::turn::Why;
 use rg_monitor::record::Record;
-use rg_stepping::change::Change;
 use rg_tree::moves::give;
 use rg_tree::program::Program;
 use rg_words::{Refusal, RefusalNumber, State};
@@ -44,7 +44,7 @@ impl<'e> Model for Closed<'e> {
     ghost use Rattle.std.specs.Prelude.{◌≡◌, map};
     ghost use Rattle.rg_words.specs.Layout.{widths_of};
     ghost use Rattle.rg_tree.specs.ProgramTrees.{program as program_tree};
-    ghost use Rattle.rg_stepping.specs.Changes.{rebuilt, AreChangesOf};
+    ghost use Rattle.rg_floor.specs.Changes.{rebuilt, AreChangesOf};
     ghost use Rattle.rg_floor.specs.History.{change_in};
     ghost use Rattle.rg_floor.specs.Turns.{ClosedView};
 
@@ -77,7 +77,7 @@ impl<'e> Closed<'e> {
         }
     }
 
-    /// The same, with these as the moves that were passed over.
+    /// This closed floor, with these as the moves that were passed over.
     pub fn with_refused(mut self, refused: Vec<Passed>) -> Closed<'e>
         ensures { result ≡ record { why = self.entry.why; changes = self.entry.changes; history = self.entry.history; refused = refused.items } }
     {
@@ -122,7 +122,7 @@ impl<'e> Closed<'e> {
         ensures { IfOk result (λ r. r.items ≡ drop (number - 1) self.now.history) }
     {
         let count = number.saturating_sub(1);
-        records_behind(alloc, self.program, &self.start, &self.changes, count)
+        records_after(alloc, self.program, &self.start, &self.changes, count)
     }
 
     /// What each step changed, in order: for each record exactly the words that differ after it, in their order, with their new values.
@@ -187,8 +187,8 @@ fn record_at(
     Ok(Some(record))
 }
 
-/// The records behind so many, made from changes.
-fn records_behind(
+/// The records after so many, made from changes.
+fn records_after(
     alloc: Global,
     program: &Program,
     start: &State,
@@ -206,7 +206,7 @@ fn records_behind(
     records_on(alloc, program, &before, changes, count)
 }
 
-/// The records of the changes behind so many, from the state there.
+/// The records of the changes after so many, from the state there.
 fn records_on(
     alloc: Global,
     program: &Program,

@@ -1,6 +1,6 @@
 //! What legal floors mean, as laws: functions that do nothing, and whose contracts are the laws.
 
-ghost use Rattle.rg_stepping.specs.Ready.{ReadyMeansSteps};
+ghost use Rattle.rg_floor.specs.Ready.{ReadyMeansSteps};
 ghost use Rattle.rg_floor.specs.Laws.{HistoriesAreRuns, StepsAreCovered, EndsAreInPost};
 
 /// The steps of a legal floor are a run of its code; each recorded step of a part has this part in its cover; and a floor whose parts

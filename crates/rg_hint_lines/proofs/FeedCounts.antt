@@ -24,7 +24,7 @@ feeds_are_lines front (inr p) =
     let one : length (lines front) ≡ length (slice_split is_line_feed a) = ap length (ap lines p.1 ∙ lines_ended a) ∙ length-map (slice_split is_line_feed a) strip_carriage_return in
     one ∙ length-slice_split is_line_feed a ∙ sym (ap (count_by is_line_feed) p.1 ∙ sum_by-append (λ b. cond (is_line_feed b) 1 0) a (10 ∷ []))
 
--- a text that is cut behind a line feed
+-- a text that is cut after a line feed
 pub cut_lines : (text front rest : List ℕ) → text ≡ front ++ rest → EndsLine front → AreFrontLines text front rest (count_by is_line_feed front)
 cut_lines text front rest is ends = record {
   is = is;
@@ -94,23 +94,23 @@ none_in a b e =
     let size : length a + length b ≡ 0 = sym (length-append a b) ∙ sym (ap length e) in
     (nil_from_length a (omega (arith, size)), nil_from_length b (omega (arith, size)))
 
-joined_ends : (front rest f behind : List ℕ) → rest ≡ f ++ behind → (rest ≡ []) ⊎ EndsLine front → (behind ≡ []) ⊎ EndsLine f → (behind ≡ []) ⊎ EndsLine (front ++ f)
-joined_ends front rest f behind is (inl e) ends = inl (none_in f behind (sym e ∙ is)).1
-joined_ends front rest f behind is (inr h) ends = ends_more front f behind h ends
+joined_ends : (front rest f after : List ℕ) → rest ≡ f ++ after → (rest ≡ []) ⊎ EndsLine front → (after ≡ []) ⊎ EndsLine f → (after ≡ []) ⊎ EndsLine (front ++ f)
+joined_ends front rest f after is (inl e) ends = inl (none_in f after (sym e ∙ is)).1
+joined_ends front rest f after is (inr h) ends = ends_more front f after h ends
 
-joined_lines : (front rest f behind : List ℕ) → rest ≡ f ++ behind → (rest ≡ []) ⊎ EndsLine front → lines (front ++ f) ≡ lines front ++ lines f
-joined_lines front rest f behind is (inl e) = lines_join front f (inl (none_in f behind (sym e ∙ is)).0)
-joined_lines front rest f behind is (inr h) = lines_join front f (inr h)
+joined_lines : (front rest f after : List ℕ) → rest ≡ f ++ after → (rest ≡ []) ⊎ EndsLine front → lines (front ++ f) ≡ lines front ++ lines f
+joined_lines front rest f after is (inl e) = lines_join front f (inl (none_in f after (sym e ∙ is)).0)
+joined_lines front rest f after is (inr h) = lines_join front f (inr h)
 
--- plain lines, and more of them behind
-pub plain_join : (text front rest f behind : List ℕ) (count more total : ℕ) → ArePlainLines text front rest count → ArePlainLines rest f behind more → total ≡ count + more → ArePlainLines text (front ++ f) behind total
-plain_join text front rest f behind count more total a b sum =
-    let both = joined_lines front rest f behind b.fronts.is a.fronts.ends in
+-- plain lines, and more of them after
+pub plain_join : (text front rest f after : List ℕ) (count more total : ℕ) → ArePlainLines text front rest count → ArePlainLines rest f after more → total ≡ count + more → ArePlainLines text (front ++ f) after total
+plain_join text front rest f after count more total a b sum =
+    let both = joined_lines front rest f after b.fronts.is a.fronts.ends in
     record {
       fronts = record {
-        is = a.fronts.is ∙ ap (λ (xs : List ℕ). front ++ xs) b.fronts.is ∙ sym (append_assoc front f behind);
-        ends = joined_ends front rest f behind b.fronts.is a.fronts.ends b.fronts.ends;
-        lines_are = a.fronts.lines_are ∙ ap (λ (ls : List (List ℕ)). lines front ++ ls) b.fronts.lines_are ∙ sym (append_assoc (lines front) (lines f) (lines behind)) ∙ ap (λ (ls : List (List ℕ)). ls ++ lines behind) (sym both);
+        is = a.fronts.is ∙ ap (λ (xs : List ℕ). front ++ xs) b.fronts.is ∙ sym (append_assoc front f after);
+        ends = joined_ends front rest f after b.fronts.is a.fronts.ends b.fronts.ends;
+        lines_are = a.fronts.lines_are ∙ ap (λ (ls : List (List ℕ)). lines front ++ ls) b.fronts.lines_are ∙ sym (append_assoc (lines front) (lines f) (lines after)) ∙ ap (λ (ls : List (List ℕ)). ls ++ lines after) (sym both);
         count_is = omega (arith, sum, a.fronts.count_is, b.fronts.count_is, ap length both, length-append (lines front) (lines f));
       };
       plain = subst (All IsPlain) (sym both) (All-append IsPlain (lines front) (lines f) a.plain b.plain);

@@ -12,9 +12,9 @@ use Rattle.std.proofs.lemmas.Bool.Decides.{nat_tests}
 use Rattle.std.proofs.lemmas.List.Folds.{length-prefix_len}
 use Rattle.rg_words.specs.declared.limits.TheConstants.{MOST_HINT_NUMBER}
 use Rattle.rg_hint_lines.specs.Text.{is_blank, is_filled, in_range, fields_of, number_in, positive, literal_in}
-use Rattle.rg_hint_lines.specs.Inner.Fronts.{front_field, behind_field, IsUpToMost, first_read}
+use Rattle.rg_hint_lines.specs.Inner.Fronts.{front_field, after_field, IsUpToMost, first_read}
 use Rattle.rg_hint_lines.proofs.NumberSteps.{no_number}
-use Rattle.rg_hint_lines.proofs.TextSteps.{parts_skip, parts_take, front_filled, none_behind}
+use Rattle.rg_hint_lines.proofs.TextSteps.{parts_skip, parts_take, front_filled, none_after}
 
 abbrev is_field : ℕ → Bool
 is_field b = not (is_blank b)
@@ -33,7 +33,7 @@ digits_in_front (x ∷ xs) =
     (λ (e : is_ascii_digit x ≡ false). rw e refl)
     (cases_Bool (is_ascii_digit x))
 
--- a byte that is no digit stands behind the digits
+-- a byte that is no digit stands after the digits
 pub more_than_digits : (xs : List ℕ) → prefix_len is_ascii_digit xs < length xs → all_ascii_digits xs ≡ false
 more_than_digits [] h = absurd (omega arith)
 more_than_digits (x ∷ xs) h =
@@ -69,11 +69,11 @@ no_field_of_digits (x ∷ xs) h =
 
 -- what is read in front of a line is what its first field is read as
 pub first_in_front : {A : Type 0} (read : List ℕ → Option A) (line : List ℕ) → read [] ≡ None
-    → first_read read (fields_of line) ≡ option_map (λ x. (x, fields_of (behind_field (drop (prefix_len is_blank line) line)))) (read (front_field (drop (prefix_len is_blank line) line)))
+    → first_read read (fields_of line) ≡ option_map (λ x. (x, fields_of (after_field (drop (prefix_len is_blank line) line)))) (read (front_field (drop (prefix_len is_blank line) line)))
 first_in_front read line none =
-    let behind = drop (prefix_len is_blank line) line in
-    ap (first_read read) (sym (parts_skip is_blank line)) ∙ by behind (none_behind is_blank line) where
-      by : (xs : List ℕ) → prefix_len is_blank xs ≡ 0 → first_read read (fields_of xs) ≡ option_map (λ x. (x, fields_of (behind_field xs))) (read (front_field xs))
+    let after = drop (prefix_len is_blank line) line in
+    ap (first_read read) (sym (parts_skip is_blank line)) ∙ by after (none_after is_blank line) where
+      by : (xs : List ℕ) → prefix_len is_blank xs ≡ 0 → first_read read (fields_of xs) ≡ option_map (λ x. (x, fields_of (after_field xs))) (read (front_field xs))
       by [] first = rw none refl
       by (x ∷ xs) first = ap (first_read read) (parts_take is_blank (x ∷ xs) (front_filled is_blank (x ∷ xs) (omega arith) first))
 
@@ -95,12 +95,12 @@ no_number_of_digits field number up large =
     (λ (e : (is_filled field && all_ascii_digits field) ≡ false). cond-false (is_filled field && all_ascii_digits field) (in_range (digits_value 10 field)) None e)
     (cases_Bool (is_filled field && all_ascii_digits field))
 
--- the digits in front of bytes, and what stands behind them
+-- the digits in front of bytes, and what stands after them
 module _ (xs rest : List ℕ) (count : ℕ) (is_count : count ≡ prefix_len is_ascii_digit xs) (is_rest : rest ≡ drop count xs) where
   same_rest : rest ≡ drop (prefix_len is_ascii_digit xs) xs
   same_rest = is_rest ∙ ap (λ (n : ℕ). drop n xs) is_count
 
-  -- a byte that is no blank stands behind them
+  -- a byte that is no blank stands after them
   pub other_front : not (eqb (prefix_len is_field rest) 0) ≡ true → number_in (front_field xs) ≡ None
   other_front e =
       let none = eqb-false (prefix_len is_field rest) 0 (not-true (eqb (prefix_len is_field rest) 0) e) in
@@ -116,8 +116,8 @@ module _ (xs rest : List ℕ) (count : ℕ) (is_count : count ≡ prefix_len is_
     pub front_is : front_field xs ≡ take count xs
     front_is = ap (λ (n : ℕ). take n xs) same_field
 
-    pub behind_is : rest ≡ behind_field xs
-    behind_is = is_rest ∙ ap (λ (n : ℕ). drop n xs) (sym same_field)
+    pub after_is : rest ≡ after_field xs
+    after_is = is_rest ∙ ap (λ (n : ℕ). drop n xs) (sym same_field)
 
     pub no_digits : count ≡ 0 → number_in (front_field xs) ≡ None
     no_digits e = ap number_in (front_is ∙ ap (λ (n : ℕ). take n xs) e)
@@ -140,21 +140,21 @@ field_number_is xs count number is_count whole within up some small =
 
 -- what the first field is read as
 pub first_none : {A : Type 0} (read : List ℕ → Option A) (line : List ℕ) → read [] ≡ None → read (front_field (drop (prefix_len is_blank line) line)) ≡ None → first_read read (fields_of line) ≡ None
-first_none read line none e = first_in_front read line none ∙ ap (option_map (λ x. (x, fields_of (behind_field (drop (prefix_len is_blank line) line))))) e
+first_none read line none e = first_in_front read line none ∙ ap (option_map (λ x. (x, fields_of (after_field (drop (prefix_len is_blank line) line))))) e
 
 pub first_some : {A : Type 0} (read : List ℕ → Option A) (line : List ℕ) → read [] ≡ None → (x : A) (rest : List ℕ)
-    → (read (front_field (drop (prefix_len is_blank line) line)) ≡ Some x) × (rest ≡ behind_field (drop (prefix_len is_blank line) line)) → first_read read (fields_of line) ≡ Some (x, fields_of rest)
+    → (read (front_field (drop (prefix_len is_blank line) line)) ≡ Some x) × (rest ≡ after_field (drop (prefix_len is_blank line) line)) → first_read read (fields_of line) ≡ Some (x, fields_of rest)
 first_some read line none x rest h =
-    first_in_front read line none ∙ ap (option_map (λ y. (y, fields_of (behind_field (drop (prefix_len is_blank line) line))))) h.0 ∙ ap (λ (ys : List ℕ). Some (x, fields_of ys)) (sym h.1)
+    first_in_front read line none ∙ ap (option_map (λ y. (y, fields_of (after_field (drop (prefix_len is_blank line) line))))) h.0 ∙ ap (λ (ys : List ℕ). Some (x, fields_of ys)) (sym h.1)
 
 -- a field that begins with a minus sign
 negative_front : (xs : List ℕ) → get_or xs 0 0 ≡ 45 → literal_in (front_field xs) ≡ option_map (λ n. neg_ℤ (pos n)) (positive (number_in (front_field (drop 1 xs))))
 negative_front [] e = absurd (omega (arith, e))
 negative_front (x ∷ xs) e = let more : 1 + prefix_len is_field xs ≡ suc (prefix_len is_field xs) = omega arith in rw (e, more) refl
 
-negative_behind : (xs : List ℕ) → get_or xs 0 0 ≡ 45 → behind_field (drop 1 xs) ≡ behind_field xs
-negative_behind [] e = absurd (omega (arith, e))
-negative_behind (x ∷ xs) e = let more : 1 + prefix_len is_field xs ≡ suc (prefix_len is_field xs) = omega arith in rw (e, more) refl
+negative_after : (xs : List ℕ) → get_or xs 0 0 ≡ 45 → after_field (drop 1 xs) ≡ after_field xs
+negative_after [] e = absurd (omega (arith, e))
+negative_after (x ∷ xs) e = let more : 1 + prefix_len is_field xs ≡ suc (prefix_len is_field xs) = omega arith in rw (e, more) refl
 
 -- another field
 positive_front : (xs : List ℕ) → eqb (get_or xs 0 0) 45 ≡ false → literal_in (front_field xs) ≡ option_map (λ n. pos n) (number_in (front_field xs))
@@ -166,7 +166,7 @@ positive_front (x ∷ xs) h =
     (λ (e : is_field x ≡ false). rw e refl)
     (cases_Bool (is_field x))
 
--- the number behind a sign, and the literal
+-- the number after a sign, and the literal
 module _ (xs : List ℕ) (sign : ℕ) (is : sign ≡ cond (eqb (get_or xs 0 0) 45) 1 0) where
   abbrev pub signed_number : Option ℕ
   signed_number = number_in (front_field (drop sign xs))
@@ -184,10 +184,10 @@ module _ (xs : List ℕ) (sign : ℕ) (is : sign ≡ cond (eqb (get_or xs 0 0) 4
       (λ (e : eqb (get_or xs 0 0) 45 ≡ false). rw (sign_none e) (positive_front xs e))
       (cases_Bool (eqb (get_or xs 0 0) 45))
 
-  pub signed_behind : behind_field (drop sign xs) ≡ behind_field xs
-  signed_behind =
+  pub signed_after : after_field (drop sign xs) ≡ after_field xs
+  signed_after =
       ⊎_elim
-      (λ (e : eqb (get_or xs 0 0) 45 ≡ true). rw (sign_one e) (negative_behind xs (eqb-true (get_or xs 0 0) 45 e)))
+      (λ (e : eqb (get_or xs 0 0) 45 ≡ true). rw (sign_one e) (negative_after xs (eqb-true (get_or xs 0 0) 45 e)))
       (λ (e : eqb (get_or xs 0 0) 45 ≡ false). rw (sign_none e) refl)
       (cases_Bool (eqb (get_or xs 0 0) 45))
 

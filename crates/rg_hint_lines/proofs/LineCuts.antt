@@ -1,4 +1,4 @@
--- a text is cut behind a line feed, and its lines with it
+-- a text is cut after a line feed, and its lines with it
 use Rattle.std.proofs.Common.{◌≡◌, ◌⊎◌, ℕ, ◌+◌, ◌<◌, true, false, not, eqb, List, [], ◌∷◌, ◌++◌, length, map, take, drop, suc, refl, sym, ap, ◌∙◌, inl, inr, ⊎_elim, subst, arith}
 use Rattle.std.specs.Prelude.{All}
 use Rattle.std.specs.List.{prefix_len, slice_split, onto_first}
@@ -36,7 +36,7 @@ lines_cut a b =
 pub lines_ended : (a : List ℕ) → lines (a ++ 10 ∷ []) ≡ map strip_carriage_return (slice_split is_line_feed a)
 lines_ended a = lines_cut a [] ∙ append-nil (map strip_carriage_return (slice_split is_line_feed a))
 
--- the lines of bytes that end with a line, and of those behind them
+-- the lines of bytes that end with a line, and of those after them
 pub lines_append : (a b : List ℕ) → EndsLine a → lines (a ++ b) ≡ lines a ++ lines b
 lines_append a b (inl e) = rw e refl
 lines_append a b (inr p) =
@@ -60,15 +60,15 @@ front_line text front line rest is ends are =
     let both : lines front ++ lines rest ≡ (line ∷ []) ++ lines rest = sym (ap lines is ∙ lines_append front rest ends) ∙ are in
     record { front = front; is = is; ends = inr ends; one = append_cancel_right (lines front) (line ∷ []) (lines rest) both }
 
--- what stands behind the bytes before a line feed begins with it
-line_feed_behind : (xs : List ℕ) → 0 < length (drop (prefix_len (λ b. not (eqb b 10)) xs) xs) → drop (prefix_len (λ b. not (eqb b 10)) xs) xs ≡ 10 ∷ drop 1 (drop (prefix_len (λ b. not (eqb b 10)) xs) xs)
-line_feed_behind [] h = absurd (omega arith)
-line_feed_behind (x ∷ xs) h =
+-- what stands after the bytes before a line feed begins with it
+line_feed_after : (xs : List ℕ) → 0 < length (drop (prefix_len (λ b. not (eqb b 10)) xs) xs) → drop (prefix_len (λ b. not (eqb b 10)) xs) xs ≡ 10 ∷ drop 1 (drop (prefix_len (λ b. not (eqb b 10)) xs) xs)
+line_feed_after [] h = absurd (omega arith)
+line_feed_after (x ∷ xs) h =
     let n = prefix_len (λ b. not (eqb b 10)) xs in
     let more : 1 + n ≡ suc n = omega arith in
     ⊎_elim
     (λ (e : eqb x 10 ≡ true). rw e (ap (λ (b : ℕ). b ∷ xs) (eqb-true x 10 e)))
-    (λ (e : eqb x 10 ≡ false). rw (e, more) (line_feed_behind xs (rw (e, more) at h)))
+    (λ (e : eqb x 10 ≡ false). rw (e, more) (line_feed_after xs (rw (e, more) at h)))
     (cases_Bool (eqb x 10))
 
 -- a text by its first line feed
@@ -76,7 +76,7 @@ pub text_cut : (xs : List ℕ) → 0 < length (drop (prefix_len (λ b. not (eqb 
     → xs ≡ (take (prefix_len (λ b. not (eqb b 10)) xs) xs ++ 10 ∷ []) ++ drop 1 (drop (prefix_len (λ b. not (eqb b 10)) xs) xs)
 text_cut xs h =
     let n = prefix_len (λ b. not (eqb b 10)) xs in
-    sym (take-append-drop n xs) ∙ ap (λ (ys : List ℕ). take n xs ++ ys) (line_feed_behind xs h) ∙ sym (append_assoc (take n xs) (10 ∷ []) (drop 1 (drop n xs)))
+    sym (take-append-drop n xs) ∙ ap (λ (ys : List ℕ). take n xs ++ ys) (line_feed_after xs h) ∙ sym (append_assoc (take n xs) (10 ∷ []) (drop 1 (drop n xs)))
 
 pub ends_more : (front f rest : List ℕ) → EndsLine front → (rest ≡ []) ⊎ EndsLine f → (rest ≡ []) ⊎ EndsLine (front ++ f)
 ends_more front f rest h (inl e) = inl e
@@ -92,26 +92,26 @@ more_lines : (front f line : List ℕ) → EndsLine front → lines f ≡ line �
 more_lines front f line ends one = lines_append front f ends ∙ ap (λ (ls : List (List ℕ)). lines front ++ ls) one
 
 -- one more line
-pub front_more : (text front rest line behind : List ℕ) (count : ℕ) → AreFrontLines text front rest count → 0 < length rest → (l : IsFrontLine rest line behind) → AreFrontLines text (front ++ l.front) behind (count + 1)
-front_more text front rest line behind count are some l =
+pub front_more : (text front rest line after : List ℕ) (count : ℕ) → AreFrontLines text front rest count → 0 < length rest → (l : IsFrontLine rest line after) → AreFrontLines text (front ++ l.front) after (count + 1)
+front_more text front rest line after count are some l =
     let f = l.front in
     let ends = ends_before front rest are.ends some in
-    let whole : text ≡ (front ++ f) ++ behind = are.is ∙ ap (λ (xs : List ℕ). front ++ xs) l.is ∙ sym (append_assoc front f behind) in
-    let rest_lines : lines rest ≡ lines f ++ lines behind = ap lines l.is ∙ lines_join f behind l.ends in
-    let all : lines text ≡ lines (front ++ f) ++ lines behind =
-    are.lines_are ∙ ap (λ (ls : List (List ℕ)). lines front ++ ls) rest_lines ∙ sym (append_assoc (lines front) (lines f) (lines behind)) ∙ ap (λ (ls : List (List ℕ)). ls ++ lines behind) (sym (lines_append front f ends)) in
+    let whole : text ≡ (front ++ f) ++ after = are.is ∙ ap (λ (xs : List ℕ). front ++ xs) l.is ∙ sym (append_assoc front f after) in
+    let rest_lines : lines rest ≡ lines f ++ lines after = ap lines l.is ∙ lines_join f after l.ends in
+    let all : lines text ≡ lines (front ++ f) ++ lines after =
+    are.lines_are ∙ ap (λ (ls : List (List ℕ)). lines front ++ ls) rest_lines ∙ sym (append_assoc (lines front) (lines f) (lines after)) ∙ ap (λ (ls : List (List ℕ)). ls ++ lines after) (sym (lines_append front f ends)) in
     record {
       is = whole;
-      ends = ends_more front f behind ends l.ends;
+      ends = ends_more front f after ends l.ends;
       lines_are = all;
       count_is = omega (arith, are.count_is, ap length (more_lines front f line ends l.one), length-append (lines front) (line ∷ []));
     }
 
 -- one more line that is no head
-pub plain_more : (text front rest behind : List ℕ) (count : ℕ) → ArePlainLines text front rest count → 0 < length rest → (l : IsPlainLine rest behind) → ArePlainLines text (front ++ l.front.front) behind (count + 1)
-plain_more text front rest behind count are some l =
+pub plain_more : (text front rest after : List ℕ) (count : ℕ) → ArePlainLines text front rest count → 0 < length rest → (l : IsPlainLine rest after) → ArePlainLines text (front ++ l.front.front) after (count + 1)
+plain_more text front rest after count are some l =
     let ends = ends_before front rest are.fronts.ends some in
     record {
-      fronts = front_more text front rest l.line behind count are.fronts some l.front;
+      fronts = front_more text front rest l.line after count are.fronts some l.front;
       plain = subst (All IsPlain) (sym (more_lines front l.front.front l.line ends l.front.one)) (All-push IsPlain (lines front) l.line are.plain l.plain);
     }

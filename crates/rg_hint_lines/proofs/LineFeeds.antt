@@ -5,7 +5,7 @@ use Rattle.std.proofs.lemmas.Bool.{not_from_false, not_from_true, false_from_ne_
 use Rattle.std.proofs.lemmas.List.Sums.{prefix_len_is}
 use Rattle.memchr.specs.Find.{IsFirstByte, is_byte}
 
--- it stands behind the bytes before it
+-- it stands after the bytes before it
 pub feed_found : (text : List ℕ) (k : ℕ) → IsFirstByte (is_byte 10) text (Some k) → k ≡ prefix_len (λ b. not (eqb b 10)) text
 feed_found text k h =
     sym (prefix_len_is (λ b. not (eqb b 10)) text k 0 (omega (arith, h.0.high))

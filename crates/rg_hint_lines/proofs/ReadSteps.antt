@@ -10,9 +10,9 @@ use Rattle.rg_hint_lines.specs.Text.{fields_of}
 use Rattle.rg_hint_lines.specs.Reading.{Reading, passed_over, hint_line, reading_of, with_first, then_rest, hint_lines_of}
 
 -- numbers in front of what the rest of a line gives
-abbrev pub behind : {A : Type 0} → List A → Option (List A × List (List ℕ)) → Option (List A × List (List ℕ))
-behind front None = None
-behind front (Some r) = Some (front ++ r.0, r.1)
+abbrev pub after : {A : Type 0} → List A → Option (List A × List (List ℕ)) → Option (List A × List (List ℕ))
+after front None = None
+after front (Some r) = Some (front ++ r.0, r.1)
 
 -- lines in front of what the rest of a text gives
 abbrev pub with_front : List HintLine → Result (List HintLine) Refusal → Result (List HintLine) Refusal

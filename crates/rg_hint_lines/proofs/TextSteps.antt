@@ -12,7 +12,7 @@ rest_of [] = []
 rest_of (x ∷ xs) = xs
 
 module _ (p : ℕ → Bool) where
-  -- the first part, and the parts behind it
+  -- the first part, and the parts after it
   pub split_front : (xs : List ℕ) → slice_split p xs ≡ take (prefix_len (λ b. not (p b)) xs) xs ∷ rest_of (slice_split p (drop (prefix_len (λ b. not (p b)) xs) xs))
   split_front [] = refl
   split_front (x ∷ xs) =
@@ -49,9 +49,9 @@ module _ (p : ℕ → Bool) where
   pub parts_take : (xs : List ℕ) → is_filled (take (prefix_len (λ b. not (p b)) xs) xs) ≡ true → filter is_filled (slice_split p xs) ≡ take (prefix_len (λ b. not (p b)) xs) xs ∷ filter is_filled (slice_split p (drop (prefix_len (λ b. not (p b)) xs) xs))
   parts_take xs h =
       let n = prefix_len (λ b. not (p b)) xs in
-      let behind = slice_split p (drop n xs) in
-      let rest : filter is_filled (rest_of behind) ≡ filter is_filled behind = ap (filter is_filled) (sym (split_at_separator xs)) in
-      ap (filter is_filled) (split_front xs) ∙ cond-true (is_filled (take n xs)) (take n xs ∷ filter is_filled (rest_of behind)) (filter is_filled (rest_of behind)) h
+      let after = slice_split p (drop n xs) in
+      let rest : filter is_filled (rest_of after) ≡ filter is_filled after = ap (filter is_filled) (sym (split_at_separator xs)) in
+      ap (filter is_filled) (split_front xs) ∙ cond-true (is_filled (take n xs)) (take n xs ∷ filter is_filled (rest_of after)) (filter is_filled (rest_of after)) h
       ∙ ap (λ (t : List (List ℕ)). take n xs ∷ t) rest
 
 -- what does not begin with a separator begins with a filled part
@@ -69,14 +69,14 @@ pub filled_some : (xs : List ℕ) → is_filled xs ≡ true → 0 < length xs
 filled_some [] e = cc
 filled_some (x ∷ xs) e = omega arith
 
--- no separator stands behind those that stand in front
-pub none_behind : (p : ℕ → Bool) (xs : List ℕ) → prefix_len p (drop (prefix_len p xs) xs) ≡ 0
-none_behind p [] = refl
-none_behind p (x ∷ xs) =
+-- no separator stands after those that stand in front
+pub none_after : (p : ℕ → Bool) (xs : List ℕ) → prefix_len p (drop (prefix_len p xs) xs) ≡ 0
+none_after p [] = refl
+none_after p (x ∷ xs) =
     let n = prefix_len p xs in
     let more : 1 + n ≡ suc n = omega arith in
     ⊎_elim
-    (λ (e : p x ≡ true). rw (e, more) (none_behind p xs))
+    (λ (e : p x ≡ true). rw (e, more) (none_after p xs))
     (λ (e : p x ≡ false). rw e (rw e refl))
     (cases_Bool (p x))
 
@@ -88,15 +88,15 @@ pub some_left : (xs : List ℕ) (b : Bool) → b ≡ eqb (length xs) 0 → b ≡
 some_left xs b e f =
     ⊎_elim (λ (z : length xs ≡ 0). absurd (eqb-false (length xs) 0 (sym e ∙ f) z)) (λ (z : length xs ≡ 0 → ⊥). omega (arith, z)) (cases_eq (length xs) 0)
 
--- a separator stands behind the first part
-pub separator_behind : (p : ℕ → Bool) (xs : List ℕ) → 0 < length (drop (prefix_len (λ b. not (p b)) xs) xs) → slice_split p (drop (prefix_len (λ b. not (p b)) xs) xs) ≡ [] ∷ slice_split p (drop 1 (drop (prefix_len (λ b. not (p b)) xs) xs))
-separator_behind p [] h = absurd (omega arith)
-separator_behind p (x ∷ xs) h =
+-- a separator stands after the first part
+pub separator_after : (p : ℕ → Bool) (xs : List ℕ) → 0 < length (drop (prefix_len (λ b. not (p b)) xs) xs) → slice_split p (drop (prefix_len (λ b. not (p b)) xs) xs) ≡ [] ∷ slice_split p (drop 1 (drop (prefix_len (λ b. not (p b)) xs) xs))
+separator_after p [] h = absurd (omega arith)
+separator_after p (x ∷ xs) h =
     let n = prefix_len (λ b. not (p b)) xs in
     let more : 1 + n ≡ suc n = omega arith in
     ⊎_elim
     (λ (e : p x ≡ true). rw e (rw e refl))
-    (λ (e : p x ≡ false). rw (e, more) (separator_behind p xs (rw (e, more) at h)))
+    (λ (e : p x ≡ false). rw (e, more) (separator_after p xs (rw (e, more) at h)))
     (cases_Bool (p x))
 
 abbrev is_line_feed : ℕ → Bool
@@ -110,19 +110,19 @@ lines_last x parts h e =
 lines_next : (x y : List ℕ) (parts more : List (List ℕ)) → parts ≡ y ∷ more → lines_of_parts (x ∷ parts) ≡ strip_carriage_return x ∷ lines_of_parts parts
 lines_next x y parts more e = rw e refl
 
--- the last line, behind which no line feed stands
+-- the last line, after which no line feed stands
 pub last_line : (text : List ℕ) → 0 < length (take (prefix_len (λ b. not (eqb b 10)) text) text) → drop (prefix_len (λ b. not (eqb b 10)) text) text ≡ [] → lines text ≡ take (prefix_len (λ b. not (eqb b 10)) text) text ∷ []
 last_line text h e =
     let n = prefix_len (λ b. not (eqb b 10)) text in
     ap lines_of_parts (split_front is_line_feed text)
     ∙ lines_last (take n text) (rest_of (slice_split is_line_feed (drop n text))) h (ap (λ (ys : List ℕ). rest_of (slice_split is_line_feed ys)) e)
 
--- a line, and the lines behind its line feed
+-- a line, and the lines after its line feed
 pub next_line : (text : List ℕ) → 0 < length (drop (prefix_len (λ b. not (eqb b 10)) text) text) → lines text ≡ strip_carriage_return (take (prefix_len (λ b. not (eqb b 10)) text) text) ∷ lines (drop 1 (drop (prefix_len (λ b. not (eqb b 10)) text) text))
 next_line text h =
     let n = prefix_len (λ b. not (eqb b 10)) text in
-    let behind = drop 1 (drop n text) in
-    let m = prefix_len (λ b. not (eqb b 10)) behind in
+    let after = drop 1 (drop n text) in
+    let m = prefix_len (λ b. not (eqb b 10)) after in
     ap lines_of_parts (split_front is_line_feed text)
-    ∙ ap (λ (parts : List (List ℕ)). lines_of_parts (take n text ∷ rest_of parts)) (separator_behind is_line_feed text h)
-    ∙ lines_next (take n text) (take m behind) (slice_split is_line_feed behind) (rest_of (slice_split is_line_feed (drop m behind))) (split_front is_line_feed behind)
+    ∙ ap (λ (parts : List (List ℕ)). lines_of_parts (take n text ∷ rest_of parts)) (separator_after is_line_feed text h)
+    ∙ lines_next (take n text) (take m after) (slice_split is_line_feed after) (rest_of (slice_split is_line_feed (drop m after))) (split_front is_line_feed after)

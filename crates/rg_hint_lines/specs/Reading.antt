@@ -25,17 +25,17 @@ abbrev pub is_zero : ℤ → Bool
 is_zero (pos n) = n == 0
 is_zero (negsuc n) = false
 
--- the numbers before the first 0, and the fields behind it, where all fields before it are numbers
+-- the numbers before the first 0, and the fields after it, where all fields before it are numbers
 abbrev pub up_to_zero : {A : Type 0} → (List ℕ → Option A) → (A → Bool) → List (List ℕ) → Option (List A × List (List ℕ))
 up_to_zero number zero [] = None
 up_to_zero number zero (field ∷ fields) =
     number field >>= λ x. if zero x then Some ([], fields) else (up_to_zero number zero fields >>= λ r. Some (x ∷ r.0, r.1))
 
--- the literals before the first 0, and the fields behind it
+-- the literals before the first 0, and the fields after it
 abbrev pub literals_of : List (List ℕ) → Option (List ℤ × List (List ℕ))
 literals_of fields = up_to_zero literal_in is_zero fields
 
--- the hints before the first 0, and the fields behind it
+-- the hints before the first 0, and the fields after it
 abbrev pub hints_of : List (List ℕ) → Option (List ℕ × List (List ℕ))
 hints_of fields = up_to_zero number_in (λ n. n == 0) fields
 
@@ -49,7 +49,7 @@ abbrev pub is_passed_over : List (List ℕ) → Bool
 is_passed_over [] = true
 is_passed_over (first ∷ rest) = (slice_index first 0 == 99) || (is_removal rest && not (bytes_eq first (codes "section")))
 
--- nothing stands behind the last 0
+-- nothing stands after the last 0
 abbrev pub ended : Reading → List (List ℕ) → Option Reading
 ended reading [] = Some reading
 ended reading (field ∷ fields) = None

@@ -28,12 +28,12 @@ abbrev pub is_head : List (List ℕ) → Bool
 is_head [] = false
 is_head (first ∷ rest) = bytes_eq first (codes "section")
 
--- one more line of a file, with its number: a head of the lines behind it, or a line behind the head before
+-- one more line of a file, with its number: a head of the lines after it, or a line after the head before
 abbrev pub with_line : Bool → List ℕ → ℕ → List (List ℕ) × List Headed → List (List ℕ) × List Headed
 with_line true line number rest = ([], record { head = line; number = number; lines = rest.0 } ∷ rest.1)
 with_line false line number rest = (line ∷ rest.0, rest.1)
 
--- the lines before the first head, and each head with the lines behind it; the first line has this number
+-- the lines before the first head, and each head with the lines after it; the first line has this number
 abbrev pub headed_lines : List (List ℕ) → ℕ → List (List ℕ) × List Headed
 headed_lines [] number = ([], [])
 headed_lines (line ∷ rest) number = with_line (is_head (fields_of line)) line number (headed_lines rest (number + 1))
@@ -42,7 +42,7 @@ headed_lines (line ∷ rest) number = with_line (is_head (fields_of line)) line 
 abbrev pub whole_number : List ℕ → Option ℕ
 whole_number field = if is_filled field && all_ascii_digits field then Some (digits_value 10 field) else None
 
--- the number of a head: one field behind its first
+-- the number of a head: one field after its first
 abbrev pub head_number : List (List ℕ) → Option ℕ
 head_number (first ∷ number ∷ []) = whole_number number
 head_number _ = None
@@ -58,7 +58,7 @@ abbrev pub with_section : SectionText → Result (List SectionText) Refusal → 
 with_section section (Ok sections) = Ok (section ∷ sections)
 with_section section (Err r) = Err r
 
--- the section of a head whose number names a condition, before those of the heads behind it, which its condition decides; or its fault
+-- the section of a head whose number names a condition, before those of the heads after it, which its condition decides; or its fault
 abbrev pub then_sections : Result ℕ RefusalNumber → Headed → (ℕ → Result (List SectionText) Refusal) → Result (List SectionText) Refusal
 then_sections (Ok k) h rest = with_section (record { condition = k; first_line = h.number + 1; lines = h.lines }) (rest k)
 then_sections (Err fault) h rest = Err (refused_at fault Proofs h.number)
@@ -70,11 +70,11 @@ sections_under count last (h ∷ heads) =
     then_sections (named_condition count last (head_number (fields_of h.head))) h (λ k. sections_under count k heads)
 
 -- lines before the first head, the first of which has this number: those that are passed over decide nothing, and any other is at fault
-abbrev pub behind_front : ℕ → List (List ℕ) → Result (List SectionText) Refusal → Result (List SectionText) Refusal
-behind_front number [] sections = sections
-behind_front number (line ∷ rest) sections =
-    if is_passed_over (fields_of line) then behind_front (number + 1) rest sections else Err (refused_at Unreadable Proofs number)
+abbrev pub after_front : ℕ → List (List ℕ) → Result (List SectionText) Refusal → Result (List SectionText) Refusal
+after_front number [] sections = sections
+after_front number (line ∷ rest) sections =
+    if is_passed_over (fields_of line) then after_front (number + 1) rest sections else Err (refused_at Unreadable Proofs number)
 
 -- the sections of a proofs file for so many conditions; or the first line at fault
 abbrev pub sections_of : ℕ → List ℕ → Result (List SectionText) Refusal
-sections_of count bytes = let parts = headed_lines (lines bytes) 1 in behind_front 1 parts.0 (sections_under count 0 parts.1)
+sections_of count bytes = let parts = headed_lines (lines bytes) 1 in after_front 1 parts.0 (sections_under count 0 parts.1)

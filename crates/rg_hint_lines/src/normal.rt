@@ -21,7 +21,7 @@ fn push_number<I: Integer>(text: &mut String, number: I) -> Result<(), AllocErro
     Ok(())
 }
 
-/// Adds numbers, with a space behind each.
+/// Adds numbers, with a space after each.
 fn push_numbers<I: Integer>(text: &mut String, numbers: &[I]) -> Result<(), AllocError>
     ensures { OnOk result (string_bytes text.new ≡ string_bytes text.old ++ flat_map (λ x. I.text x ++ codes " ") numbers.now) }
 {
@@ -50,7 +50,7 @@ impl Lines {
     ghost use Rattle.rg_words.specs.Refusals.{no_memory};
     ghost use Rattle.rg_hint_lines.specs.Normal.{section_text};
 
-    /// The lines in their normal form: one space between fields, a line feed behind each line, numbers
+    /// The lines in their normal form: one space between fields, a line feed after each line, numbers
     /// without leading zeros.
     pub fn text(&self, alloc: Global) -> Result<String, Refusal>
         ensures { MatchResult result (λ text. string_bytes text ≡ section_text self.now) (λ r. r ≡ no_memory) }

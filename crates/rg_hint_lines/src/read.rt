@@ -13,7 +13,7 @@ use rg_words::{Refusal, RefusalNumber};
 use std::alloc::{AllocError, Global};
 
 /// Reads the literals before the first 0 of a line into the list, in place of what it holds, and gives what
-/// stands behind that 0. None where a field before it is no literal, or no 0 stands there.
+/// stands after that 0. None where a field before it is no literal, or no 0 stands there.
 fn read_literals<'a>(
     line: &'a [u8],
     literals: &mut Vec<i32>,
@@ -25,8 +25,8 @@ fn read_literals<'a>(
 {
     literals.clear();
     let mut rest = line;
-    while let Some((literal, behind)) = next_literal(rest) {
-        rest = behind;
+    while let Some((literal, after)) = next_literal(rest) {
+        rest = after;
         if literal == 0 {
             return Ok(Some(rest));
         }
@@ -36,7 +36,7 @@ fn read_literals<'a>(
 }
 
 /// Reads the hints before the first 0 of a line into the list, in place of what it holds, and gives what
-/// stands behind that 0. None where a field before it is no number, or no 0 stands there.
+/// stands after that 0. None where a field before it is no number, or no 0 stands there.
 fn read_hints<'a>(line: &'a [u8], hints: &mut Vec<u32>) -> Result<Option<&'a [u8]>, AllocError>
     ensures { IfOk result (λ rest. MatchOption rest
         (hints_of (fields_of line.now) ≡ None)
@@ -44,8 +44,8 @@ fn read_hints<'a>(line: &'a [u8], hints: &mut Vec<u32>) -> Result<Option<&'a [u8
 {
     hints.clear();
     let mut rest = line;
-    while let Some((hint, behind)) = next_number(rest) {
-        rest = behind;
+    while let Some((hint, after)) = next_number(rest) {
+        rest = after;
         if hint == 0 {
             return Ok(Some(rest));
         }
@@ -116,7 +116,7 @@ impl Lines {
     /// clauses. The text has no heads of sections.
     ///
     /// Refused with 41 at the first line that has no known form, and with 43 at the first whose number is not
-    /// greater than `given` and than those before it; the lesser line is told, and at one line 41.
+    /// greater than `given` and than those before it; the lesser line is reported, and at one line 41.
     pub fn read(
         alloc: Global,
         bytes: &[u8],
@@ -138,7 +138,7 @@ impl Lines {
         let mut number = first_line;
         let mut last = given;
         while !rest.is_empty() {
-            let (line, behind) = split_line(rest);
+            let (line, after) = split_line(rest);
             match read_line(line, &mut literals, &mut hints)? {
                 LineForm::PassedOver => {}
                 LineForm::Unreadable => return Err(refusal_at(RefusalNumber::Unreadable, number)),
@@ -154,7 +154,7 @@ impl Lines {
                     lines = lines.with_line(head, &literals, &hints)?;
                 }
             }
-            rest = behind;
+            rest = after;
             number += 1;
         }
         Ok(lines)

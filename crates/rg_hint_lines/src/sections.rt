@@ -5,7 +5,7 @@ ghost use Rattle.rg_words.specs.Refusals.{no_memory};
 ghost use Rattle.rg_hint_lines.specs.Text.{fields_of};
 ghost use Rattle.rg_hint_lines.specs.Sections.{is_head, whole_number, head_number, named_condition, sections_of};
 ghost use Rattle.rg_hint_lines.specs.Located.{text_of, AreRising};
-ghost use Rattle.rg_hint_lines.specs.Inner.SectionForms.{IsUpTo, IsPlainLine, BeginsWithHead, HasNoS, ArePlainLines, AreLinesBeforeHead, IsFront, IsFaultyFront, AreNamed, sections_behind, HaveRoom};
+ghost use Rattle.rg_hint_lines.specs.Inner.SectionForms.{IsUpTo, IsPlainLine, BeginsWithHead, HasNoS, ArePlainLines, AreLinesBeforeHead, IsFront, IsFaultyFront, AreNamed, sections_after, HaveRoom};
 
 use crate::refusal::refusal_at;
 use crate::text::{
@@ -97,8 +97,8 @@ fn condition_of(head: &[u8], count: u64, last: u64) -> Result<u64, RefusalNumber
     Ok(number as u64)
 }
 
-/// The text behind its first line, where it has one that is no head.
-fn behind_plain_line(text: &[u8]) -> Option<&[u8]>
+/// The text after its first line, where it has one that is no head.
+fn after_plain_line(text: &[u8]) -> Option<&[u8]>
     ensures line { MatchOption result (BeginsWithHead text.now) (λ rest. IsPlainLine text.now rest.now) }
     ensures shorter { IfSome result (λ rest. length rest.now < length text.now) }
 {
@@ -124,8 +124,8 @@ fn before_first_s(text: &[u8]) -> &[u8]
     }
 }
 
-/// The text behind those of its first lines that end before the first `s`, so that none of them is a head; and how many they are.
-fn behind_lines_without_s(text: &[u8]) -> (&[u8], u64)
+/// The text after those of its first lines that end before the first `s`, so that none of them is a head; and how many they are.
+fn after_lines_without_s(text: &[u8]) -> (&[u8], u64)
     ensures lines { (front : List ℕ) × ArePlainLines text.now front result.0.now result.1 }
     ensures room { result.1 + length result.0.now ≤ length text.now }
 {
@@ -139,9 +139,9 @@ fn lines_before_head(text: &[u8]) -> (&[u8], u64)
     ensures room { result.1 ≤ length result.0.now }
     ensures bound { length result.0.now ≤ length text.now }
 {
-    let (mut rest, mut count) = behind_lines_without_s(text);
-    while let Some(behind) = behind_plain_line(rest) {
-        let (others, more) = behind_lines_without_s(behind);
+    let (mut rest, mut count) = after_lines_without_s(text);
+    while let Some(after) = after_plain_line(rest) {
+        let (others, more) = after_lines_without_s(after);
         rest = others;
         count += 1 + more;
     }
@@ -156,18 +156,18 @@ fn check_front(front: &[u8]) -> Result<(), Refusal>
     let mut rest = front;
     let mut number = 1;
     while !rest.is_empty() {
-        let (line, behind) = split_line(rest);
+        let (line, after) = split_line(rest);
         if !is_passed_over(line) {
             return Err(refusal_at(RefusalNumber::Unreadable, number));
         }
-        rest = behind;
+        rest = after;
         number += 1;
     }
     Ok(())
 }
 
 /// The sections of a text that begins with a head, over so many conditions.
-fn sections_behind<'a>(
+fn sections_after<'a>(
     alloc: Global,
     text: &'a [u8],
     first_line: u64,
@@ -176,8 +176,8 @@ fn sections_behind<'a>(
     requires begins { BeginsWithHead text.now }
     requires room { first_line + length text.now < 2 ^ 64 }
     ensures sections { MatchResult result
-        (λ found. sections_behind count first_line text.now ≡ Ok (map text_of found.items))
-        (λ r. (r ≡ no_memory) ⊎ (sections_behind count first_line text.now ≡ Err r)) }
+        (λ found. sections_after count first_line text.now ≡ Ok (map text_of found.items))
+        (λ r. (r ≡ no_memory) ⊎ (sections_after count first_line text.now ≡ Err r)) }
     ensures rising { IfOk result (λ found. AreRising found.items) }
     ensures named { IfOk result (λ found. AreNamed found.items) }
     ensures fits { IfOk result (λ found. HaveRoom (first_line + length text.now) found.items) }
@@ -187,12 +187,12 @@ fn sections_behind<'a>(
     let mut number = first_line;
     let mut last = 0;
     while !rest.is_empty() {
-        let (head, behind) = split_line(rest);
+        let (head, after) = split_line(rest);
         let condition = match condition_of(head, count, last) {
             Ok(condition) => condition,
             Err(fault) => return Err(refusal_at(fault, number)),
         };
-        let (bytes, lines) = lines_before_head(behind);
+        let (bytes, lines) = lines_before_head(after);
         sections.push(SectionBytes {
             condition,
             first_line: number + 1,
@@ -200,7 +200,7 @@ fn sections_behind<'a>(
         })?;
         last = condition;
         number = number + 1 + lines;
-        rest = skip(behind, bytes.len());
+        rest = skip(after, bytes.len());
     }
     Ok(sections)
 }
@@ -227,5 +227,5 @@ pub fn read_sections<'a>(
     if let Err(refusal) = check_front(front) {
         return Err(refusal);
     }
-    sections_behind(alloc, skip(proofs, front.len()), lines + 1, count)
+    sections_after(alloc, skip(proofs, front.len()), lines + 1, count)
 }

@@ -10,7 +10,7 @@ ghost use Rattle.rg_hint_lines.specs.Lines.{IsHintLiteral};
 ghost use Rattle.rg_hint_lines.specs.Text.{is_blank, fields_of, number_in, positive, literal_in};
 ghost use Rattle.rg_hint_lines.specs.Reading.{is_passed_over};
 ghost use Rattle.rg_hint_lines.specs.LineEnds.{EndsLine, IsFrontLine};
-ghost use Rattle.rg_hint_lines.specs.Inner.Fronts.{is_line_feed, front_field, behind_field, IsUpToMost, first_read};
+ghost use Rattle.rg_hint_lines.specs.Inner.Fronts.{is_line_feed, front_field, after_field, IsUpToMost, first_read};
 
 use memchr::{memchr, memrchr};
 use rg_words::limits::MOST_HINT_NUMBER;
@@ -34,7 +34,7 @@ fn blank_len(line: &[u8]) -> usize
     line.iter().take_while(|b| is_blank(**b)).count()
 }
 
-/// The bytes behind the spaces and tabs that stand first. Mostly one or none stands there.
+/// The bytes after the spaces and tabs that stand first. Mostly one or none stands there.
 fn skip_blanks(line: &[u8]) -> &[u8]
     ensures { result.now ≡ drop (prefix_len is_blank line.now) line.now }
 {
@@ -64,7 +64,7 @@ fn line_len(text: &[u8]) -> usize
     }
 }
 
-/// The bytes behind so many.
+/// The bytes after so many.
 pub(crate) fn skip(bytes: &[u8], count: usize) -> &[u8]
     requires { count ≤ length bytes.now }
     ensures { result.now ≡ drop count bytes.now }
@@ -82,7 +82,7 @@ fn strip_carriage_return(line: &[u8]) -> &[u8]
     }
 }
 
-/// The line at the front of a text, without its end, and the text behind it. A line ends by a line feed,
+/// The line at the front of a text, without its end, and the text after it. A line ends by a line feed,
 /// and one carriage return directly before it is dropped; the last line feed may be missing.
 pub fn split_line(text: &[u8]) -> (&[u8], &[u8])
     requires { 0 < length text.now }
@@ -129,14 +129,14 @@ pub(crate) fn line_feeds(text: &[u8]) -> u64
     let mut rest = text;
     let mut count = 0;
     while !rest.is_empty() {
-        let (piece, behind) = rest.split_at(rest.len().min(PIECE));
+        let (piece, after) = rest.split_at(rest.len().min(PIECE));
         count += u64::from(line_feeds_in_piece(piece));
-        rest = behind;
+        rest = after;
     }
     count
 }
 
-/// The first field of a line, and what stands behind it, where the line has one. Fields stand between
+/// The first field of a line, and what stands after it, where the line has one. Fields stand between
 /// spaces and tabs.
 pub fn next_field(line: &[u8]) -> Option<(&[u8], &[u8])>
     ensures fields { MatchOption result (fields_of line.now ≡ [])
@@ -199,11 +199,11 @@ fn begins_filled(bytes: &[u8]) -> bool
 }
 
 /// The number that the bytes before the first space or tab write, where it is at most 2,147,483,647, and what
-/// stands behind them.
+/// stands after them.
 fn front_number(bytes: &[u8]) -> Option<(u32, &[u8])>
     ensures value { MatchOption result
         (number_in (front_field bytes.now) ≡ None)
-        (λ r. (number_in (front_field bytes.now) ≡ Some r.0) × (r.1.now ≡ behind_field bytes.now)) }
+        (λ r. (number_in (front_field bytes.now) ≡ Some r.0) × (r.1.now ≡ after_field bytes.now)) }
     ensures bound { IfSome result (λ r. r.0 ≤ MOST_HINT_NUMBER) }
     ensures shorter { IfSome result (λ r. length r.1.now < length bytes.now) }
 {
@@ -275,11 +275,11 @@ fn signed_literal(negative: bool, number: u32) -> i32
     if negative { -literal } else { literal }
 }
 
-/// The literal that the bytes before the first space or tab write, and what stands behind them.
+/// The literal that the bytes before the first space or tab write, and what stands after them.
 fn front_literal(bytes: &[u8]) -> Option<(i32, &[u8])>
     ensures value { MatchOption result
         (literal_in (front_field bytes.now) ≡ None)
-        (λ r. (literal_in (front_field bytes.now) ≡ Some r.0) × (r.1.now ≡ behind_field bytes.now)) }
+        (λ r. (literal_in (front_field bytes.now) ≡ Some r.0) × (r.1.now ≡ after_field bytes.now)) }
     ensures bound { IfSome result (λ r. r.0 ≢ pos 0 → IsHintLiteral r.0) }
     ensures shorter { IfSome result (λ r. length r.1.now < length bytes.now) }
 {
@@ -293,7 +293,7 @@ fn front_literal(bytes: &[u8]) -> Option<(i32, &[u8])>
     Some((signed_literal(sign == 1, number), rest))
 }
 
-/// The number that the first field of a line writes, and what stands behind it. None where there is no field, or
+/// The number that the first field of a line writes, and what stands after it. None where there is no field, or
 /// the first is no number.
 pub(crate) fn next_number(line: &[u8]) -> Option<(u32, &[u8])>
     ensures value { MatchOption result
@@ -304,7 +304,7 @@ pub(crate) fn next_number(line: &[u8]) -> Option<(u32, &[u8])>
     front_number(skip_blanks(line))
 }
 
-/// The literal that the first field of a line writes, and what stands behind it. None where there is no field, or
+/// The literal that the first field of a line writes, and what stands after it. None where there is no field, or
 /// the first is no literal.
 pub(crate) fn next_literal(line: &[u8]) -> Option<(i32, &[u8])>
     ensures value { MatchOption result

@@ -9,19 +9,19 @@ use Rattle.rg_hint_lines.specs.declared.sections.SectionBytes.{SectionBytes}
 use Rattle.rg_hints.specs.Proved.{section_for}
 use Rattle.rg_hints.specs.Placed.{text_of, HasRoom, AreFrom}
 
-found_behind : (s : SectionBytes) (rest : List SectionBytes) (k : ℕ) → s.condition ≢ k → section_for (map text_of (s ∷ rest)) k ≡ section_for (map text_of rest) k
-found_behind s rest k n = cond-false (eqb s.condition k) (Some (text_of s)) (section_for (map text_of rest) k) (ne_eqb s.condition k n)
+found_after : (s : SectionBytes) (rest : List SectionBytes) (k : ℕ) → s.condition ≢ k → section_for (map text_of (s ∷ rest)) k ≡ section_for (map text_of rest) k
+found_after s rest k n = cond-false (eqb s.condition k) (Some (text_of s)) (section_for (map text_of rest) k) (ne_eqb s.condition k n)
 
 -- sections of greater conditions
 found_none : (sections : List SectionBytes) (k : ℕ) → All (λ (s : SectionBytes). k < s.condition) sections → section_for (map text_of sections) k ≡ None
 found_none [] k all = refl
 found_none (s ∷ rest) k all =
     let above = All-head (λ (t : SectionBytes). k < t.condition) s rest all in
-    found_behind s rest k (λ e. omega (arith, e, above)) ∙ found_none rest k (All-tail (λ (t : SectionBytes). k < t.condition) s rest all)
+    found_after s rest k (λ e. omega (arith, e, above)) ∙ found_none rest k (All-tail (λ (t : SectionBytes). k < t.condition) s rest all)
 
--- the sections behind the first
-from_behind : (s : SectionBytes) (rest : List SectionBytes) (k : ℕ) → AreFrom k (s ∷ rest) → s.condition ≡ k → AreFrom (k + 1) rest
-from_behind s rest k a e = record {
+-- the sections after the first
+from_after : (s : SectionBytes) (rest : List SectionBytes) (k : ℕ) → AreFrom k (s ∷ rest) → s.condition ≡ k → AreFrom (k + 1) rest
+from_after s rest k a e = record {
   rising = λ i j d less small. a.rising (suc i) (suc j) d (omega (arith, less)) (omega (arith, small));
   from = λ j d small. omega (arith, e, a.rising 0 (suc j) d (omega arith) (omega (arith, small)));
   room = All-tail HasRoom s rest a.room;
@@ -47,8 +47,8 @@ module _ (xs : List SectionBytes) (i : ℕ) (d : SectionBytes) (k : ℕ) (small 
   at_place = let more : suc i ≡ i + 1 = omega arith in drop-cons xs i d small ∙ ap (λ (n : ℕ). get_or xs i d ∷ drop n xs) more
 
   -- the section at a place is taken, or is of a later condition
-  pub taken_behind : (get_or xs i d).condition ≡ k → AreFrom (k + 1) (drop (i + 1) xs)
-  taken_behind e = from_behind (get_or xs i d) (drop (i + 1) xs) k (subst (AreFrom k) at_place a) e
+  pub taken_after : (get_or xs i d).condition ≡ k → AreFrom (k + 1) (drop (i + 1) xs)
+  taken_after e = from_after (get_or xs i d) (drop (i + 1) xs) k (subst (AreFrom k) at_place a) e
 
   pub later_from : (get_or xs i d).condition ≢ k → AreFrom (k + 1) (drop i xs)
   later_from n = subst (AreFrom (k + 1)) (sym at_place) (from_above (get_or xs i d) (drop (i + 1) xs) k (subst (AreFrom k) at_place a) n)

@@ -97,7 +97,7 @@ pub fn prove_condition<C: Checker>(
     close(checker, alloc, &clauses, number, section)
 }
 
-/// The section of the condition with this number, if it has one, and the place of the first section behind it. From the
+/// The section of the condition with this number, if it has one, and the place of the first section after it. From the
 /// place `from` on the sections are of this condition and later ones.
 fn take_section<'a>(
     sections: &[SectionBytes<'a>],
@@ -107,7 +107,7 @@ fn take_section<'a>(
     requires { AreFrom number (drop from sections.now) }
     ensures found { option_map text_of result.0 ≡ section_for (map text_of (drop from sections.now)) number }
     ensures room { IfSome result.0 HasRoom }
-    ensures behind { AreFrom (number + 1) (drop result.1 sections.now) }
+    ensures after { AreFrom (number + 1) (drop result.1 sections.now) }
     ensures same { (k : ℕ) → number < k
         → section_for (map text_of (drop from sections.now)) k ≡ section_for (map text_of (drop result.1 sections.now)) k }
 {
@@ -138,9 +138,9 @@ pub fn place_sections<'a>(
     let mut placed = Vec::with_capacity(alloc, count)?;
     let mut place = 0;
     for index in 0..count {
-        let (section, behind) = take_section(sections, place, index as u64 + 1);
+        let (section, after) = take_section(sections, place, index as u64 + 1);
         placed.push(section)?;
-        place = behind;
+        place = after;
     }
     Ok(placed)
 }
@@ -161,12 +161,12 @@ fn prove_each(
     let mut place = 0;
     let mut number = 1;
     while let [condition, others @ ..] = left {
-        let (section, behind) = take_section(sections, place, number);
+        let (section, after) = take_section(sections, place, number);
         if let Err(refusal) = prove_condition(&OneThread, alloc, condition, number, section) {
             return Err(refusal);
         }
         left = others;
-        place = behind;
+        place = after;
         number += 1;
     }
     Ok(())
@@ -227,7 +227,7 @@ pub trait Prover {
     // What has to hold of it where it is asked: nothing, or that it may be shared by threads.
     ghost can_prove: { Self → Type 0 } = { λ _. Unit {0} };
 
-    /// Whether a proofs file proves these conditions, which count from 1, as `prove` tells it.
+    /// Whether a proofs file proves these conditions, which count from 1, as `prove` reports it.
     fn prove(&self, alloc: Global, conditions: &[Condition], proofs: &[u8]) -> Result<(), Refusal>
         requires { can_prove self.now }
         ensures proved { OnOk result (AreProved (map condition_tree conditions.now) proofs.now) }

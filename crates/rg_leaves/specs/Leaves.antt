@@ -51,7 +51,7 @@ group_by words (Some name) = group_at words (index_of words name)
 unfoldable pub group_of : List Word → Term → Term → Group
 group_of words a b = group_by words (option_or (first_name a) (first_name b))
 
--- what is asked of a group after its first operand: a missing width is told once
+-- what is asked of a group after its first operand: a missing width is reported once
 abbrev pub after_first : Group → Group
 after_first (Width w) = Width w
 after_first Unasked = Unasked

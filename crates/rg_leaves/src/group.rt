@@ -22,7 +22,7 @@ pub enum Group {
 }
 
 impl Group {
-    /// What is asked behind the first operand: that no leaf is a word is told once.
+    /// What is asked after the first operand: that no leaf is a word is reported once.
     pub fn after_first(self) -> Group
         ensures exact { result ≡ after_first self }
         ensures width { width_of result ≡ width_of self }

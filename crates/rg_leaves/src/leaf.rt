@@ -51,7 +51,7 @@ pub fn number(digits: &[u8]) -> Option<u64>
     Some(number)
 }
 
-/// The same below 2 to the power of a width.
+/// The number of these digits, where it is below 2 to the power of a width.
 pub fn number_below(digits: &[u8], width: u32) -> Option<u64>
     requires { width ≤ MOST_WIDTH }
     ensures { SomeIff result (number_of digits.now < 2 ^ width) (number_of digits.now) }

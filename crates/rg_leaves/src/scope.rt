@@ -28,7 +28,7 @@ pub struct Scope<'a> {
 }
 
 impl Scope<'_> {
-    /// The same for formulas that speak of two states.
+    /// This scope, for formulas that speak of two states.
     pub fn of_two_states(&self) -> Self
         ensures { result ≡ record self.now { one_state = false } }
     {

@@ -10,7 +10,7 @@ use Rattle.rg_machine.specs.declared.event.Event.TheVariants.{Part, Environment}
 use Rattle.rg_machine.specs.Machine.{Configuration, IsStepOf, CanStep, IsAtEnd, block_of}
 use Rattle.rg_machine.specs.Replay.{Happening, by_part, by_environment, happening, EventFits, EventsFit, Leads, Replays}
 
--- the words from a place on agree where the word there does, and those behind it
+-- the words from a place on agree where the word there does, and those after it
 pub agree_at : (words : List Word) (s t : State) (k : ℕ) → k < length words → k < length s → k < length t → AgreeOnFixed (drop k words) (drop k s) (drop k t) ↔ (SameIf (slice_index_or (fixed_of words) k false) (slice_index s k) (slice_index t k) × AgreeOnFixed (drop (suc k) words) (drop (suc k) s) (drop (suc k) t))
 unfolding AgreeOnFixed
 agree_at (w ∷ ws) (x ∷ s) (y ∷ t) zero a b c = ((λ h. h), (λ h. h))

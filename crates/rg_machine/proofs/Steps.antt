@@ -6,7 +6,7 @@ use Rattle.rg_words.specs.Layout.{Word, widths_of}
 use Rattle.rg_words.specs.States.{IsState}
 use Rattle.rg_tree.specs.Traces.{State, Step}
 use Rattle.rg_tree.proofs.Steps.{set_values}
-use Rattle.rg_code.specs.Operations.{left_by, told_by}
+use Rattle.rg_code.specs.Operations.{left_by, reported_by}
 use Rattle.rg_code.specs.Code.{StoreTree, BlockTree, do_block, await_block, test_block, stored, Makes_step, PlacesGo, zeros}
 use Rattle.rg_code.specs.Legal.{IsBelow, AreLegalStores, IsLegalBlock, AreLegalBlocks, EndsOnce, AreLegalParts}
 use Rattle.rg_code.specs.declared.block.Block.{Block}
@@ -99,8 +99,8 @@ stores_done words (a ∷ act) s h st =
 pub do_can : (words : List Word) (n row next : ℕ) (act : List StoreTree) (s : State) → IsLegalBlock words n (do_block row next act) → IsState words s → CanLead (Some (do_block row next act)) s
 do_can words n row next act s h st = let r = stores_done words act s h.1 st in (r.0, next, (r.1, refl))
 
-pub await_can : (words : List Word) (n row next : ℕ) (b : List _) (act : List StoreTree) (s : State) → IsLegalBlock words n (await_block row next b act) → IsState words s → told_by b s ≡ Some true → CanLead (Some (await_block row next b act)) s
-await_can words n row next b act s h st told = let r = stores_done words act s h.2 st in (r.0, next, (told, r.1, refl))
+pub await_can : (words : List Word) (n row next : ℕ) (b : List _) (act : List StoreTree) (s : State) → IsLegalBlock words n (await_block row next b act) → IsState words s → reported_by b s ≡ Some true → CanLead (Some (await_block row next b act)) s
+await_can words n row next b act s h st reported = let r = stores_done words act s h.2 st in (r.0, next, (reported, r.1, refl))
 
 pub test_can : (words : List Word) (n row yes_place no_place : ℕ) (b : List _) (s : State) → IsLegalBlock words n (test_block row yes_place no_place b) → IsState words s → CanLead (Some (test_block row yes_place no_place b)) s
 test_can words n row yes_place no_place b s h st =

@@ -10,7 +10,7 @@ ghost use Rattle.rg_code.specs.CodeTrees.{code_blocks};
 ghost use Rattle.rg_machine.specs.Kept.{AreAtBlocks, block_room, codes_room};
 ghost use Rattle.rg_machine.specs.Machine.{CanLead};
 
-use crate::stores::{is_told, store_all};
+use crate::stores::{is_reported, store_all};
 use rg_code::block::Block;
 use rg_code::code::Code;
 use rg_words::{Layout, State};
@@ -38,12 +38,12 @@ pub(crate) fn can_lead(stack: &mut Vec<u64>, block: &Block, layout: &Layout, sta
     match block {
         Block::Do(_, _, _) => true,
         Block::Test(_, _, _, _) => true,
-        Block::Await(_, _, guard, _) => is_told(stack, guard, layout, state),
+        Block::Await(_, _, guard, _) => is_reported(stack, guard, layout, state),
         Block::End => false,
     }
 }
 
-/// Does a block, if it can be done, and tells the place to which it leads.
+/// Does a block, if it can be done, and gives the place to which it leads.
 pub(crate) fn lead(
     stack: &mut Vec<u64>,
     block: &Block,
@@ -63,15 +63,15 @@ pub(crate) fn lead(
             Some(*next)
         }
         Block::Await(_, next, guard, act) => {
-            if !is_told(stack, guard, layout, state) {
+            if !is_reported(stack, guard, layout, state) {
                 return None;
             }
             store_all(stack, act, layout, state);
             Some(*next)
         }
         Block::Test(_, yes_place, no_place, guard) => {
-            let told = is_told(stack, guard, layout, state);
-            Some(if told { *yes_place } else { *no_place })
+            let reported = is_reported(stack, guard, layout, state);
+            Some(if reported { *yes_place } else { *no_place })
         }
         Block::End => None,
     }

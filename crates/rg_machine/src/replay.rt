@@ -25,13 +25,13 @@ impl<'e> Config<'e> {
         }
     }
 
-    /// Lets events happen in order, up to the first that can't, and tells how many did. It takes no memory.
+    /// Lets events happen in order, up to the first that can't, and gives how many did. It takes no memory.
     pub fn replay(&mut self, events: &[Event]) -> usize
         requires { EventsFit self.old events.now }
         ensures count { result ≤ length events.now }
         // The first of them happened, and led to what is left.
         ensures done { Replays self.old (map happening (take result events.now)) self.new }
-        // The one behind them can't.
+        // The one after them can't.
         ensures longest { CannotGoOn self.new (map happening events.now) result }
     {
         for (done, event) in events.iter().enumerate() {

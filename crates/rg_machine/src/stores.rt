@@ -2,7 +2,7 @@
 
 ghost use Rattle.std.specs.Prelude.{◌≡◌, ◌≤◌, Some, [], ◌∷◌, map, length, vec_capacity};
 ghost use Rattle.rg_words.specs.Layout.{widths_of};
-ghost use Rattle.rg_code.specs.Operations.{told_by};
+ghost use Rattle.rg_code.specs.Operations.{reported_by};
 ghost use Rattle.rg_code.specs.Code.{stored};
 ghost use Rattle.rg_code.specs.Legal.{LeavesBelow, IsLegalStore, AreLegalStores};
 ghost use Rattle.rg_code.specs.BlockView.{store as store_tree};
@@ -14,7 +14,7 @@ use rg_code::operation::Operation;
 use rg_words::{Layout, State};
 
 /// Whether a guard holds.
-pub(crate) fn is_told(
+pub(crate) fn is_reported(
     stack: &mut Vec<u64>,
     guard: &[Operation],
     layout: &Layout,
@@ -23,7 +23,7 @@ pub(crate) fn is_told(
     requires legal { LeavesBelow layout.now 2 guard.now }
     requires state { state.now.widths ≡ widths_of layout.now }
     requires room { length guard.now ≤ vec_capacity stack.old }
-    ensures told { told_by guard.now state.now.values ≡ Some result }
+    ensures reported { reported_by guard.now state.now.values ≡ Some result }
     ensures capacity { vec_capacity stack.old ≤ vec_capacity stack.new }
 {
     state.facts();

@@ -47,7 +47,7 @@ pub fn push_line(text: &mut Vec<u8>, program: &Program, step: &Record) -> Result
 }
 
 /// The name of the part of this number, from 1, and `env` for 0.
-fn name(parts: &[Part], who: usize) -> &str
+pub fn name(parts: &[Part], who: usize) -> &str
     ensures { result.now ≡ name_of (map part parts.now) who }
 {
     if who == 0 {
@@ -59,8 +59,8 @@ fn name(parts: &[Part], who: usize) -> &str
     }
 }
 
-/// Adds a number in decimal.
-fn push_number(text: &mut Vec<u8>, n: u64) -> Result<(), AllocError>
+/// Adds a number in decimal. An error comes only where memory was refused.
+pub fn push_number(text: &mut Vec<u8>, n: u64) -> Result<(), AllocError>
     ensures { OnOk result (text.new.items ≡ text.old.items ++ decimal n) }
 {
     let mut digits = Buffer::new();
@@ -80,7 +80,7 @@ fn push_change(text: &mut Vec<u8>, name: &str, before: u64, after: u64) -> Resul
     push_number(text, after)
 }
 
-/// The same of a word which changed; nothing of one which didn't.
+/// Adds a word with its values before and after where it changed; nothing where it didn't.
 fn push_if_changed(
     text: &mut Vec<u8>,
     name: &str,
@@ -112,7 +112,7 @@ fn push_changes(
     Ok(())
 }
 
-/// The same, and `same` where none changed.
+/// Adds the words that changed, and `same` where none did.
 fn push_words(
     text: &mut Vec<u8>,
     layout: &Layout,
@@ -141,8 +141,9 @@ fn push_names(text: &mut Vec<u8>, parts: &[Part], numbers: &[usize]) -> Result<(
     Ok(())
 }
 
-/// The same, and a dash where there is none.
-fn push_cover(text: &mut Vec<u8>, parts: &[Part], cover: &[usize]) -> Result<(), AllocError>
+/// Adds the names of the parts of these numbers, each after a space, and a dash where there is none. An error comes only where memory was refused;
+/// the text may then have some of them.
+pub fn push_cover(text: &mut Vec<u8>, parts: &[Part], cover: &[usize]) -> Result<(), AllocError>
     ensures { OnOk result (text.new.items ≡ text.old.items ++ cover_text (map part parts.now) cover.now) }
 {
     if cover.is_empty() {

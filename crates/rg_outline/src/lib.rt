@@ -1,21 +1,28 @@
-//! From an outline to what it stands for: the formulas of the program and of its parts, and the lines of the derivation. Nothing of it is trusted: what
-//! is printed of it is read and checked as any text is. The first fault is kept in the scope of the expansion, and behind it nothing more is worked out.
+//! From an outline to what it stands for: the formulas of the program and of its parts, the lines of the derivation, and both as texts.
 #![tactic(auto)]
 
+mod derivation;
 mod derive;
+mod expansion;
 mod parts;
+mod print;
+mod settle;
 mod specify;
+mod statements;
+mod text;
 
-use crate::derive::derive;
-use crate::parts::{refuse_sharing, take_parts};
-use crate::specify::{specify, specify_parts};
-pub use rg_outline_bodies::{
-    Action, Assertion, Assigned, Block, Expansion, Line, Origin, Part, Row, Rule, Specification,
-    Statement, Update,
+pub use derivation::{push_clipped, push_derivation, push_map};
+pub use expansion::{
+    Action, Assertion, Block, BlockRow, Expansion, Line, Origin, OutlinePart, PartWord,
+    Specification, Statement, Update,
 };
-use rg_outline_text::Fault;
+pub use print::{middle, push_flat};
+use rg_outline_syntax::Fault;
+pub use rg_tree::line::Rule;
+pub use text::{push_text, push_unmet};
 
-/// Works out the whole outline. An expansion is worked out once.
+/// Works out the whole outline. An expansion is worked out once. After the first fault nothing more is worked out; what is known is to be read and
+/// checked as any text is.
 ///
 /// # Errors
 ///
@@ -23,12 +30,12 @@ use rg_outline_text::Fault;
 /// - `FaultKind::Memory` where memory is refused.
 pub fn work_out(expansion: &mut Expansion<'_>) -> Result<(), Fault> {
     expansion.scope.declare();
-    specify(expansion);
-    take_parts(expansion);
-    refuse_sharing(expansion);
+    expansion.specify();
+    expansion.take_parts();
+    expansion.refuse_sharing();
     if !expansion.scope.is_stopped() {
-        specify_parts(expansion);
-        derive(expansion);
+        expansion.specify_parts();
+        expansion.derive();
     }
     match expansion.scope.fault() {
         None => Ok(()),

@@ -1,136 +1,224 @@
 //! The parts, each member of a family by itself.
 
-use rg_outline_bodies::{Assertion, Expansion, Origin, Part};
-use rg_outline_scope::ListedWord;
-use rg_outline_text::{Fault, MeaningFault, Span, Texts, push_number};
-use rg_outline_tree::{Clause, Head, HeadKind, List, PartWritten, Standing};
+use crate::expansion::{
+    Assertion, DEEPEST, Expansion, NOWHERE, Origin, OutlinePart, PartWord, add, add_all, place_of,
+};
+use rg_outline_syntax::{
+    Clause, Fault, HeadKind, List, MeaningFault, PartWritten, Span, Standing, Texts, push_number,
+};
+use rg_outline_terms::{ListedWord, bit_of};
 use rg_words::limits::MOST_PARTS;
 use std::alloc::AllocError;
 
-/// What a part relies on and promises beyond what follows from the others, and its `pre` and `post`.
-#[derive(Drop)]
-struct Heads {
-    relied: Vec<usize>,
-    promised: Vec<usize>,
-    owned_bits: u64,
-    first: Option<Assertion>,
-    last: Option<Assertion>,
-}
-
-/// Works out all parts.
-pub(crate) fn take_parts(expansion: &mut Expansion<'_>) {
-    for part in &expansion.scope.written.parts {
-        if expansion.scope.is_stopped() {
-            break;
+impl Expansion<'_> {
+    /// Works out all parts.
+    pub(crate) fn take_parts(&mut self) {
+        for part in &self.scope.written.parts {
+            if self.scope.is_stopped() {
+                break;
+            }
+            self.take_part(*part);
         }
-        take_part(expansion, *part);
-    }
-    let count = expansion.parts.len();
-    if count > MOST_PARTS {
-        let span = last_part_span(expansion);
-        expansion
-            .scope
-            .refuse(MeaningFault::TooManyParts(count), span);
-    }
-}
-
-fn last_part_span(expansion: &Expansion<'_>) -> Span {
-    match expansion.scope.written.parts.last() {
-        Some(part) => part.name,
-        None => Span { start: 0, end: 0 },
-    }
-}
-
-/// Works out a part, or all members of a family of parts.
-fn take_part(expansion: &mut Expansion<'_>, written: PartWritten) {
-    let Some((index, range)) = written.index else {
-        take_member(expansion, written, None);
-        return;
-    };
-    expansion.scope.refuse_taken(index);
-    let span = range_span(expansion, range);
-    let numbers = expansion.scope.numbers_of(range);
-    if numbers.is_empty() {
-        expansion.scope.refuse(MeaningFault::EmptyRange, span);
-    }
-    for place in numbers.start..numbers.end {
-        let number = expansion.scope.number_at(place);
-        if number < 0 {
-            expansion.scope.refuse(MeaningFault::IndexBelowZero, span);
+        let count = self.parts.len();
+        if count > MOST_PARTS {
+            let last = self.scope.written.parts.last();
+            let span = last.map_or(NOWHERE, |part| part.name);
+            self.scope.refuse(MeaningFault::TooManyParts(count), span);
         }
-        take_numbered(expansion, written, index, number);
     }
-}
 
-/// Works out the member of a family of parts at a number; behind a fault none.
-fn take_numbered(expansion: &mut Expansion<'_>, written: PartWritten, index: Span, number: i128) {
-    if expansion.scope.is_stopped() {
-        return;
-    }
-    let mark = expansion.scope.names.len();
-    expansion.scope.know_number(index, written.span, number);
-    take_member(expansion, written, Some(number));
-    expansion.scope.forget(mark);
-}
-
-/// Where a range stands.
-fn range_span(expansion: &Expansion<'_>, range: usize) -> Span {
-    match expansion.scope.written.ranges.get(range) {
-        Some(range) => range.span,
-        None => Span { start: 0, end: 0 },
-    }
-}
-
-/// Works out one part.
-fn take_member(expansion: &mut Expansion<'_>, written: PartWritten, number: Option<i128>) {
-    let count = expansion.parts.len();
-    if count > MOST_PARTS.saturating_mul(4) {
-        expansion
-            .scope
-            .refuse(MeaningFault::TooManyParts(count), written.name);
-    }
-    name_part(expansion, written.name, number);
-    let mark = expansion.scope.names.len();
-    take_heads(expansion, written);
-    take_body(expansion, written);
-    expansion.scope.forget(mark);
-}
-
-/// Adds a part with what its heads say.
-fn take_heads(expansion: &mut Expansion<'_>, written: PartWritten) {
-    let mut heads = Heads {
-        relied: Vec::new(expansion.scope.alloc),
-        promised: Vec::new(expansion.scope.alloc),
-        owned_bits: 0,
-        first: None,
-        last: None,
-    };
-    let owned = expansion.owned.len();
-    take_heads_of(expansion, &mut heads, written);
-    let owned = List {
-        start: owned,
-        end: expansion.owned.len(),
-    };
-    add_part(expansion, &heads, owned, written);
-}
-
-/// Names a part, with its number behind `_` where it is of a family.
-fn name_part(expansion: &mut Expansion<'_>, name: Span, number: Option<i128>) {
-    let text = name.of(expansion.scope.source);
-    let stored = push_name(&mut expansion.part_names, text, number);
-    expansion.scope.want_stored(stored.is_ok());
-    let place = expansion.part_names.len().saturating_sub(1);
-    match expansion.part_names.find(expansion.part_names.at(place)) {
-        Some(part) if part < place => {
-            expansion
-                .scope
-                .refuse(MeaningFault::PartTwice { part }, name);
+    /// Works out a part, or all members of a family of parts.
+    fn take_part(&mut self, written: PartWritten) {
+        let Some((index, range)) = written.index else {
+            self.take_member(written, None);
+            return;
+        };
+        self.scope.refuse_taken(index);
+        let place = self.scope.written.ranges.get(range);
+        let span = place.map_or(NOWHERE, |range| range.span);
+        let numbers = self.scope.numbers_of(range);
+        if numbers.is_empty() {
+            self.scope.refuse(MeaningFault::EmptyRange, span);
         }
-        _ => {}
+        let mark = self.scope.names.len();
+        for place in numbers.start..numbers.end {
+            let number = self.scope.number_at(place);
+            if number < 0 {
+                self.scope.refuse(MeaningFault::IndexBelowZero, span);
+            }
+            if self.scope.is_stopped() {
+                break;
+            }
+            self.scope.know_number(index, written.span, number);
+            self.take_member(written, Some(number));
+            self.scope.forget(mark);
+        }
+    }
+
+    /// Works out one part.
+    fn take_member(&mut self, written: PartWritten, number: Option<i128>) {
+        let count = self.parts.len();
+        if count > MOST_PARTS.saturating_mul(4) {
+            self.scope
+                .refuse(MeaningFault::TooManyParts(count), written.name);
+        }
+        self.name_part(written.name, number);
+        let mark = self.scope.names.len();
+        self.take_heads(written);
+        self.take_body(written);
+        self.scope.forget(mark);
+    }
+
+    /// Names a part, with its number after `_` where it is of a family.
+    fn name_part(&mut self, name: Span, number: Option<i128>) {
+        let text = name.of(self.scope.source);
+        let stored = push_name(&mut self.part_names, text, number);
+        self.scope.want_stored(stored.is_ok());
+        let place = self.part_names.len().saturating_sub(1);
+        if let Some(part) = self.part_names.find(self.part_names.at(place))
+            && part < place
+        {
+            self.scope.refuse(MeaningFault::PartTwice { part }, name);
+        }
+    }
+
+    /// Adds a part with what its heads say.
+    fn take_heads(&mut self, written: PartWritten) {
+        let mut relied = Vec::new(self.scope.alloc);
+        let mut promised = Vec::new(self.scope.alloc);
+        let mut part = OutlinePart {
+            span: written.name,
+            ..OutlinePart::NOTHING
+        };
+        for head in self.scope.written.heads(written.heads) {
+            match head.kind {
+                HeadKind::Let(_) => self.scope.name_head(*head, written.span.end),
+                HeadKind::Owns(words) => self.take_owned(&mut part, &mut relied, words),
+                HeadKind::Clause(Clause::Rely, formula) => {
+                    let tree = self.scope.step_formula(formula);
+                    add(&mut self.scope, &mut relied, tree);
+                }
+                HeadKind::Clause(Clause::Guar, formula) => {
+                    let tree = self.scope.step_formula(formula);
+                    add(&mut self.scope, &mut promised, tree);
+                }
+                HeadKind::Clause(Clause::Post, formula) => {
+                    self.take_end(&mut part.last, formula, head.span);
+                }
+                HeadKind::Clause(_, formula) => {
+                    self.take_end(&mut part.first, formula, head.span);
+                }
+            }
+        }
+        part.relied = add_all(&mut self.scope, &mut self.clauses, &relied);
+        part.promised = add_all(&mut self.scope, &mut self.clauses, &promised);
+        add(&mut self.scope, &mut self.parts, part);
+    }
+
+    /// Makes words a part's own.
+    fn take_owned(&mut self, part: &mut OutlinePart, relied: &mut Vec<usize>, words: List) {
+        let mut listed = Vec::new(self.scope.alloc);
+        self.scope.words_of(&mut listed, words);
+        for owned in &listed {
+            let ListedWord { word, span } = *owned;
+            if self.scope.word(word).standing == Standing::Fixed {
+                self.scope.refuse(MeaningFault::FixedOwned { word }, span);
+            }
+            let bit = bit_of(word);
+            if part.owned_bits & bit == 0 {
+                part.owned_bits |= bit;
+                let part = self.parts.len();
+                let owned = PartWord { part, word, span };
+                add(&mut self.scope, &mut self.owned, owned);
+                let equation = self.scope.same(word, span);
+                add(&mut self.scope, relied, equation);
+            }
+        }
+    }
+
+    /// Takes a part's `pre` or `post`, of which it has one each at most.
+    fn take_end(&mut self, end: &mut Option<Assertion>, formula: usize, span: Span) {
+        if end.is_some() {
+            self.scope.refuse(MeaningFault::ClauseTwice, span);
+        } else {
+            *end = Some(self.state_assertion(formula));
+        }
+    }
+
+    /// Works out the body of the last part. After a fault the blocks are no whole tree, and nothing is asked of them.
+    fn take_body(&mut self, written: PartWritten) {
+        let body = self.block_of(written.body, written.span, DEEPEST);
+        if self.scope.is_stopped() {
+            return;
+        }
+        let place = self.parts.len().saturating_sub(1);
+        let Some(mut part) = self.parts.get(place).copied() else {
+            return;
+        };
+        part.body = body;
+        part.pre = match part.first.or(self.leading(body)) {
+            Some(assertion) => assertion,
+            None => {
+                let truth = self.conjoined(&[], written.name);
+                self.asserted(truth, written.name, Origin::Nothing)
+            }
+        };
+        self.settle_body(part);
+        part.post = part.last.unwrap_or(self.block(body).last);
+        self.aim(body, part.pre, part.pre.full, part.post);
+        self.set_part(place, part);
+    }
+
+    /// Replaces the part of an index.
+    pub(crate) fn set_part(&mut self, index: usize, part: OutlinePart) {
+        if let Some(slot) = self.parts.get_mut(index) {
+            *slot = part;
+        }
+    }
+
+    /// Refuses a word that two parts own, or that a part assigns and another owns.
+    pub(crate) fn refuse_sharing(&mut self) {
+        for part in 0..self.parts.len() {
+            self.refuse_sharing_of(part);
+        }
+    }
+
+    /// Refuses a word of a part that another owns too or assigns.
+    fn refuse_sharing_of(&mut self, part: usize) {
+        for other in 0..self.parts.len() {
+            if part != other
+                && let Some(fault) = self.sharing_of(part, other)
+            {
+                self.scope.stop(fault);
+            }
+        }
+    }
+
+    /// The fault of a word of a part that the other owns too or assigns.
+    fn sharing_of(&self, part: usize, other: usize) -> Option<Fault> {
+        for owned in &self.owned {
+            let word = owned.word;
+            if owned.part != part {
+                continue;
+            }
+            if let Some(span) = place_of(&self.owned, other, word) {
+                let kind = MeaningFault::OwnedAlready { word, part };
+                return Some(Fault::meaning(kind, span));
+            }
+            if let Some(span) = place_of(&self.assigned, other, word) {
+                let kind = MeaningFault::AssignsOwned {
+                    part: other,
+                    word,
+                    owner: part,
+                };
+                return Some(Fault::meaning(kind, span));
+            }
+        }
+        None
     }
 }
 
-/// Adds a name, with its number behind `_` where it has one.
+/// Adds a name, with its number after `_` where it has one.
 fn push_name(names: &mut Texts, text: &[u8], number: Option<i128>) -> Result<(), AllocError> {
     names.unended().extend_from_slice(text)?;
     if let Some(number) = number {
@@ -138,196 +226,4 @@ fn push_name(names: &mut Texts, text: &[u8], number: Option<i128>) -> Result<(),
         push_number(names.unended(), number)?;
     }
     names.end()
-}
-
-fn take_heads_of(expansion: &mut Expansion<'_>, heads: &mut Heads, written: PartWritten) {
-    for head in expansion.scope.written.heads(written.heads) {
-        match head.kind {
-            HeadKind::Let(_) => expansion.scope.name_head(*head, written.span.end),
-            HeadKind::Owns(words) => take_owned(expansion, heads, words),
-            HeadKind::Clause(clause, formula) => {
-                take_clause(expansion, heads, *head, clause, formula);
-            }
-        }
-    }
-}
-
-fn take_owned(expansion: &mut Expansion<'_>, heads: &mut Heads, words: List) {
-    let mut listed = Vec::new(expansion.scope.alloc);
-    expansion.scope.words_of(&mut listed, words);
-    for word in &listed {
-        own(expansion, heads, *word);
-    }
-}
-
-/// Makes a word the part's own.
-fn own(expansion: &mut Expansion<'_>, heads: &mut Heads, listed: ListedWord) {
-    let ListedWord { word, span } = listed;
-    if expansion.scope.word(word).standing == Standing::Fixed {
-        expansion
-            .scope
-            .refuse(MeaningFault::FixedOwned { word }, span);
-    }
-    let bit = rg_outline_scope::bit_of(word);
-    if heads.owned_bits & bit == 0 {
-        heads.owned_bits |= bit;
-        let stored = expansion.owned.push(listed);
-        expansion.scope.want_stored(stored.is_ok());
-        let equation = expansion.scope.same(word, span);
-        push_tree(expansion, &mut heads.relied, equation);
-    }
-}
-
-/// Adds a tree to others.
-fn push_tree(expansion: &mut Expansion<'_>, trees: &mut Vec<usize>, tree: usize) {
-    let stored = trees.push(tree);
-    expansion.scope.want_stored(stored.is_ok());
-}
-
-fn take_clause(
-    expansion: &mut Expansion<'_>,
-    heads: &mut Heads,
-    head: Head,
-    clause: Clause,
-    formula: usize,
-) {
-    let is_second = match clause {
-        Clause::Pre => heads.first.is_some(),
-        Clause::Post => heads.last.is_some(),
-        _ => false,
-    };
-    match clause {
-        Clause::Rely => {
-            let tree = expansion.scope.step_formula(formula);
-            push_tree(expansion, &mut heads.relied, tree);
-        }
-        Clause::Guar => {
-            let tree = expansion.scope.step_formula(formula);
-            push_tree(expansion, &mut heads.promised, tree);
-        }
-        _ if is_second => expansion.scope.refuse(MeaningFault::ClauseTwice, head.span),
-        Clause::Post => heads.last = Some(expansion.state_assertion(formula)),
-        _ => heads.first = Some(expansion.state_assertion(formula)),
-    }
-}
-
-/// Adds clauses, as a list.
-fn add_clauses(expansion: &mut Expansion<'_>, clauses: &[usize]) -> List {
-    let start = expansion.clauses.len();
-    let stored = expansion.clauses.extend_from_slice(clauses);
-    expansion.scope.want_stored(stored.is_ok());
-    List {
-        start,
-        end: expansion.clauses.len(),
-    }
-}
-
-fn add_part(expansion: &mut Expansion<'_>, heads: &Heads, owned: List, written: PartWritten) {
-    let relied = add_clauses(expansion, &heads.relied);
-    let promised = add_clauses(expansion, &heads.promised);
-    let stored = expansion.parts.push(Part {
-        span: written.name,
-        owned,
-        owned_bits: heads.owned_bits,
-        relied,
-        promised,
-        first: heads.first,
-        last: heads.last,
-        body: 0,
-        pre: Assertion::NOTHING,
-        post: Assertion::NOTHING,
-        rely: 0,
-        guar: 0,
-    });
-    expansion.scope.want_stored(stored.is_ok());
-}
-
-/// Works out the body of the last part. Behind a fault the blocks are no whole tree, and nothing is asked of them.
-fn take_body(expansion: &mut Expansion<'_>, written: PartWritten) {
-    let body = expansion.take_block(written.body, written.span);
-    if expansion.scope.is_stopped() {
-        return;
-    }
-    let place = expansion.parts.len().saturating_sub(1);
-    let Some(mut part) = expansion.parts.get(place).copied() else {
-        return;
-    };
-    part.body = body;
-    part.pre = match part.first.or(expansion.leading(body)) {
-        Some(assertion) => assertion,
-        None => nothing_at(expansion, written.name),
-    };
-    expansion.settle_body(body, part.pre, part.last, part.owned_bits);
-    part.post = part.last.unwrap_or(expansion.block(body).last);
-    expansion.aim(body, part.pre, part.pre.full, part.post);
-    if let Some(slot) = expansion.parts.get_mut(place) {
-        *slot = part;
-    }
-}
-
-/// That nothing is known at a place but the invariant.
-fn nothing_at(expansion: &mut Expansion<'_>, span: Span) -> Assertion {
-    let truth = expansion.conjoined(&[], span);
-    expansion.asserted(truth, span, Origin::Nothing)
-}
-
-/// Refuses a word that two parts own, or that a part assigns and another owns.
-pub(crate) fn refuse_sharing(expansion: &mut Expansion<'_>) {
-    for part in 0..expansion.parts.len() {
-        refuse_sharing_of(expansion, part);
-    }
-}
-
-/// Refuses a word of a part that another owns too or assigns.
-fn refuse_sharing_of(expansion: &mut Expansion<'_>, part: usize) {
-    for other in 0..expansion.parts.len() {
-        if part != other
-            && let Some(fault) = sharing_of(expansion, part, other)
-        {
-            expansion.scope.stop(fault);
-        }
-    }
-}
-
-fn owned_by<'e>(expansion: &'e Expansion<'_>, part: usize) -> &'e [ListedWord] {
-    match expansion.parts.get(part) {
-        Some(part) => expansion
-            .owned
-            .get(part.owned.start..part.owned.end)
-            .unwrap_or(&[]),
-        None => &[],
-    }
-}
-
-/// The fault of a word of a part that the other owns too or assigns.
-fn sharing_of(expansion: &Expansion<'_>, part: usize, other: usize) -> Option<Fault> {
-    for listed in owned_by(expansion, part) {
-        let word = listed.word;
-        if let Some(second) = owned_by(expansion, other)
-            .iter()
-            .find(|owned| owned.word == word)
-        {
-            let kind = MeaningFault::OwnedAlready { word, part };
-            return Some(Fault::meaning(kind, second.span));
-        }
-        if let Some(span) = assignment_of(expansion, other, word) {
-            let kind = MeaningFault::AssignsOwned {
-                part: other,
-                word,
-                owner: part,
-            };
-            return Some(Fault::meaning(kind, span));
-        }
-    }
-    None
-}
-
-/// Where a part first assigns a word.
-fn assignment_of(expansion: &Expansion<'_>, part: usize, word: usize) -> Option<Span> {
-    for assigned in &expansion.assigned {
-        if assigned.part == part && assigned.word == word {
-            return Some(assigned.span);
-        }
-    }
-    None
 }

@@ -1,83 +1,52 @@
 //! The statements of an outline, in the order of the text, with what stands beside them.
 
-use rg_outline_text::{Keyword, Kind, Span, Tokens};
-use rg_outline_tree::{Item, ItemKind, List, Written};
+use rg_outline_syntax::{Item, ItemKind, Keyword, Kind, List, Span, Tokens, Written};
 use std::alloc::{AllocError, Global};
 
-/// A statement, with what stands behind it in its block.
+/// A statement, with what stands after it in its block.
 #[derive(Clone, Copy)]
 pub(crate) struct Placed {
     pub(crate) item: Item,
     /// The next statement.
     pub(crate) next: Option<Item>,
     /// The formula of the assertion between this statement and the next one.
-    pub(crate) behind: Option<Span>,
-    /// The formula of the assertion behind the next one.
-    pub(crate) behind_next: Option<Span>,
-}
-
-/// The next statement of these items, with the assertion before it, and the items behind it.
-fn next_of<'i>(written: &Written, items: &'i [usize]) -> (Option<Item>, Option<Span>, &'i [usize]) {
-    let mut assertion = None;
-    for (place, index) in items.iter().enumerate() {
-        match written.items.get(*index) {
-            Some(
-                Item {
-                    kind: ItemKind::Assertion(formula),
-                    ..
-                },
-            ) => {
-                if assertion.is_none() {
-                    assertion = written.expression(*formula).map(|found| found.span);
-                }
-            }
-            Some(item) => {
-                let rest = items.get(place.saturating_add(1)..).unwrap_or(&[]);
-                return (Some(*item), assertion, rest);
-            }
-            None => {}
-        }
-    }
-    (None, assertion, &[])
-}
-
-/// A statement with what stands behind it.
-fn beside(written: &Written, item: Item, rest: &[usize]) -> Placed {
-    let (next, behind, further) = next_of(written, rest);
-    let (_, behind_next, _) = next_of(written, further);
-    Placed {
-        item,
-        next,
-        behind,
-        behind_next,
-    }
+    pub(crate) after: Option<Span>,
+    /// The formula of the assertion after the next one.
+    pub(crate) following_next: Option<Span>,
 }
 
 /// Adds the statements of a block, the last one first.
 fn push_block(written: &Written, block: List, open: &mut Vec<Placed>) -> Result<(), AllocError> {
-    let items = written.listed(block);
-    for (place, index) in items.iter().enumerate().rev() {
-        let rest = items.get(place.saturating_add(1)..).unwrap_or(&[]);
-        if let Some(item) = written.items.get(*index)
-            && !matches!(item.kind, ItemKind::Assertion(_))
-        {
-            open.push(beside(written, *item, rest))?;
+    let mut next = None;
+    let mut after = None;
+    let mut following_next = None;
+    for index in written.listed(block).iter().rev() {
+        let Some(item) = written.items.get(*index).copied() else {
+            continue;
+        };
+        if let ItemKind::Assertion(formula) = item.kind {
+            after = written.expression(formula).map(|formula| formula.span);
+        } else {
+            open.push(Placed {
+                item,
+                next,
+                after,
+                following_next,
+            })?;
+            next = Some(item);
+            following_next = after;
+            after = None;
         }
     }
     Ok(())
 }
 
-/// Adds the statements that stand in one, the last one first.
-fn push_inner(written: &Written, item: Item, open: &mut Vec<Placed>) -> Result<(), AllocError> {
+/// The blocks of a statement, in the order of the text; empty ones for those that it doesn't have.
+fn blocks_of(item: Item) -> [List; 2] {
     match item.kind {
-        ItemKind::If { yes, no, .. } => {
-            push_block(written, no.unwrap_or(List::EMPTY), open)?;
-            push_block(written, yes, open)
-        }
-        ItemKind::While { body, .. } | ItemKind::For { body, .. } => {
-            push_block(written, body, open)
-        }
-        _ => Ok(()),
+        ItemKind::If { yes, no, .. } => [yes, no.unwrap_or(List::EMPTY)],
+        ItemKind::While { body, .. } | ItemKind::For { body, .. } => [body, List::EMPTY],
+        _ => [List::EMPTY, List::EMPTY],
     }
 }
 
@@ -93,29 +62,23 @@ pub(crate) fn statements_of(alloc: Global, written: &Written) -> Result<Vec<Plac
             break;
         };
         statements.push(next)?;
-        push_inner(written, next.item, &mut open)?;
+        let [first, second] = blocks_of(next.item);
+        push_block(written, second, &mut open)?;
+        push_block(written, first, &mut open)?;
     }
     Ok(statements)
 }
 
-/// The block with which a statement ends, if it has any.
-fn last_block(item: Item) -> Option<List> {
-    match item.kind {
-        ItemKind::If { yes, no, .. } => Some(no.unwrap_or(yes)),
-        ItemKind::While { body, .. } | ItemKind::For { body, .. } => Some(body),
-        _ => None,
-    }
-}
-
 /// The last item that stands in a statement, if one does.
 fn last_in(written: &Written, item: Item) -> Option<Item> {
-    let block = last_block(item)?;
+    let [first, second] = blocks_of(item);
+    let block = if second.is_empty() { first } else { second };
     let index = written.listed(block).last()?;
     written.items.get(*index).copied()
 }
 
-/// The `end` of this number behind a place, from 1; the place itself for 0.
-fn end_behind(tokens: &Tokens, place: Span, count: usize) -> Span {
+/// The `end` of this number after a place, from 1; the place itself for 0.
+fn end_after(tokens: &Tokens, place: Span, count: usize) -> Span {
     let mut last = place;
     let mut left = count;
     for index in 0..tokens.len() {
@@ -133,30 +96,23 @@ pub(crate) fn extent(written: &Written, tokens: &Tokens, item: Item) -> Span {
     let mut inner = item;
     let mut depth = 0usize;
     for _ in 0..written.items.len() {
-        match last_in(written, inner) {
-            Some(next) => {
-                inner = next;
-                depth = depth.saturating_add(1);
-            }
-            None => break,
-        }
+        let Some(next) = last_in(written, inner) else {
+            break;
+        };
+        inner = next;
+        depth = depth.saturating_add(1);
     }
-    item.span.to(end_behind(tokens, inner.span, depth))
-}
-
-/// Whether a block does nothing.
-fn is_idle(written: &Written, block: List) -> bool {
-    written.listed(block).iter().all(|index| match written.items.get(*index) {
-        Some(item) => matches!(item.kind, ItemKind::Skip | ItemKind::Assertion(_)),
-        None => true,
-    })
+    item.span.to(end_after(tokens, inner.span, depth))
 }
 
 /// Whether a statement waits: an `await`, or a `while` that does nothing.
 pub(crate) fn is_wait(written: &Written, item: Item) -> bool {
     match item.kind {
         ItemKind::Await(..) => true,
-        ItemKind::While { body, .. } => is_idle(written, body),
+        ItemKind::While { body, .. } => written.listed(body).iter().all(|index| {
+            let inner = written.items.get(*index).map(|inner| inner.kind);
+            matches!(inner, None | Some(ItemKind::Skip | ItemKind::Assertion(_)))
+        }),
         _ => false,
     }
 }

@@ -1,6 +1,6 @@
 //! A change of an outline's program.
 
-use rg_outline_text::Span;
+use rg_outline_syntax::Span;
 
 /// What stands in the place of a piece of an outline.
 #[derive(Clone, Copy)]
@@ -22,7 +22,7 @@ pub enum Edit {
     Replaced(Span, Replacement),
     /// This piece and a later one are exchanged; what stands between them stays.
     Exchanged(Span, Span),
-    /// The same with two statements of a block; what stands between them may be another assertion.
+    /// A statement and the next one of its block are exchanged; what stands between them may be another assertion.
     StatementsExchanged(Span, Span),
     /// A step of several assignments is cut in two steps where this stands between two of them.
     Cut(Span),
@@ -35,15 +35,15 @@ pub enum Between {
     Written,
     /// None: the one before holds on.
     Nothing,
-    /// The one that stands behind both.
-    Behind,
+    /// The one that stands after both.
+    Following,
     /// `true`, which is the invariant alone.
     Invariant,
 }
 
 /// Which words a change touches.
 #[derive(Clone, Copy, PartialEq, Eq)]
-pub enum Group {
+pub enum ChangeGroup {
     /// Words of the program's rely, guar or post.
     Specification,
     /// Other words.
@@ -62,9 +62,9 @@ pub struct Change {
     /// What is changed of it.
     pub place: Span,
     pub edit: Edit,
-    /// The formula of the assertion that stands behind what is changed, where one is written.
-    pub behind: Option<Span>,
-    pub group: Group,
+    /// The formula of the assertion that stands after what is changed, where one is written.
+    pub after: Option<Span>,
+    pub group: ChangeGroup,
 }
 
 impl Between {
@@ -72,7 +72,7 @@ impl Between {
     pub const ALL: [Between; 4] = [
         Between::Written,
         Between::Nothing,
-        Between::Behind,
+        Between::Following,
         Between::Invariant,
     ];
 }
@@ -82,12 +82,22 @@ impl Change {
     pub fn may_have(&self, between: Between) -> bool {
         match self.edit {
             Edit::Replaced(..) | Edit::Exchanged(..) => between == Between::Written,
-            Edit::StatementsExchanged(..) => { between != Between::Behind || self.behind.is_some() }
+            Edit::StatementsExchanged(..) => {
+                between != Between::Following || self.after.is_some()
+            }
             Edit::Cut(_) => match between {
                 Between::Written => false,
-                Between::Behind => self.behind.is_some(),
+                Between::Following => self.after.is_some(),
                 Between::Nothing | Between::Invariant => true,
             },
         }
+    }
+}
+
+/// What stands between two pieces.
+pub(crate) fn gap(first: Span, second: Span) -> Span {
+    Span {
+        start: first.end,
+        end: second.start,
     }
 }

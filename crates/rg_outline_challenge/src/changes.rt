@@ -1,21 +1,10 @@
 //! The changes of an outline.
 
 use crate::blocks::{Placed, extent, is_wait, statements_of};
-use crate::change::{Change, Edit, Group, Replacement};
+use crate::change::{Change, ChangeGroup, Edit, Replacement};
 use crate::words::Words;
-use rg_outline_text::{Fault, Span, Tokens};
-use rg_outline_tree::{Item, ItemKind, List, parse};
+use rg_outline_syntax::{Fault, ItemKind, List, Span, Tokens, parse};
 use std::alloc::{AllocError, Global};
-
-/// The statement that is changed.
-#[derive(Clone, Copy)]
-pub(crate) struct Site {
-    /// The whole of it.
-    pub(crate) statement: Span,
-    pub(crate) is_wait: bool,
-    /// The formula of the assertion behind it.
-    pub(crate) behind: Option<Span>,
-}
 
 /// The changes of an outline's program.
 #[derive(Drop)]
@@ -32,6 +21,12 @@ pub(crate) struct Changing<'a> {
     pub(crate) words: &'a Words<'a>,
     tokens: &'a Tokens,
     changes: Vec<Change>,
+    /// The whole of the statement that is changed.
+    statement: Span,
+    /// Whether that waits.
+    is_wait: bool,
+    /// The formula of the assertion after it.
+    after: Option<Span>,
 }
 
 impl Changing<'_> {
@@ -42,32 +37,40 @@ impl Changing<'_> {
     }
 
     /// The group of a change with two sides, of which each touches these words.
-    pub(crate) fn group(&self, first: u64, second: u64) -> Group {
+    pub(crate) fn group(&self, first: u64, second: u64) -> ChangeGroup {
         let all = first | second;
         if self.are_of_proof(first) || self.are_of_proof(second) {
-            Group::Proof
+            ChangeGroup::Proof
         } else if all & self.words.specified != 0 {
-            Group::Specification
+            ChangeGroup::Specification
         } else if all & self.words.firm == 0 && all & self.words.read != 0 {
-            Group::Waits
+            ChangeGroup::Waits
         } else {
-            Group::Others
+            ChangeGroup::Others
+        }
+    }
+
+    /// The group of a change of the whole statement, or of its test.
+    pub(crate) fn group_of_statement(&self) -> ChangeGroup {
+        if self.is_wait {
+            ChangeGroup::Waits
+        } else {
+            self.group(self.words.touched(self.statement), 0)
         }
     }
 
     /// Adds a change.
     pub(crate) fn add(
         &mut self,
-        site: Site,
         place: Span,
         edit: Edit,
-        group: Group,
+        group: ChangeGroup,
     ) -> Result<(), AllocError> {
         self.changes.push(Change {
-            statement: site.statement,
+            statement: self.statement,
             place,
             edit,
-            behind: site.behind,
+            after: self.after,
             group,
         })?;
         Ok(())
@@ -76,63 +79,44 @@ impl Changing<'_> {
     /// Adds that a piece is replaced.
     pub(crate) fn replace(
         &mut self,
-        site: Site,
         place: Span,
         replacement: Replacement,
-        group: Group,
+        group: ChangeGroup,
     ) -> Result<(), AllocError> {
-        self.add(site, place, Edit::Replaced(place, replacement), group)
+        self.add(place, Edit::Replaced(place, replacement), group)
     }
 
-    /// Adds that a statement is left out.
-    fn leave_out(&mut self, site: Site) -> Result<(), AllocError> {
-        let touched = self.words.touched(site.statement);
-        let group = if site.is_wait {
-            Group::Waits
-        } else {
-            self.group(touched, 0)
-        };
-        self.replace(site, site.statement, Replacement::Text("skip"), group)
-    }
-
-    /// Adds that a statement and the next one are exchanged.
-    fn exchange(&mut self, site: Site, placed: Placed) -> Result<(), AllocError> {
+    /// Adds that the statement and the next one are exchanged.
+    fn exchange(&mut self, placed: Placed) -> Result<(), AllocError> {
         let Some(next) = placed.next else {
             return Ok(());
         };
         if matches!(next.kind, ItemKind::Skip) {
             return Ok(());
         }
+        let first = self.statement;
         let second = extent(self.words.written, self.tokens, next);
-        let group = self.group(
-            self.words.touched(site.statement),
-            self.words.touched(second),
-        );
-        let both = Site {
-            behind: placed.behind_next,
-            ..site
-        };
-        let edit = Edit::StatementsExchanged(site.statement, second);
-        self.add(both, site.statement, edit, group)
+        let group = self.group(self.words.touched(first), self.words.touched(second));
+        self.after = placed.following_next;
+        self.add(first, Edit::StatementsExchanged(first, second), group)?;
+        self.after = placed.after;
+        Ok(())
     }
 
     /// Adds the changes within a statement, but for those of the statements in it.
-    fn change_within(&mut self, site: Site, item: Item) -> Result<(), AllocError> {
-        match item.kind {
-            ItemKind::Assign(assignment) => {
-                let alone = List {
-                    start: assignment,
-                    end: assignment.saturating_add(1),
-                };
-                self.change_step(site, None, alone)
+    fn change_within(&mut self, kind: ItemKind) -> Result<(), AllocError> {
+        match kind {
+            ItemKind::Assign(start) => {
+                let end = start.saturating_add(1);
+                self.change_step(None, List { start, end })
             }
-            ItemKind::Atomic(assignments) => self.change_step(site, None, assignments),
+            ItemKind::Atomic(assignments) => self.change_step(None, assignments),
             ItemKind::Await(guard, assignments) => {
-                self.change_test(site, guard, Some("true"))?;
-                self.change_step(site, Some(guard), assignments.unwrap_or(List::EMPTY))
+                self.change_test(guard, Some("true"))?;
+                self.change_step(Some(guard), assignments.unwrap_or(List::EMPTY))
             }
-            ItemKind::If { test, .. } => self.change_test(site, test, None),
-            ItemKind::While { test, .. } => self.change_test(site, test, Some("false")),
+            ItemKind::If { test, .. } => self.change_test(test, None),
+            ItemKind::While { test, .. } => self.change_test(test, Some("false")),
             ItemKind::Assertion(_) | ItemKind::Skip | ItemKind::For { .. } => Ok(()),
         }
     }
@@ -142,22 +126,13 @@ impl Changing<'_> {
         if matches!(placed.item.kind, ItemKind::Skip) {
             return Ok(());
         }
-        let site = Site {
-            statement: extent(self.words.written, self.tokens, placed.item),
-            is_wait: is_wait(self.words.written, placed.item),
-            behind: placed.behind,
-        };
-        self.leave_out(site)?;
-        self.exchange(site, placed)?;
-        self.change_within(site, placed.item)
-    }
-
-    /// Adds the changes of all statements.
-    fn change_all(&mut self, statements: &[Placed]) -> Result<(), AllocError> {
-        for placed in statements {
-            self.change_statement(*placed)?;
-        }
-        Ok(())
+        self.statement = extent(self.words.written, self.tokens, placed.item);
+        self.is_wait = is_wait(self.words.written, placed.item);
+        self.after = placed.after;
+        let group = self.group_of_statement();
+        self.replace(self.statement, Replacement::Text("skip"), group)?;
+        self.exchange(placed)?;
+        self.change_within(placed.item.kind)
     }
 }
 
@@ -169,8 +144,13 @@ fn changes_with(alloc: Global, words: &Words<'_>, tokens: &Tokens) -> Result<Cha
         words,
         tokens,
         changes: Vec::new(alloc),
+        statement: Span { start: 0, end: 0 },
+        is_wait: false,
+        after: None,
     };
-    changing.change_all(&statements)?;
+    for placed in &statements {
+        changing.change_statement(*placed)?;
+    }
     Ok(Changes {
         changes: changing.changes,
         unspoken,

@@ -1,5 +1,4 @@
-//! The small changes of an outline's program, each as a changed outline, and the lines that tell them. Nothing of it is trusted: what a changed
-//! outline stands for is read and checked as any text is.
+//! The small changes of an outline's program, each as a changed outline, and the lines that report them.
 #![tactic(auto)]
 
 mod blocks;
@@ -11,7 +10,7 @@ mod steps;
 mod tests;
 mod words;
 
-pub use change::{Between, Change, Edit, Group, Replacement};
+pub use change::{Between, Change, ChangeGroup, Edit, Replacement};
 pub use changes::{Changes, changes_of};
 pub use edits::changed_outline;
 pub use report::{Counts, push_change, push_counts, push_survivors, push_unspoken};

@@ -1,8 +1,8 @@
-//! The lines that tell changes.
+//! The lines that report changes.
 
-use crate::change::{Change, Edit, Group, Replacement};
+use crate::change::{Change, ChangeGroup, Edit, Replacement};
 use crate::edits::push_replacement;
-use rg_outline_text::{Span, push_count, push_phrase};
+use rg_outline_syntax::{Span, push_count, push_phrase};
 use std::alloc::{AllocError, Global};
 
 /// The most bytes of a piece that is shown.
@@ -27,16 +27,15 @@ fn push_text(text: &mut Vec<u8>, said: &str) -> Result<(), AllocError> {
     Ok(())
 }
 
-/// Adds bytes in one line between backticks; their beginning, where they are many.
-fn push_quoted(alloc: Global, text: &mut Vec<u8>, bytes: &[u8]) -> Result<(), AllocError> {
-    let mut phrase = Vec::new(alloc);
-    push_phrase(&mut phrase, bytes)?;
+/// Adds bytes in one line between backticks, after what stands before them; their beginning, where they are many.
+fn push_quoted(text: &mut Vec<u8>, before: &str, bytes: &[u8]) -> Result<(), AllocError> {
+    push_text(text, before)?;
     text.push(b'`')?;
-    if phrase.len() > MOST_SHOWN {
-        text.extend_from_slice(phrase.get(..MOST_SHOWN - 3).unwrap_or(&[]))?;
+    let most = text.len().saturating_add(MOST_SHOWN);
+    push_phrase(text, bytes)?;
+    if text.len() > most {
+        text.truncate(most.saturating_sub(3));
         push_text(text, "...")?;
-    } else {
-        text.extend_from_slice(&phrase)?;
     }
     text.push(b'`')?;
     Ok(())
@@ -49,57 +48,13 @@ fn push_replaced(
     piece: &[u8],
     replacement: Replacement,
 ) -> Result<(), AllocError> {
-    push_quoted(alloc, text, piece)?;
+    push_quoted(text, "", piece)?;
     if let Replacement::Text("" | "skip") = replacement {
         return push_text(text, " left out");
     }
     let mut new = Vec::new(alloc);
     push_replacement(&mut new, piece, replacement)?;
-    push_text(text, " becomes ")?;
-    push_quoted(alloc, text, &new)
-}
-
-/// Adds what is changed.
-fn push_edit(
-    alloc: Global,
-    text: &mut Vec<u8>,
-    source: &[u8],
-    change: &Change,
-) -> Result<(), AllocError> {
-    match change.edit {
-        Edit::Replaced(_, replacement) => {
-            push_replaced(alloc, text, change.place.of(source), replacement)
-        }
-        Edit::Exchanged(first, second) => {
-            push_quoted(alloc, text, first.of(source))?;
-            push_text(text, " exchanged with ")?;
-            push_quoted(alloc, text, second.of(source))
-        }
-        Edit::StatementsExchanged(_, second) => {
-            push_text(text, "exchanged with the next statement, ")?;
-            push_quoted(alloc, text, second.of(source))
-        }
-        Edit::Cut(_) => {
-            push_text(text, "cut in two steps before ")?;
-            push_quoted(alloc, text, change.place.of(source))
-        }
-    }
-}
-
-/// Adds `FILE:LINE:COLUMN: `.
-fn push_place(
-    text: &mut Vec<u8>,
-    name: &str,
-    source: &[u8],
-    place: Span,
-) -> Result<(), AllocError> {
-    let position = place.position(source);
-    push_text(text, name)?;
-    text.push(b':')?;
-    push_count(text, position.line as u64)?;
-    text.push(b':')?;
-    push_count(text, position.column as u64)?;
-    push_text(text, ": ")
+    push_quoted(text, " becomes ", &new)
 }
 
 /// Adds a change, `FILE:LINE:COLUMN: what is changed`, without a line's end. `source` is the outline before the change.
@@ -114,67 +69,66 @@ pub fn push_change(
     source: &[u8],
     change: &Change,
 ) -> Result<(), AllocError> {
-    push_place(text, name, source, change.place)?;
-    push_edit(alloc, text, source, change)
-}
-
-/// Adds a change of a group in a line, behind a line for its statement where that isn't the one of the change before.
-fn push_survivor(
-    alloc: Global,
-    text: &mut Vec<u8>,
-    name: &str,
-    source: &[u8],
-    change: &Change,
-    last: Option<Span>,
-) -> Result<(), AllocError> {
-    if last.map(|span| span.start) != Some(change.statement.start) {
-        push_text(text, "  ")?;
-        push_quoted(alloc, text, change.statement.of(source))?;
-        text.push(b'\n')?;
+    let position = change.place.position(source);
+    push_text(text, name)?;
+    text.push(b':')?;
+    push_count(text, position.line as u64)?;
+    text.push(b':')?;
+    push_count(text, position.column as u64)?;
+    push_text(text, ": ")?;
+    let piece = change.place.of(source);
+    match change.edit {
+        Edit::Replaced(_, replacement) => push_replaced(alloc, text, piece, replacement),
+        Edit::Exchanged(first, second) => {
+            push_quoted(text, "", first.of(source))?;
+            push_quoted(text, " exchanged with ", second.of(source))
+        }
+        Edit::StatementsExchanged(_, second) => {
+            let before = "exchanged with the next statement, ";
+            push_quoted(text, before, second.of(source))
+        }
+        Edit::Cut(_) => push_quoted(text, "cut in two steps before ", piece),
     }
-    push_text(text, "    ")?;
-    push_change(alloc, text, name, source, change)?;
-    text.push(b'\n')?;
-    Ok(())
 }
 
-/// What stands above the changes of a group that survive.
-fn heading(group: Group) -> &'static str {
+/// What the heading of a group's changes says of them.
+fn described(group: ChangeGroup) -> &'static str {
     match group {
-        Group::Specification => {
-            "proved all the same, touching words of the program's rely, guar or post:\n\n"
-        }
-        Group::Others => "proved all the same, other words:\n\n",
-        Group::Waits => {
-            "proved all the same, as nothing here says that a wait ends, or how long it takes:\n\n"
-        }
-        Group::Proof => {
-            "proved all the same, of words on which no test and no word of rely, guar or post depends:\n\n"
-        }
+        ChangeGroup::Specification => "touching words of the program's rely, guar or post",
+        ChangeGroup::Others => "other words",
+        ChangeGroup::Waits => "as nothing here says that a wait ends, or how long it takes",
+        ChangeGroup::Proof => "of words on which no test and no word of rely, guar or post depends",
     }
 }
 
-/// Adds those of one group.
+/// Adds the changes of one group, each in a line, after a line for its statement where that isn't the one of the change before.
 fn push_group(
     alloc: Global,
     text: &mut Vec<u8>,
     name: &str,
     source: &[u8],
     survivors: &[Change],
-    group: Group,
+    group: ChangeGroup,
 ) -> Result<(), AllocError> {
     let mut last = None;
-    let mut is_first = true;
     for change in survivors {
-        if change.group == group {
-            if is_first {
-                text.push(b'\n')?;
-                push_text(text, heading(group))?;
-            }
-            is_first = false;
-            push_survivor(alloc, text, name, source, change, last)?;
-            last = Some(change.statement);
+        if change.group != group {
+            continue;
         }
+        if last.is_none() {
+            push_text(text, "\nproved all the same, ")?;
+            push_text(text, described(group))?;
+            push_text(text, ":\n\n")?;
+        }
+        let start = Some(change.statement.start);
+        if last != start {
+            push_quoted(text, "  ", change.statement.of(source))?;
+            text.push(b'\n')?;
+        }
+        last = start;
+        push_text(text, "    ")?;
+        push_change(alloc, text, name, source, change)?;
+        text.push(b'\n')?;
     }
     Ok(())
 }
@@ -191,13 +145,12 @@ pub fn push_survivors(
     source: &[u8],
     survivors: &[Change],
 ) -> Result<(), AllocError> {
-    let groups = [
-        Group::Specification,
-        Group::Others,
-        Group::Waits,
-        Group::Proof,
-    ];
-    for group in groups {
+    for group in [
+        ChangeGroup::Specification,
+        ChangeGroup::Others,
+        ChangeGroup::Waits,
+        ChangeGroup::Proof,
+    ] {
         push_group(alloc, text, name, source, survivors, group)?;
     }
     Ok(())

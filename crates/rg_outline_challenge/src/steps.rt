@@ -1,33 +1,9 @@
 //! The changes of steps.
 
-use crate::change::{Edit, Replacement};
-use crate::changes::{Changing, Site};
-use rg_outline_text::Span;
-use rg_outline_tree::{Assignment, List};
+use crate::change::{ChangeGroup, Edit, Replacement, gap};
+use crate::changes::Changing;
+use rg_outline_syntax::{Assignment, List};
 use std::alloc::AllocError;
-
-/// What stands between two assignments.
-fn gap(first: Assignment, second: Assignment) -> Span {
-    Span {
-        start: first.span.end,
-        end: second.span.start,
-    }
-}
-
-/// An assignment with the `;` that goes with it, before it or behind it.
-fn with_sign(before: Option<Assignment>, assignment: Assignment, next: Option<Assignment>) -> Span {
-    match (before, next) {
-        (Some(before), _) => Span {
-            start: before.span.end,
-            end: assignment.span.end,
-        },
-        (None, Some(next)) => Span {
-            start: assignment.span.start,
-            end: next.span.start,
-        },
-        (None, None) => assignment.span,
-    }
-}
 
 impl Changing<'_> {
     /// The words that these assignments assign.
@@ -43,16 +19,26 @@ impl Changing<'_> {
     /// step is cut in two.
     pub(crate) fn change_step(
         &mut self,
-        site: Site,
         guard: Option<usize>,
         assignments: List,
     ) -> Result<(), AllocError> {
         let all = self.words.written.assigned(assignments);
+        let tested = guard.map_or(0, |test| self.words.bits_of(test));
+        let mut last = None;
         for (index, assignment) in all.iter().enumerate() {
-            self.part_assignments(site, guard, all, index)?;
-            self.leave_assignment(site, all, index)?;
-            let group = self.group(self.targets(&[*assignment]), 0);
-            self.change_values(site, self.words.place(assignment.value), group)?;
+            if let Some(last) = last {
+                self.exchange_assignments(last, *assignment, all)?;
+                let first = self.targets(all.get(..index).unwrap_or(&[])) | tested;
+                let second = self.targets(all.get(index..).unwrap_or(&[]));
+                let group = self.group(first, second);
+                let edit = Edit::Cut(gap(last.span, assignment.span));
+                self.add(assignment.span, edit, group)?;
+            }
+            let next = all.get(index.saturating_add(1)).copied();
+            let group = self.group(self.words.bits_of(assignment.target), 0);
+            self.leave_assignment(last, *assignment, next, group)?;
+            self.change_values(self.words.place(assignment.value), group)?;
+            last = Some(*assignment);
         }
         Ok(())
     }
@@ -60,63 +46,35 @@ impl Changing<'_> {
     /// Adds that an assignment is left out of a step of several.
     fn leave_assignment(
         &mut self,
-        site: Site,
-        all: &[Assignment],
-        index: usize,
+        last: Option<Assignment>,
+        assignment: Assignment,
+        next: Option<Assignment>,
+        group: ChangeGroup,
     ) -> Result<(), AllocError> {
-        let before = match index.checked_sub(1) {
-            Some(last) => all.get(last).copied(),
-            None => None,
+        let piece = match (last, next) {
+            (Some(last), _) => gap(last.span, assignment.span).to(assignment.span),
+            (None, Some(next)) => assignment.span.to(gap(assignment.span, next.span)),
+            (None, None) => return Ok(()),
         };
-        let next = all.get(index.saturating_add(1)).copied();
-        let Some(assignment) = all.get(index).copied() else {
-            return Ok(());
-        };
-        if before.is_none() && next.is_none() {
-            return Ok(());
-        }
-        let group = self.group(self.targets(&[assignment]), 0);
-        let place = with_sign(before, assignment, next);
-        let edit = Edit::Replaced(place, Replacement::Text(""));
-        self.add(site, assignment.span, edit, group)
+        let edit = Edit::Replaced(piece, Replacement::Text(""));
+        self.add(assignment.span, edit, group)
     }
 
-    /// Adds that an assignment and the one before it are exchanged, and that the step is cut between them.
-    fn part_assignments(
+    /// Adds that two assignments of a step are exchanged, where one reads or writes a word that the other one writes.
+    fn exchange_assignments(
         &mut self,
-        site: Site,
-        guard: Option<usize>,
+        first: Assignment,
+        second: Assignment,
         all: &[Assignment],
-        index: usize,
     ) -> Result<(), AllocError> {
-        let Some(last) = index.checked_sub(1) else {
+        let words = self.words;
+        let (target, other) = (words.bits_of(first.target), words.bits_of(second.target));
+        let (value, read) = (words.bits_of(first.value), words.bits_of(second.value));
+        if target & (other | read) == 0 && other & value == 0 {
             return Ok(());
-        };
-        let (Some(first), Some(second)) = (all.get(last).copied(), all.get(index).copied()) else {
-            return Ok(());
-        };
-        if self.depend(first, second) {
-            let group = self.group(self.targets(all), 0);
-            let edit = Edit::Exchanged(first.span, second.span);
-            self.add(site, first.span, edit, group)?;
         }
-        let tested = guard.map_or(0, |test| self.words.bits_of(test));
-        let before = self.targets(all.get(..index).unwrap_or(&[])) | tested;
-        let behind = self.targets(all.get(index..).unwrap_or(&[]));
-        let group = self.group(before, behind);
-        self.add(site, second.span, Edit::Cut(gap(first, second)), group)
-    }
-
-    /// Whether one of two assignments reads or writes a word that the other one writes.
-    fn depend(&self, first: Assignment, second: Assignment) -> bool {
-        let targets = (
-            self.words.bits_of(first.target),
-            self.words.bits_of(second.target),
-        );
-        let values = (
-            self.words.bits_of(first.value),
-            self.words.bits_of(second.value),
-        );
-        targets.0 & (targets.1 | values.1) != 0 || targets.1 & values.0 != 0
+        let group = self.group(self.targets(all), 0);
+        let edit = Edit::Exchanged(first.span, second.span);
+        self.add(first.span, edit, group)
     }
 }

@@ -1,9 +1,8 @@
 //! Which words an outline's formulas and statements name, as bits: a family is one word, by its place among the declarations.
 
 use crate::blocks::is_wait;
-use rg_outline_text::Span;
-use rg_outline_tree::{
-    Clause, Expression, ExpressionKind, Head, HeadKind, Item, ItemKind, Written,
+use rg_outline_syntax::{
+    Clause, Expression, ExpressionKind, HeadKind, Item, ItemKind, List, Span, Written,
 };
 use std::alloc::{AllocError, Global};
 
@@ -43,7 +42,7 @@ pub(crate) fn is_within(place: Span, whole: Span) -> bool {
 }
 
 /// The test of a statement, as an expression.
-pub(crate) fn test_of(item: Item) -> Option<usize> {
+fn test_of(item: Item) -> Option<usize> {
     match item.kind {
         ItemKind::If { test, .. } | ItemKind::While { test, .. } | ItemKind::Await(test, _) => {
             Some(test)
@@ -70,23 +69,22 @@ impl<'a> Words<'a> {
             spoken: 0,
         };
         words.name_trees()?;
-        words.specified = words.specification();
+        let promises = [Clause::Rely, Clause::Guar, Clause::Post];
+        words.specified = words.claimed(written.following_words, &promises);
         words.firm = words.depended(words.specified | words.tests(false));
         words.read = words.depended(words.firm | words.tests(true));
-        words.spoken = words.depended(words.read | words.asserted() | words.claimed());
+        words.spoken = words.depended(words.read | words.asserted());
         Ok(words)
     }
 
-    /// Keeps the words of each name for a tree; a name is used behind its `let` alone.
+    /// Keeps the words of each name for a tree; a name is used after its `let` alone.
     fn name_trees(&mut self) -> Result<(), AllocError> {
         let written = self.written;
         for head in &written.heads {
             if let HeadKind::Let(named) = head.kind {
+                let name = named.name;
                 let bits = self.bits_of(named.body);
-                self.trees.push(NamedTree {
-                    name: named.name,
-                    bits,
-                })?;
+                self.trees.push(NamedTree { name, bits })?;
             }
         }
         Ok(())
@@ -94,19 +92,12 @@ impl<'a> Words<'a> {
 
     /// The place of an expression; an empty one where there is none.
     pub(crate) fn place(&self, expression: usize) -> Span {
-        match self.written.expression(expression) {
-            Some(found) => found.span,
-            None => Span { start: 0, end: 0 },
-        }
-    }
-
-    /// Whether a name is that of a word.
-    pub(crate) fn is_word(&self, name: Span) -> bool {
-        self.declared(name) != 0
+        let found = self.written.expression(expression);
+        found.map_or(Span { start: 0, end: 0 }, |found| found.span)
     }
 
     /// The word of a name, if it is one's.
-    fn declared(&self, name: Span) -> u64 {
+    pub(crate) fn declared(&self, name: Span) -> u64 {
         for (index, declaration) in self.written.declarations.iter().enumerate() {
             if declaration.name.of(self.source) == name.of(self.source) {
                 return bit_of(index);
@@ -115,9 +106,14 @@ impl<'a> Words<'a> {
         0
     }
 
-    /// The words of a name for a tree, if it is one's.
-    fn in_tree(&self, name: Span) -> u64 {
-        let mut bits = 0;
+    /// The words that an expression names itself: the word of a name, and those of the tree for which the name stands.
+    fn named_by(&self, expression: Expression) -> u64 {
+        let name = match expression.kind {
+            ExpressionKind::Name { name, .. } => name,
+            ExpressionKind::UnchangedBut(_) => return u64::MAX,
+            _ => return 0,
+        };
+        let mut bits = self.declared(name);
         for tree in &self.trees {
             if tree.name.of(self.source) == name.of(self.source) {
                 bits |= tree.bits;
@@ -126,17 +122,9 @@ impl<'a> Words<'a> {
         bits
     }
 
-    /// The words that an expression names itself.
-    fn named_by(&self, expression: Expression) -> u64 {
-        match expression.kind {
-            ExpressionKind::Name { name, .. } => self.declared(name) | self.in_tree(name),
-            ExpressionKind::UnchangedBut(_) => u64::MAX,
-            _ => 0,
-        }
-    }
-
-    /// The words that are named within a place.
-    pub(crate) fn bits_in(&self, place: Span) -> u64 {
+    /// The words that an expression names, with all in it.
+    pub(crate) fn bits_of(&self, expression: usize) -> u64 {
+        let place = self.place(expression);
         let mut bits = 0;
         for expression in &self.written.expressions {
             if is_within(expression.span, place) {
@@ -146,28 +134,17 @@ impl<'a> Words<'a> {
         bits
     }
 
-    /// The words that an expression names, with all in it.
-    pub(crate) fn bits_of(&self, expression: usize) -> u64 {
-        self.bits_in(self.place(expression))
-    }
-
-    /// The words of the program's rely, guar and post.
-    fn specification(&self) -> u64 {
+    /// The words of the clauses of these kinds among heads.
+    fn claimed(&self, heads: List, kinds: &[Clause]) -> u64 {
         let mut bits = 0;
-        for head in self.written.heads(self.written.behind_words) {
-            bits |= self.promised(*head);
+        for head in self.written.heads(heads) {
+            if let HeadKind::Clause(clause, formula) = head.kind
+                && kinds.contains(&clause)
+            {
+                bits |= self.bits_of(formula);
+            }
         }
         bits
-    }
-
-    /// The words of a clause, where it is a rely, guar or post.
-    fn promised(&self, head: Head) -> u64 {
-        match head.kind {
-            HeadKind::Clause(Clause::Rely | Clause::Guar | Clause::Post, formula) => {
-                self.bits_of(formula)
-            }
-            _ => 0,
-        }
     }
 
     /// The words of the tests, those of waits or the others.
@@ -183,9 +160,15 @@ impl<'a> Words<'a> {
         bits
     }
 
-    /// The words of the assertions between statements, and of the invariants of loops.
+    /// The words of the assertions between statements, of the invariants of loops, and of all clauses but the program's pre, which names nearly every
+    /// word.
     fn asserted(&self) -> u64 {
-        let mut bits = 0;
+        let steps = [Clause::Rely, Clause::Guar, Clause::Post, Clause::Invariant];
+        let mut bits = self.claimed(self.written.following_words, &steps);
+        for part in &self.written.parts {
+            let parts = [Clause::Pre, Clause::Rely, Clause::Guar, Clause::Post];
+            bits |= self.claimed(part.heads, &parts);
+        }
         for item in &self.written.items {
             match item.kind {
                 ItemKind::Assertion(formula)
@@ -197,28 +180,6 @@ impl<'a> Words<'a> {
             }
         }
         bits
-    }
-
-    /// The words of all clauses but the program's pre, which names nearly every word.
-    fn claimed(&self) -> u64 {
-        let mut bits = 0;
-        for part in &self.written.parts {
-            for head in self.written.heads(part.heads) {
-                bits |= self.in_clause(*head, Clause::Invariant);
-            }
-        }
-        for head in self.written.heads(self.written.behind_words) {
-            bits |= self.in_clause(*head, Clause::Pre);
-        }
-        bits
-    }
-
-    /// The words of a clause, where it isn't of this kind.
-    fn in_clause(&self, head: Head, without: Clause) -> u64 {
-        match head.kind {
-            HeadKind::Clause(clause, formula) if clause != without => self.bits_of(formula),
-            _ => 0,
-        }
     }
 
     /// The names of the words of which nothing is said: no test, assertion or specification depends on them.

@@ -1,124 +1,86 @@
 //! Reports as JSON, one value a line.
 
 use crate::made::{JsonList, JsonObject, push_json_line, text_value};
-use crate::reports::{Cause, Moved, Report, Reports, Said, Valued};
+use crate::reports::{Cause, Detail, Moved, Report, Said};
 use crate::subject::Subject;
-use rg_outline_text::Span;
+use rg_outline_syntax::Span;
 use serde_json::Value;
 use std::alloc::{AllocError, Global};
 
 /// What kind of report it is.
-fn kind_of(cause: Cause) -> &'static str {
+fn kind_of(cause: Cause) -> &'static [u8] {
     match cause {
-        Cause::Unproved => "unproved",
-        Cause::Warned(_) => "warning",
-        _ => "false",
+        Cause::Unproved => b"unproved",
+        Cause::Warned(_) => b"warning",
+        _ => b"false",
     }
 }
 
 /// Of what a report's values are.
-fn values_kind(moved: Moved) -> &'static str {
+fn values_kind(moved: Moved) -> &'static [u8] {
     match moved {
-        Moved::Nothing => "nothing",
-        Moved::State => "state",
-        Moved::Step => "step",
-        Moved::StepOfOthers => "step of others",
+        Moved::Nothing => b"nothing",
+        Moved::State => b"state",
+        Moved::Step => b"step",
+        Moved::StepOfOthers => b"step of others",
     }
 }
 
-/// A name within which a conjunct stands.
-fn name_value(alloc: Global, name: &[u8], line: u64) -> Result<Value, AllocError> {
+/// A detail: its text, and of a name also the line of what it names.
+fn detail_value(alloc: Global, detail: &Detail) -> Result<Value, AllocError> {
+    if detail.said != Said::Name {
+        return text_value(alloc, &detail.text);
+    }
     let mut object = JsonObject::new(alloc);
-    object.put_text("name", name);
-    object.put_count("line", line);
+    object.put_text("name", &detail.text);
+    object.put_count("line", detail.line);
     object.value()
 }
 
-/// The text of a place, as a value.
-fn value_at(alloc: Global, reports: &Reports, place: usize) -> Result<Value, AllocError> {
-    let text = reports.texts.at(place);
-    match reports.said_at(place) {
-        Said::Name(line) => name_value(alloc, text, line),
-        _ => text_value(alloc, text),
-    }
-}
-
-/// Whether two texts say the same of a report.
-fn is_alike(first: Said, second: Said) -> bool {
-    matches!(
-        (first, second),
-        (Said::Premise, Said::Premise) | (Said::Name(_), Said::Name(_)) | (Said::Hint, Said::Hint)
-    )
-}
-
-/// The texts of a report that say this, as a list.
-fn texts_value(
-    alloc: Global,
-    reports: &Reports,
-    index: usize,
-    said: Said,
-) -> Result<Value, AllocError> {
+/// The details that are of this kind, as a list.
+fn details_value(alloc: Global, details: &[Detail], said: Said) -> Result<Value, AllocError> {
     let mut list = JsonList::new(alloc);
-    let (start, end) = reports.texts_of(index);
-    for place in start..end {
-        if is_alike(reports.said_at(place), said) {
-            list.put(value_at(alloc, reports, place));
+    for detail in details {
+        if detail.said == said {
+            list.put(detail_value(alloc, detail));
         }
     }
     list.value()
 }
 
-/// The text of a report that says this; null where there is none.
-fn one_value(
-    alloc: Global,
-    reports: &Reports,
-    index: usize,
-    said: Said,
-) -> Result<Value, AllocError> {
-    let (start, end) = reports.texts_of(index);
-    for place in start..end {
-        if reports.said_at(place) == said {
-            return text_value(alloc, reports.texts.at(place));
-        }
+/// The conjunct that is false; null where there is none.
+fn conjunct_value(alloc: Global, details: &[Detail]) -> Result<Value, AllocError> {
+    match details.iter().find(|detail| detail.said == Said::Conjunct) {
+        Some(detail) => text_value(alloc, &detail.text),
+        None => Ok(Value::Null),
     }
-    Ok(Value::Null)
+}
+
+/// Puts the conjunct that is false, the premises that hold, and the names within which it stands.
+pub(crate) fn put_details(object: &mut JsonObject, alloc: Global, details: &[Detail]) {
+    object.put("conjunct", conjunct_value(alloc, details));
+    object.put("premises", details_value(alloc, details, Said::Premise));
+    object.put("within", details_value(alloc, details, Said::Name));
 }
 
 /// The parts that meet a cause, as a list.
-fn parts_value(
-    alloc: Global,
-    reports: &Reports,
-    subject: Subject<'_>,
-    index: usize,
-) -> Result<Value, AllocError> {
+fn parts_value(alloc: Global, report: &Report, subject: Subject<'_>) -> Result<Value, AllocError> {
     let mut list = JsonList::new(alloc);
-    for (of, part) in &reports.parts {
-        if *of == index {
-            list.put(text_value(alloc, subject.parts.at(*part)));
-        }
+    for part in &report.parts {
+        list.put(text_value(alloc, subject.parts.at(*part)));
     }
     list.value()
 }
 
-/// A word with its values.
-fn word_value(alloc: Global, subject: Subject<'_>, valued: Valued) -> Result<Value, AllocError> {
-    let mut object = JsonObject::new(alloc);
-    object.put_text("word", subject.words.at(valued.word));
-    object.put_count("before", valued.before);
-    object.put_count("after", valued.after);
-    object.value()
-}
-
 /// The words of a report with their values, as a list.
-fn words_value(
-    alloc: Global,
-    reports: &Reports,
-    subject: Subject<'_>,
-    index: usize,
-) -> Result<Value, AllocError> {
+fn words_value(alloc: Global, report: &Report, subject: Subject<'_>) -> Result<Value, AllocError> {
     let mut list = JsonList::new(alloc);
-    for valued in reports.values_of(index) {
-        list.put(word_value(alloc, subject, *valued));
+    for valued in &report.values {
+        let mut object = JsonObject::new(alloc);
+        object.put_text("word", subject.words.at(valued.word));
+        object.put_count("before", valued.before);
+        object.put_count("after", valued.after);
+        list.put(object.value());
     }
     list.value()
 }
@@ -131,85 +93,31 @@ fn put_place(object: &mut JsonObject, subject: Subject<'_>, place: Span) {
     object.put_count("column", position.column as u64);
 }
 
-/// Puts where a report is, and what is wrong.
-fn put_head(
-    object: &mut JsonObject,
-    alloc: Global,
-    reports: &Reports,
-    subject: Subject<'_>,
-    index: usize,
-    report: Report,
-) {
-    object.put_text("kind", kind_of(report.key.cause).as_bytes());
-    put_place(object, subject, report.place);
-    object.put("parts", parts_value(alloc, reports, subject, index));
-    object.put("sentence", one_value(alloc, reports, index, Said::Sentence));
-    object.put_text("values", values_kind(report.moved).as_bytes());
-}
-
-/// Puts what is told of a report besides.
-fn put_details(
-    object: &mut JsonObject,
-    alloc: Global,
-    reports: &Reports,
-    subject: Subject<'_>,
-    index: usize,
-) {
-    object.put("conjunct", one_value(alloc, reports, index, Said::Conjunct));
-    object.put(
-        "premises",
-        texts_value(alloc, reports, index, Said::Premise),
-    );
-    object.put("within", texts_value(alloc, reports, index, Said::Name(0)));
-    object.put("words", words_value(alloc, reports, subject, index));
-    object.put("hints", texts_value(alloc, reports, index, Said::Hint));
-}
-
-/// Adds a report as a line.
-fn push_report(
+/// Adds a report.
+///
+/// # Errors
+///
+/// `AllocError` where memory is refused; the text is then of no use. So it is of the calls below.
+pub(crate) fn push_json(
     text: &mut Vec<u8>,
     alloc: Global,
-    reports: &Reports,
+    report: &Report,
     subject: Subject<'_>,
-    index: usize,
 ) -> Result<(), AllocError> {
-    let Some(report) = reports.report(index) else {
-        return Ok(());
-    };
     let mut object = JsonObject::new(alloc);
-    put_head(&mut object, alloc, reports, subject, index, report);
-    put_details(&mut object, alloc, reports, subject, index);
+    object.put_text("kind", kind_of(report.key.cause));
+    put_place(&mut object, subject, report.place);
+    object.put("parts", parts_value(alloc, report, subject));
+    object.put_text("sentence", &report.sentence);
+    object.put_text("values", values_kind(report.moved));
+    put_details(&mut object, alloc, &report.details);
+    object.put("words", words_value(alloc, report, subject));
+    object.put("hints", details_value(alloc, &report.details, Said::Hint));
     push_json_line(text, alloc, object.value())
 }
 
-/// Adds all reports, in the order of their places, each as one JSON value in a line of its own.
-///
-/// # Errors
-///
-/// `AllocError` where memory is refused; the text is then of no use.
-pub fn push_json(
-    text: &mut Vec<u8>,
-    alloc: Global,
-    reports: &Reports,
-    subject: Subject<'_>,
-) -> Result<(), AllocError> {
-    let mut last = None;
-    for _ in 0..reports.len() {
-        let Some((place, index)) = reports.next(last) else {
-            break;
-        };
-        push_report(text, alloc, reports, subject, index)?;
-        last = Some((place, index));
-    }
-    Ok(())
-}
-
 /// Adds the first fault of an outline that is refused, as one JSON value in a line of its own.
-///
-/// # Errors
-///
-/// As `push_json`.
-pub fn push_json_of_fault(
+pub(crate) fn push_json_of_fault(
     text: &mut Vec<u8>,
     alloc: Global,
     subject: Subject<'_>,
@@ -224,11 +132,7 @@ pub fn push_json_of_fault(
 }
 
 /// Adds how many conditions aren't true and how many have no proof, as one JSON value in a line of its own.
-///
-/// # Errors
-///
-/// As `push_json`.
-pub fn push_json_of_verdict(
+pub(crate) fn push_json_of_verdict(
     text: &mut Vec<u8>,
     alloc: Global,
     file: &[u8],

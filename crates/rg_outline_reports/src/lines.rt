@@ -1,152 +1,104 @@
 //! Reports as lines.
 
-use crate::reports::{Cause, Moved, Reports, Said, Valued};
-use crate::subject::{Subject, push_position};
-use rg_outline_text::{Span, push_carets, push_count};
+use crate::files::Format;
+use crate::json::push_json;
+use crate::reports::{Cause, Detail, Moved, Report, Reports, Said, Valued};
+use crate::subject::Subject;
+use rg_outline_syntax::{push_carets, push_count};
 use std::alloc::AllocError;
 
-/// Adds all reports, in the order of their places, with an empty line between two.
-///
-/// # Errors
-///
-/// `AllocError` where memory is refused; the text is then of no use.
-pub fn push_lines(
+/// Adds all reports, in the order of their places: as lines with an empty line between two, or each as a JSON value in a line of its own.
+pub(crate) fn push_reports(
     text: &mut Vec<u8>,
+    format: Format,
     reports: &Reports,
     subject: Subject<'_>,
 ) -> Result<(), AllocError> {
-    let mut last = None;
-    for _ in 0..reports.len() {
-        let Some((place, index)) = reports.next(last) else {
-            break;
-        };
-        if last.is_some() {
-            text.push(b'\n')?;
+    let ordered = reports.ordered()?;
+    let mut between: &[u8] = b"";
+    for report in &ordered {
+        match format {
+            Format::Plain => {
+                text.extend_from_slice(between)?;
+                push_report(text, *report, subject)?;
+                between = b"\n";
+            }
+            Format::Json => push_json(text, reports.alloc, *report, subject)?,
         }
-        push_report(text, reports, subject, (place, index))?;
-        last = Some((place, index));
     }
     Ok(())
 }
 
 /// Adds the first line of each report, in the order in which they were made.
-///
-/// # Errors
-///
-/// As `push_lines`.
-pub fn push_rows_alone(
+pub(crate) fn push_rows_alone(
     text: &mut Vec<u8>,
     reports: &Reports,
     subject: Subject<'_>,
 ) -> Result<(), AllocError> {
-    for index in 0..reports.len() {
-        if let Some(report) = reports.report(index) {
-            push_position(text, subject, report.place)?;
-            push_sentence(text, reports, index)?;
-            text.push(b'\n')?;
-        }
+    for report in &reports.listed {
+        subject.push_position(text, report.place)?;
+        text.extend_from_slice(&report.sentence)?;
+        text.push(b'\n')?;
     }
     Ok(())
 }
 
-/// Adds a report: its place and its parts with what is wrong, the line, and what is told besides.
+/// Adds a report: its place and its parts with what is wrong, the line, and what is said besides.
 fn push_report(
     text: &mut Vec<u8>,
-    reports: &Reports,
+    report: &Report,
     subject: Subject<'_>,
-    (place, index): (Span, usize),
 ) -> Result<(), AllocError> {
-    push_position(text, subject, place)?;
-    push_warning(text, reports, index)?;
-    push_first_part(text, reports, subject, index)?;
-    push_sentence(text, reports, index)?;
-    push_other_parts(text, reports, subject, index)?;
-    text.push(b'\n')?;
-    push_carets(text, subject.source, place)?;
-    push_falsity(text, reports, index)?;
-    push_values(text, reports, subject, index)?;
-    push_hints(text, reports, index)
-}
-
-/// Adds that a report is a warning, where it is one.
-fn push_warning(text: &mut Vec<u8>, reports: &Reports, index: usize) -> Result<(), AllocError> {
-    if let Some(report) = reports.report(index)
-        && matches!(report.key.cause, Cause::Warned(_))
-    {
+    subject.push_position(text, report.place)?;
+    if matches!(report.key.cause, Cause::Warned(_)) {
         text.extend_from_slice(b"warning: ")?;
     }
-    Ok(())
+    push_parts(text, report, subject)?;
+    text.push(b'\n')?;
+    push_carets(text, subject.source, report.place)?;
+    push_details(text, &report.details)?;
+    push_values(text, report, subject)?;
+    push_hints(text, &report.details)
 }
 
-/// Adds what is wrong.
-fn push_sentence(text: &mut Vec<u8>, reports: &Reports, index: usize) -> Result<(), AllocError> {
-    let (first, _) = reports.texts_of(index);
-    text.extend_from_slice(reports.texts.at(first))?;
-    Ok(())
-}
-
-/// Adds the name of the first part that meets a cause.
-fn push_first_part(
-    text: &mut Vec<u8>,
-    reports: &Reports,
-    subject: Subject<'_>,
-    index: usize,
-) -> Result<(), AllocError> {
-    for (of, part) in &reports.parts {
-        if *of == index {
-            text.extend_from_slice(subject.parts.at(*part))?;
-            text.extend_from_slice(b": ")?;
-            return Ok(());
-        }
+/// Adds what is wrong, with the first part that meets the cause before it, and the others after it.
+fn push_parts(text: &mut Vec<u8>, report: &Report, subject: Subject<'_>) -> Result<(), AllocError> {
+    if let Some(first) = report.parts.first() {
+        text.extend_from_slice(subject.parts.at(*first))?;
+        text.extend_from_slice(b": ")?;
     }
-    Ok(())
-}
-
-/// Adds the names of the other parts that meet a cause.
-fn push_other_parts(
-    text: &mut Vec<u8>,
-    reports: &Reports,
-    subject: Subject<'_>,
-    index: usize,
-) -> Result<(), AllocError> {
-    let mut count = 0u64;
-    for (of, part) in &reports.parts {
-        if *of == index {
-            count = count.saturating_add(1);
-            if count > 1 {
-                let before: &[u8] = if count == 2 { b" (so for " } else { b", " };
-                text.extend_from_slice(before)?;
-                text.extend_from_slice(subject.parts.at(*part))?;
-            }
-        }
+    text.extend_from_slice(&report.sentence)?;
+    let mut before: &[u8] = b" (so for ";
+    for part in report.parts.iter().skip(1) {
+        text.extend_from_slice(before)?;
+        text.extend_from_slice(subject.parts.at(*part))?;
+        before = b", ";
     }
-    if count > 1 {
+    if report.parts.len() > 1 {
         text.push(b')')?;
     }
     Ok(())
 }
 
-/// Adds rows that tell the conjunct that is false, the premises that hold, and the names within which it stands.
-fn push_falsity(text: &mut Vec<u8>, reports: &Reports, index: usize) -> Result<(), AllocError> {
-    let (start, end) = reports.texts_of(index);
+/// Adds rows with the conjunct that is false, the premises that hold, and the names within which it stands.
+pub(crate) fn push_details(text: &mut Vec<u8>, details: &[Detail]) -> Result<(), AllocError> {
     let mut premise: &[u8] = b"   where ";
     let mut name: &[u8] = b"\n    it stands in ";
     let mut is_any = false;
-    for place in start..end {
-        let said = reports.said_at(place);
-        let before = match said {
+    for detail in details {
+        let before = match detail.said {
             Said::Conjunct => b"    false: ",
             Said::Premise => premise,
-            Said::Name(_) => name,
-            Said::Sentence | Said::Hint => continue,
+            Said::Name => name,
+            Said::Hint => continue,
         };
         text.extend_from_slice(before)?;
-        text.extend_from_slice(reports.texts.at(place))?;
+        text.extend_from_slice(&detail.text)?;
         is_any = true;
-        match said {
+        match detail.said {
             Said::Premise => premise = b" and ",
-            Said::Name(line) => {
-                push_line(text, line)?;
+            Said::Name => {
+                push_line(text, detail.line)?;
                 name = b", in ";
             }
             _ => {}
@@ -159,50 +111,44 @@ fn push_falsity(text: &mut Vec<u8>, reports: &Reports, index: usize) -> Result<(
 }
 
 /// Adds a line of the outline.
-fn push_line(text: &mut Vec<u8>, line: u64) -> Result<(), AllocError> {
+pub(crate) fn push_line(text: &mut Vec<u8>, line: u64) -> Result<(), AllocError> {
     text.extend_from_slice(b" (line ")?;
     push_count(text, line)?;
     text.push(b')')?;
     Ok(())
 }
 
-/// What stands before the values of a report.
-fn title(moved: Moved) -> &'static [u8] {
-    match moved {
-        Moved::Nothing => b"",
-        Moved::State => b"    state: ",
-        Moved::Step => b"    step:  ",
-        Moved::StepOfOthers => b"    a step of others:  ",
-    }
-}
-
 /// Adds the words with their values, and with those after where they differ.
 fn push_values(
     text: &mut Vec<u8>,
-    reports: &Reports,
+    report: &Report,
     subject: Subject<'_>,
-    index: usize,
 ) -> Result<(), AllocError> {
-    let moved = reports
-        .report(index)
-        .map_or(Moved::Nothing, |report| report.moved);
-    if moved == Moved::Nothing {
-        return Ok(());
+    let mut before: &[u8] = match report.moved {
+        Moved::Nothing => return Ok(()),
+        Moved::State => b"    state: ",
+        Moved::Step => b"    step:  ",
+        Moved::StepOfOthers => b"    a step of others:  ",
+    };
+    for valued in &report.values {
+        text.extend_from_slice(before)?;
+        push_value(text, subject.words.at(valued.word), *valued)?;
+        before = b", ";
     }
-    text.extend_from_slice(title(moved))?;
-    let mut between: &[u8] = b"";
-    for valued in reports.values_of(index) {
-        text.extend_from_slice(between)?;
-        push_value(text, subject, *valued)?;
-        between = b", ";
+    if report.values.is_empty() {
+        text.extend_from_slice(before)?;
     }
     text.push(b'\n')?;
     Ok(())
 }
 
 /// Adds a word with its value, and with that after where it differs.
-fn push_value(text: &mut Vec<u8>, subject: Subject<'_>, valued: Valued) -> Result<(), AllocError> {
-    text.extend_from_slice(subject.words.at(valued.word))?;
+pub(crate) fn push_value(
+    text: &mut Vec<u8>,
+    word: &[u8],
+    valued: Valued,
+) -> Result<(), AllocError> {
+    text.extend_from_slice(word)?;
     text.extend_from_slice(b" = ")?;
     push_count(text, valued.before)?;
     if valued.after != valued.before {
@@ -213,12 +159,11 @@ fn push_value(text: &mut Vec<u8>, subject: Subject<'_>, valued: Valued) -> Resul
 }
 
 /// Adds what would help, a row each.
-fn push_hints(text: &mut Vec<u8>, reports: &Reports, index: usize) -> Result<(), AllocError> {
-    let (start, end) = reports.texts_of(index);
-    for place in start..end {
-        if reports.said_at(place) == Said::Hint {
+fn push_hints(text: &mut Vec<u8>, details: &[Detail]) -> Result<(), AllocError> {
+    for detail in details {
+        if detail.said == Said::Hint {
             text.extend_from_slice(b"    ")?;
-            text.extend_from_slice(reports.texts.at(place))?;
+            text.extend_from_slice(&detail.text)?;
             text.push(b'\n')?;
         }
     }

@@ -4,17 +4,13 @@ use serde_json::{Map, Value};
 use std::alloc::{AllocError, Global};
 
 /// A text, with what is no UTF-8 replaced.
-///
-/// # Errors
-///
-/// `AllocError` where memory is refused.
-pub fn text_value(alloc: Global, text: &[u8]) -> Result<Value, AllocError> {
+pub(crate) fn text_value(alloc: Global, text: &[u8]) -> Result<Value, AllocError> {
     Ok(Value::String(String::from_utf8_lossy(alloc, text)?))
 }
 
 /// A JSON object that is being made.
 #[derive(Drop)]
-pub struct JsonObject {
+pub(crate) struct JsonObject {
     alloc: Global,
     members: Map<String, Value>,
     is_short: bool,
@@ -22,7 +18,7 @@ pub struct JsonObject {
 
 impl JsonObject {
     /// An object without members.
-    pub fn new(alloc: Global) -> Self {
+    pub(crate) fn new(alloc: Global) -> Self {
         JsonObject {
             alloc,
             members: Map::new(alloc),
@@ -30,18 +26,11 @@ impl JsonObject {
         }
     }
 
-    /// Adds a member.
-    fn insert(&mut self, key: &str, value: Value) -> Result<(), AllocError> {
-        let key = String::from_str(self.alloc, key)?;
-        self.members.insert(key, value)?;
-        Ok(())
-    }
-
     /// Adds a member, or notes that memory was refused.
-    pub fn put(&mut self, key: &str, value: Result<Value, AllocError>) {
-        let is_put = match value {
-            Ok(value) => self.insert(key, value).is_ok(),
-            Err(_) => false,
+    pub(crate) fn put(&mut self, key: &str, value: Result<Value, AllocError>) {
+        let is_put = match (String::from_str(self.alloc, key), value) {
+            (Ok(key), Ok(value)) => self.members.insert(key, value).is_ok(),
+            _ => false,
         };
         if !is_put {
             self.is_short = true;
@@ -49,26 +38,22 @@ impl JsonObject {
     }
 
     /// Adds a text.
-    pub fn put_text(&mut self, key: &str, text: &[u8]) {
+    pub(crate) fn put_text(&mut self, key: &str, text: &[u8]) {
         self.put(key, text_value(self.alloc, text));
     }
 
     /// Adds a number.
-    pub fn put_count(&mut self, key: &str, count: u64) {
+    pub(crate) fn put_count(&mut self, key: &str, count: u64) {
         self.put(key, Ok(Value::from(count)));
     }
 
     /// Adds `true` or `false`.
-    pub fn put_flag(&mut self, key: &str, flag: bool) {
+    pub(crate) fn put_flag(&mut self, key: &str, flag: bool) {
         self.put(key, Ok(Value::from(flag)));
     }
 
-    /// The object with all its members.
-    ///
-    /// # Errors
-    ///
-    /// `AllocError` where memory was refused for one of them.
-    pub fn value(self) -> Result<Value, AllocError> {
+    /// The object with all its members; an error where memory was refused for one of them.
+    pub(crate) fn value(self) -> Result<Value, AllocError> {
         if self.is_short {
             return Err(AllocError);
         }
@@ -78,14 +63,14 @@ impl JsonObject {
 
 /// A JSON list that is being made.
 #[derive(Drop)]
-pub struct JsonList {
+pub(crate) struct JsonList {
     items: Vec<Value>,
     is_short: bool,
 }
 
 impl JsonList {
     /// A list without items.
-    pub fn new(alloc: Global) -> Self {
+    pub(crate) fn new(alloc: Global) -> Self {
         JsonList {
             items: Vec::new(alloc),
             is_short: false,
@@ -93,7 +78,7 @@ impl JsonList {
     }
 
     /// Adds an item, or notes that memory was refused.
-    pub fn put(&mut self, item: Result<Value, AllocError>) {
+    pub(crate) fn put(&mut self, item: Result<Value, AllocError>) {
         let is_put = match item {
             Ok(item) => self.items.push(item).is_ok(),
             Err(_) => false,
@@ -103,12 +88,8 @@ impl JsonList {
         }
     }
 
-    /// The list with all its items.
-    ///
-    /// # Errors
-    ///
-    /// `AllocError` where memory was refused for one of them.
-    pub fn value(self) -> Result<Value, AllocError> {
+    /// The list with all its items; an error where memory was refused for one of them.
+    pub(crate) fn value(self) -> Result<Value, AllocError> {
         if self.is_short {
             return Err(AllocError);
         }
@@ -116,12 +97,8 @@ impl JsonList {
     }
 }
 
-/// Adds a value as a line, where there is one.
-///
-/// # Errors
-///
-/// `AllocError` where there is none, or memory is refused; the text is then of no use.
-pub fn push_json_line(
+/// Adds a value as a line; an error where there is none.
+pub(crate) fn push_json_line(
     text: &mut Vec<u8>,
     alloc: Global,
     value: Result<Value, AllocError>,

@@ -1,35 +1,40 @@
 //! What reports are about.
 
-use rg_outline_text::{Span, Texts, push_count};
+use rg_outline::Expansion;
+use rg_outline_syntax::{Span, Texts, push_count};
 use std::alloc::AllocError;
 
 /// An outline with the names that reports may give.
 #[derive(Clone, Copy)]
-pub struct Subject<'a> {
+pub(crate) struct Subject<'a> {
     /// The outline's file, as places name it.
-    pub file: &'a [u8],
-    pub source: &'a [u8],
+    pub(crate) file: &'a [u8],
+    pub(crate) source: &'a [u8],
     /// The words, as the outline writes them.
-    pub words: &'a Texts,
-    pub parts: &'a Texts,
+    pub(crate) words: &'a Texts,
+    pub(crate) parts: &'a Texts,
 }
 
-/// Adds the file with the line and the column of a place.
-///
-/// # Errors
-///
-/// `AllocError` where memory is refused.
-pub fn push_position(
-    text: &mut Vec<u8>,
-    subject: Subject<'_>,
-    place: Span,
-) -> Result<(), AllocError> {
-    let position = place.position(subject.source);
-    text.extend_from_slice(subject.file)?;
-    text.push(b':')?;
+impl Subject<'_> {
+    /// Adds the file with the line and the column of a place.
+    pub(crate) fn push_position(self, text: &mut Vec<u8>, place: Span) -> Result<(), AllocError> {
+        text.extend_from_slice(self.file)?;
+        text.push(b':')?;
+        push_place(text, self.source, place)?;
+        text.extend_from_slice(b": ")?;
+        Ok(())
+    }
+}
+
+/// Adds the line and the column of a place.
+pub(crate) fn push_place(text: &mut Vec<u8>, source: &[u8], place: Span) -> Result<(), AllocError> {
+    let position = place.position(source);
     push_count(text, position.line as u64)?;
     text.push(b':')?;
-    push_count(text, position.column as u64)?;
-    text.extend_from_slice(b": ")?;
-    Ok(())
+    push_count(text, position.column as u64)
+}
+
+/// The line of a place, from 1.
+pub(crate) fn line_of(expansion: &Expansion<'_>, span: Span) -> u64 {
+    span.position(expansion.scope.source).line as u64
 }

@@ -166,7 +166,7 @@ fn add_post(
 
 /// Adds the conditions in their order. Where memory is refused, some may have been added.
 fn add_all(alloc: Global, all: &mut Vec<Condition>, program: &Program) -> Result<(), AllocError>
-    // Exactly the rule's list, behind what was there.
+    // Exactly the rule's list, after what was there.
     ensures { OnOk result (map condition_tree all.new.items ≡ map condition_tree all.old.items ++ map (as_condition program.now.layout) (parallel_conditions (specification program.now.spec) (map part program.now.parts.items))) }
 {
     let layout = &program.layout;
@@ -203,7 +203,7 @@ pub fn add_conditions(
     all: &mut Vec<Condition>,
     program: &Program,
 ) -> Result<(), AllocError>
-    // Exactly the rule's list, behind what was there.
+    // Exactly the rule's list, after what was there.
     ensures list { OnOk result (map condition_tree all.new.items ≡ map condition_tree all.old.items ++ map (as_condition program.now.layout) (parallel_conditions (specification program.now.spec) (map part program.now.parts.items))) }
     ensures unchanged { OnErr result (all.new.items ≡ all.old.items) }
 {

@@ -87,7 +87,7 @@ fn add_text(alloc: Global, all: &mut Vec<String>, text: &str) -> Result<(), Allo
 
 /// Adds the names in their order. Where memory is refused, some may have been added.
 fn add_all(alloc: Global, all: &mut Vec<String>, program: &Program) -> Result<(), AllocError>
-    // Exactly these, behind what was there.
+    // Exactly these, after what was there.
     ensures { OnOk result (map string_bytes all.new.items ≡ map string_bytes all.old.items ++ parallel_names (map part program.now.parts.items)) }
 {
     let parts = program.parts.as_slice();
@@ -117,7 +117,7 @@ pub fn names(alloc: Global, program: &Program) -> Result<Vec<String>, AllocError
 ///
 /// Refused only where memory was refused, and then nothing is added.
 pub fn add_names(alloc: Global, all: &mut Vec<String>, program: &Program) -> Result<(), AllocError>
-    // Exactly these, behind what was there.
+    // Exactly these, after what was there.
     ensures list { OnOk result (map string_bytes all.new.items ≡ map string_bytes all.old.items ++ parallel_names (map part program.now.parts.items)) }
     ensures unchanged { OnErr result (all.new.items ≡ all.old.items) }
 {

@@ -18,8 +18,8 @@ use Rattle.rg_shape.specs.declared.shape.ShapeFault.{ShapeFault}
 use Rattle.rg_shape.specs.declared.shape.ShapeFault.TheVariants.{Memory, Unexpected, TooDeep, TooMany, Unfinished}
 use Rattle.rg_syntax.specs.Texts.{program_of}
 use Rattle.rg_syntax.specs.Begun.{AreBegun, program_begun}
-use Rattle.rg_parse.specs.ParseProgram.{IsProgramShapeRefusal, told_fault, told_at, met_before, met_tokens}
-use Rattle.rg_build_programs.proofs.Beginnings.{all_begun}
+use Rattle.rg_parse.specs.ParseProgram.{IsProgramShapeRefusal, reported_fault, reported_at, met_before, met_tokens}
+use Rattle.rg_build.proofs.Beginnings.{all_begun}
 
 met_map : {A B : Type 0} (f : A → B) (xs : List A) (fault : ShapeFault) → map f (met_before xs fault) ≡ met_before (map f xs) fault
 met_map f xs (Unexpected i) = sym (take-map f i xs)
@@ -61,25 +61,25 @@ whole_begins tokens p e = (p, [], sym e ∙ sym (append-nil tokens))
 begins_of : (tokens : List Lexeme) → BeginsWithin texts.Program tokens → BeginsText texts.Program tokens
 begins_of tokens b = (b.0, b.1, b.4)
 
--- the tokens before the fault that is told begin a program
-begins_told : (tokens : List Lexeme) (i : ℕ) (o next : Option Lexeme) → next ≡ slice_get tokens (i + 1) → BeginsText texts.Program (take i tokens) → BeginsText texts.Program (take (i + 1) tokens) → BeginsText texts.Program (met_before tokens (told_at i o next))
-begins_told tokens i (Some (fixed Semicolon)) None e b c = subst (BeginsText texts.Program) (take_all (i + 1) tokens (none_within tokens (i + 1) e)) c
-begins_told tokens i (Some (fixed Semicolon)) (Some (name x)) e b c = c
-begins_told tokens i (Some (fixed Semicolon)) (Some l) e b c = c
-begins_told tokens i o next e b c = b
+-- the tokens before the fault that is reported begin a program
+begins_reported : (tokens : List Lexeme) (i : ℕ) (o next : Option Lexeme) → next ≡ slice_get tokens (i + 1) → BeginsText texts.Program (take i tokens) → BeginsText texts.Program (take (i + 1) tokens) → BeginsText texts.Program (met_before tokens (reported_at i o next))
+begins_reported tokens i (Some (fixed Semicolon)) None e b c = subst (BeginsText texts.Program) (take_all (i + 1) tokens (none_within tokens (i + 1) e)) c
+begins_reported tokens i (Some (fixed Semicolon)) (Some (name x)) e b c = c
+begins_reported tokens i (Some (fixed Semicolon)) (Some l) e b c = c
+begins_reported tokens i o next e b c = b
 
-begins_met : (tokens : List Lexeme) (fault : ShapeFault) → fault ≢ Memory → ShapeIs texts.Program tokens (Err fault) → BeginsText texts.Program (met_before tokens (told_fault tokens fault))
+begins_met : (tokens : List Lexeme) (fault : ShapeFault) → fault ≢ Memory → ShapeIs texts.Program tokens (Err fault) → BeginsText texts.Program (met_before tokens (reported_fault tokens fault))
 begins_met tokens (Unexpected i) known shape = begins_of (take i tokens) shape.1
 begins_met tokens (TooDeep i) known shape = begins_of (take i tokens) shape.1
 begins_met tokens (TooMany i) known shape =
-    begins_told tokens i (slice_get tokens i) (slice_get tokens (i + 1)) refl (begins_of (take i tokens) shape.1) (shape.2.0, shape.2.1, shape.2.3)
+    begins_reported tokens i (slice_get tokens i) (slice_get tokens (i + 1)) refl (begins_of (take i tokens) shape.1) (shape.2.0, shape.2.1, shape.2.3)
 begins_met tokens Unfinished known shape = begins_of tokens shape.0
 begins_met tokens Memory known shape = absurd (known refl)
 
--- a fault of these tokens, the one that is told, and the tokens before that
-module _ (file : SourceFile) (src : List ℕ) (tokens met : List Token) (fault told : ShapeFault) (known : fault ≢ Memory) (shape : ShapeIs texts.Program (map (lexeme_of src) tokens) (Err fault)) (tells : told ≡ told_fault (map (lexeme_of src) tokens) fault) (meets : met ≡ met_before tokens told) where
+-- a fault of these tokens, the one that is reported, and the tokens before that
+module _ (file : SourceFile) (src : List ℕ) (tokens met : List Token) (fault reported : ShapeFault) (known : fault ≢ Memory) (shape : ShapeIs texts.Program (map (lexeme_of src) tokens) (Err fault)) (tells : reported ≡ reported_fault (map (lexeme_of src) tokens) fault) (meets : met ≡ met_before tokens reported) where
   met_is : map (lexeme_of src) met ≡ met_tokens (map (lexeme_of src) tokens) (Err fault)
-  met_is = ap (map (lexeme_of src)) meets ∙ met_map (lexeme_of src) tokens told ∙ ap (met_before (map (lexeme_of src) tokens)) tells
+  met_is = ap (map (lexeme_of src)) meets ∙ met_map (lexeme_of src) tokens reported ∙ ap (met_before (map (lexeme_of src) tokens)) tells
 
   met_begins : BeginsText texts.Program (met_tokens (map (lexeme_of src) tokens) (Err fault))
   met_begins = begins_met (map (lexeme_of src) tokens) fault known shape
@@ -105,7 +105,7 @@ module _ (file : SourceFile) (src : List ℕ) (tokens met : List Token) (fault t
     is = refl;
   }))
 
-  pub fault_first : IsTooMany (map (lexeme_of src) met) None → IsProgramShapeRefusal file src tokens (refusal_of file tokens told)
+  pub fault_first : IsTooMany (map (lexeme_of src) met) None → IsProgramShapeRefusal file src tokens (refusal_of file tokens reported)
   fault_first h = inr (inl (record {
     fault = fault;
     known = known;

@@ -7,11 +7,11 @@ use Rattle.rg_text.specs.declared.token.Token.{Token}
 use Rattle.rg_text.specs.declared.kind.Kind.{Kind}
 use Rattle.rg_text.specs.Text.{text_of}
 use Rattle.rg_text.specs.Tokenization.{gap_len, gap_end, line_at, IsLongest, AreTokens, IsTokenized}
-use Rattle.rg_text.proofs.LineFeeds.{line_on, line_behind}
+use Rattle.rg_text.proofs.LineFeeds.{line_on, line_after}
 use Rattle.rg_syntax.specs.Grammar.{Lexeme, lexeme_as, lexeme_of}
 use Rattle.rg_parse.proofs.PrintedStands.{printed_leaf}
 
--- behind a gap without LF stands the longest token, a lexeme of the first line, and then the rest
+-- after a gap without LF stands the longest token, a lexeme of the first line, and then the rest
 pub record IsFirstToken (s : List ℕ) (l : Lexeme) (rest : List ℕ) : Type 0 where
   pub text : List ℕ
   pub kind : Kind
@@ -34,7 +34,7 @@ record ReadFrom (source : List ℕ) (place : ℕ) (ls : List Lexeme) : Type 0 wh
   lexemes : map (lexeme_of source) tokens ≡ ls
 
 module _ (source : List ℕ) (place : ℕ) (l : Lexeme) (rest : List ℕ) (f : IsFirstToken (drop place source) l rest) where
-  -- where the gap at the place ends, and where the token behind it does
+  -- where the gap at the place ends, and where the token after it does
   abbrev start : ℕ
   start = gap_end source place
 
@@ -63,7 +63,7 @@ module _ (source : List ℕ) (place : ℕ) (l : Lexeme) (rest : List ℕ) (f : I
       omega (arith, on, none, line)
 
   still_first_line : line_at source place ≡ 1 → line_at source end ≡ 1
-  still_first_line line = line_behind source start (length f.text) f.kind longest_there.is ∙ first_line line
+  still_first_line line = line_after source start (length f.text) f.kind longest_there.is ∙ first_line line
 
   -- the first token, and the others
   one_and_more : (ls : List Lexeme) → line_at source place ≡ 1 → ReadFrom source end ls → ReadFrom source place (l ∷ ls)
@@ -110,8 +110,8 @@ cut_tokens source ls cut =
 one_more : (n : ℕ) → 1 + n ≡ suc n
 one_more n = omega arith
 
-first_behind_space : (s : List ℕ) (l : Lexeme) (rest : List ℕ) → IsFirstToken s l rest → IsFirstToken (32 ∷ s) l rest
-first_behind_space s l rest f = record {
+first_after_space : (s : List ℕ) (l : Lexeme) (rest : List ℕ) → IsFirstToken s l rest → IsFirstToken (32 ∷ s) l rest
+first_after_space s l rest f = record {
   text = f.text;
   kind = f.kind;
   gap = ap (λ n. count_by (λ b. eqb b 10) (take n (32 ∷ s))) (one_more (gap_len s)) ∙ sum_by-cons (λ b. cond (eqb b 10) 1 0) 32 (take (gap_len s) s) ∙ ap (λ n. 0 + n) f.gap;
@@ -123,7 +123,7 @@ first_behind_space s l rest f = record {
 -- a space before the tokens
 pub cut_space : (ls : List Lexeme) (s : List ℕ) → Cut s ls → Cut (32 ∷ s) ls
 cut_space [] s h = omega (arith, h)
-cut_space (l ∷ ls) s h = (h.0, first_behind_space s l h.0 h.1, h.2)
+cut_space (l ∷ ls) s h = (h.0, first_after_space s l h.0 h.1, h.2)
 
 -- a text is a token of this kind before what follows it, with no gap before it
 pub record IsToken (text rest : List ℕ) (kind : Kind) : Type 0 where

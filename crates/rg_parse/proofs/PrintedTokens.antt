@@ -35,7 +35,7 @@ use Rattle.rg_syntax.specs.Grammar.{Lexeme, fixed, lexeme_as}
 use Rattle.rg_parse.proofs.PrintedStands.{printed_leaf}
 use Rattle.rg_parse.proofs.PrintedCuts.{Cut, IsToken, cut_space, cut_token}
 
--- what may stand behind a word or a number: nothing, or a byte that is no part of a word and no prime
+-- what may stand after a word or a number: nothing, or a byte that is no part of a word and no prime
 abbrev pub ends_word : List ℕ → Bool
 ends_word [] = true
 ends_word (b ∷ bs) = not (is_word_byte b) && not (eqb b 39)
@@ -65,7 +65,7 @@ number_stops : (rest : List ℕ) → ends_word rest ≡ true → prefix_len is_a
 number_stops [] h = refl
 number_stops (b ∷ bs) h = let e = no_digit b h in rw e refl
 
--- no prime stands behind
+-- no prime stands after
 prime_stops : (text rest : List ℕ) → ends_word rest ≡ true → eqb (get_or (text ++ rest) (length text) 0) 39 ≡ false
 prime_stops [] [] h = refl
 prime_stops [] (b ∷ bs) h = no_prime b h
@@ -86,7 +86,7 @@ word_bytes b bs h =
     let e : is_word_byte b ≡ true = word_of_start b p.0 in
     rw e p.1
 
--- a word with no word byte and no prime behind it
+-- a word with no word byte and no prime after it
 pub word_token : (text rest : List ℕ) → is_word text ≡ true → ends_word rest ≡ true → IsToken text rest (named (keyword_of text))
 word_token [] rest h e = cc
 word_token (b ∷ bs) rest h e = record {
@@ -204,7 +204,7 @@ pub cut_between : (text : List ℕ) (t : Terminal) (s : List ℕ) (ls : List Lex
 cut_between text t s ls spaced h =
     cut_space (lexeme_as (Fixed t) (printed_leaf text) ∷ ls) (text ++ 32 ∷ s) (cut_token text (32 ∷ s) (Fixed t) ls (spaced s) (cut_space ls s h))
 
--- a keyword or symbol, and a space behind it
+-- a keyword or symbol, and a space after it
 pub cut_before_space : (text : List ℕ) (t : Terminal) (s : List ℕ) (ls : List Lexeme) → IsSpaced text t → Cut s ls → Cut (text ++ 32 ∷ s) (lexeme_as (Fixed t) (printed_leaf text) ∷ ls)
 cut_before_space text t s ls spaced h = cut_token text (32 ∷ s) (Fixed t) ls (spaced s) (cut_space ls s h)
 

@@ -15,7 +15,7 @@ use Rattle.rg_text.specs.Tokenization.{IsTokenOf}
 use Rattle.rg_syntax.specs.declared.written.Declaration.{Declaration}
 use Rattle.rg_syntax.specs.Grammar.{Lexeme, fixed, name, number, lexeme_as, lexeme_of, WordsSpelling, one, more, ShowSpelling, marked, declaration, words, show}
 use Rattle.rg_syntax.specs.Written.{Claim, DeclaredWord, ShownClaim, declared_word}
-use Rattle.rg_frames.specs.Frames.{whole, declaring, finished, finished_show}
+use Rattle.rg_build.specs.Frames.{whole, declaring, finished, finished_show}
 use Rattle.rg_syntax.specs.Texts.{claim_of, declared_words}
 use Rattle.rg_build.specs.Inner.Building.{steps}
 use Rattle.rg_build.proofs.Builds.{builds_formula, builds_show}

@@ -14,7 +14,7 @@ use Rattle.rg_syntax.specs.Grammar.{Spelling, spelled, lexeme_of}
 use Rattle.rg_syntax.specs.Limits.{IsShallow, IsShort}
 use Rattle.rg_resolve.specs.Faults.{Fault, IsFirst, IsRefusal}
 use Rattle.rg_build.proofs.Builds.{one_start, one_moves}
-use Rattle.rg_build_programs.proofs.BuildsPrograms.{one_program}
+use Rattle.rg_build.proofs.BuildsPrograms.{one_program}
 use Rattle.rg_build.proofs.BuildsLines.{one_derivation}
 use Rattle.rg_parse.specs.Parse.{IsShapeRefusal, last_line}
 use Rattle.rg_parse.specs.Spelled.{Said, said, IsCounted, IsParseRefusal, IsWritten, Spells, SpellsUpTo, IsTextRefusal}

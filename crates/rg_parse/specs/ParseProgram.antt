@@ -15,21 +15,21 @@ use Rattle.rg_shape.specs.declared.shape.ShapeFault.{ShapeFault}
 use Rattle.rg_shape.specs.declared.shape.ShapeFault.TheVariants.{Memory, Unexpected, TooDeep, TooMany, Unfinished}
 use Rattle.rg_syntax.specs.Begun.{AreBegun}
 
--- behind the `;` before an assignment too many of an await stands its name; or another token, which no program has there, or none
-abbrev pub behind_semicolon : ℕ → Option Lexeme → ShapeFault
-behind_semicolon i None = Unfinished
-behind_semicolon i (Some (name x)) = TooMany i
-behind_semicolon i (Some _) = Unexpected i
+-- after the `;` before an assignment too many of an await stands its name; or another token, which no program has there, or none
+abbrev pub after_semicolon : ℕ → Option Lexeme → ShapeFault
+after_semicolon i None = Unfinished
+after_semicolon i (Some (name x)) = TooMany i
+after_semicolon i (Some _) = Unexpected i
 
--- the fault that is told of a token too many at this place: where it is a `;`, that of the token behind it
-abbrev pub told_at : ℕ → Option Lexeme → Option Lexeme → ShapeFault
-told_at i (Some (fixed Semicolon)) next = behind_semicolon (i + 1) next
-told_at i _ next = TooMany i
+-- the fault that is reported of a token too many at this place: where it is a `;`, that of the token after it
+abbrev pub reported_at : ℕ → Option Lexeme → Option Lexeme → ShapeFault
+reported_at i (Some (fixed Semicolon)) next = after_semicolon (i + 1) next
+reported_at i _ next = TooMany i
 
--- the fault of a program that is told, where its shape has this one: of an assignment too many its name is told
-abbrev pub told_fault : List Lexeme → ShapeFault → ShapeFault
-told_fault tokens (TooMany i) = told_at i (slice_get tokens i) (slice_get tokens (i + 1))
-told_fault tokens fault = fault
+-- the fault of a program that is reported, where its shape has this one: of an assignment too many its name is reported
+abbrev pub reported_fault : List Lexeme → ShapeFault → ShapeFault
+reported_fault tokens (TooMany i) = reported_at i (slice_get tokens i) (slice_get tokens (i + 1))
+reported_fault tokens fault = fault
 
 -- the tokens before a fault, and before what the shape pass answers
 abbrev pub met_before : {A : Type 0} → List A → ShapeFault → List A
@@ -39,12 +39,12 @@ met_before tokens (TooMany i) = take i tokens
 met_before tokens Unfinished = tokens
 met_before tokens Memory = tokens
 
--- the tokens that are met before the fault that is told, or all where there is none
+-- the tokens that are met before the fault that is reported, or all where there is none
 abbrev pub met_tokens : List Lexeme → Result (Unit {0}) ShapeFault → List Lexeme
 met_tokens tokens (Ok _) = tokens
-met_tokens tokens (Err fault) = met_before tokens (told_fault tokens fault)
+met_tokens tokens (Err fault) = met_before tokens (reported_fault tokens fault)
 
--- the first other fault of a program's shape is told, and the tokens before it begin no statement too many
+-- the first other fault of a program's shape is reported, and the tokens before it begin no statement too many
 pub record IsOtherFault (file : SourceFile) (source : List ℕ) (tokens : List Token) (e : Refusal) : Type 0 where
   pub fault : ShapeFault
   pub known : fault ≢ Memory
@@ -52,9 +52,9 @@ pub record IsOtherFault (file : SourceFile) (source : List ℕ) (tokens : List T
   pub lines : List ℕ
   pub begun : AreBegun (met_tokens (map (lexeme_of source) tokens) (Err fault)) lines
   pub within : length lines ≤ MOST_STATEMENTS
-  pub is : e ≡ refusal_of file tokens (told_fault (map (lexeme_of source) tokens) fault)
+  pub is : e ≡ refusal_of file tokens (reported_fault (map (lexeme_of source) tokens) fault)
 
--- the tokens before the first other fault, or all where there is none, begin a statement too many, and its first token is told
+-- the tokens before the first other fault, or all where there is none, begin a statement too many, and its first token is reported
 pub record IsStatementTooMany (file : SourceFile) (source : List ℕ) (tokens : List Token) (e : Refusal) : Type 0 where
   pub answer : Result (Unit {0}) ShapeFault
   pub known : answer ≢ Err Memory

@@ -52,7 +52,7 @@ abbrev mutual
   expression_openers (shifted d w a k) = 1 + expression_openers a
   expression_openers (choice f a b) = 2 + max (formula_openers f) (max (expression_openers a) (expression_openers b))
 
-  -- and in the text of a formula: `not`, `inv`, each parenthesis, and `if` behind its own
+  -- and in the text of a formula: `not`, `inv`, each parenthesis, and `if` after its own
   pub formula_openers : Proposition → ℕ
   formula_openers (truth b) = 0
   formula_openers (negation f) = 1 + formula_openers f

@@ -25,7 +25,7 @@ use std::alloc::Global;
 /// The first fault, in the file `derivation`. First `Limit` at line 1 (the file is too large) and `BadByte` at the byte's line. Then
 /// of its shape, at the line of the token, `UnexpectedInDerivation`, `Depth` and `Limit`, and `Unfinished` at the last line. Then of
 /// its meaning, the least token first: `NumberTooLarge` for a number of a line above 4,294,967,295, and the faults of its formulas
-/// as `rg_resolve::resolve::resolve_formula` tells them. `Memory` where memory was refused.
+/// as `rg_resolve::resolve::resolve_formula` reports them. `Memory` where memory was refused.
 pub fn derivation(
     alloc: Global,
     layout: &Layout,

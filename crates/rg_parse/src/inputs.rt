@@ -41,7 +41,7 @@ pub fn start(alloc: Global, layout: &Layout, source: &[u8]) -> Result<State, Ref
 /// # Errors
 ///
 /// The first fault, in file `moves`, at the line of its token: first `Limit` (the file is too large) and `BadByte`; then of its
-/// shape `Unexpected`, `Unfinished`; then of its meaning, the least token first: `NumberTooLarge` for a number behind
+/// shape `Unexpected`, `Unfinished`; then of its meaning, the least token first: `NumberTooLarge` for a number after
 /// `at` above 4,294,967,295, and the faults of settings as for `start`, where a word may stand again in another move.
 /// `Memory` where memory is refused.
 pub fn moves(alloc: Global, layout: &Layout, source: &[u8]) -> Result<Vec<Move>, Refusal>

@@ -1,7 +1,7 @@
 //! The readers of texts: from bytes to typed trees, or the first fault.
 //!
-//! A text goes through four passes, each over the whole of it: its tokens (`rg_text`), its shape (`rg_shape`), its tree (`rg_build`, of a program
-//! `rg_build_programs`) and its meaning (`rg_resolve`). `reader::read` is this path, one for all kinds of text.
+//! A text goes through four passes, each over the whole of it: its tokens (`rg_text`), its shape (`rg_shape`), its tree (`rg_build`) and its
+//! meaning (`rg_resolve`). `reader::read` is this path, one for all kinds of text.
 #![tactic(auto)]
 
 mod derivations;

@@ -171,7 +171,7 @@ fn check_shape(
     }
 }
 
-/// The refusal that tells of a fault of shape: `Unexpected` (in a derivation `UnexpectedInDerivation`), `Depth` and `Limit` at the
+/// The refusal that reports a fault of shape: `Unexpected` (in a derivation `UnexpectedInDerivation`), `Depth` and `Limit` at the
 /// line of the token, `Unfinished` at the line of the last token, 1 where there is none, and `Memory`.
 pub fn refusal(file: SourceFile, tokens: &[Token], fault: ShapeFault) -> Refusal
     ensures { result ≡ refusal_of file tokens.now fault }

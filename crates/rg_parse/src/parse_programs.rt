@@ -8,11 +8,11 @@ ghost use Rattle.rg_syntax.specs.Limits.{IsTextWithin};
 ghost use Rattle.rg_syntax.specs.Begun.{OneBeginning, AllBegun};
 ghost use Rattle.rg_syntax.specs.Written.{program_text};
 ghost use Rattle.rg_parse.specs.Spelled.{IsParsed, IsWithin};
-ghost use Rattle.rg_parse.specs.ParseProgram.{IsProgramShapeRefusal, told_fault, told_at, behind_semicolon, met_before};
+ghost use Rattle.rg_parse.specs.ParseProgram.{IsProgramShapeRefusal, reported_fault, reported_at, after_semicolon, met_before};
 ghost use Rattle.rg_syntax.specs.OneReading.{OneProgram};
 
 use crate::parse::refusal;
-use rg_build_programs::{begun_too_many, build_program};
+use rg_build::{begun_too_many, build_program};
 use rg_shape::shape::{ShapeFault, shape};
 use rg_syntax::TextKind;
 use rg_syntax::written::ProgramText;
@@ -21,9 +21,9 @@ use rg_text::token::Token;
 use rg_words::{Place, Refusal, RefusalNumber, SourceFile};
 use std::alloc::Global;
 
-/// The fault at a place behind the `;` of an await that is full.
-fn behind_semicolon(tokens: &[Token], place: usize) -> ShapeFault
-    ensures { (src : List ℕ) → result ≡ behind_semicolon place (slice_get (map (lexeme_of src) tokens.now) place) }
+/// The fault at a place after the `;` of an await that is full.
+fn after_semicolon(tokens: &[Token], place: usize) -> ShapeFault
+    ensures { (src : List ℕ) → result ≡ after_semicolon place (slice_get (map (lexeme_of src) tokens.now) place) }
 {
     match tokens.get(place) {
         None => ShapeFault::Unfinished,
@@ -34,14 +34,14 @@ fn behind_semicolon(tokens: &[Token], place: usize) -> ShapeFault
     }
 }
 
-/// The fault that is told: of an assignment too many its name, which stands behind the `;` where the shape pass finds it.
-fn told_fault(tokens: &[Token], fault: ShapeFault) -> ShapeFault
-    ensures { (src : List ℕ) → result ≡ told_fault (map (lexeme_of src) tokens.now) fault }
+/// The fault that is reported: of an assignment too many its name, which stands after the `;` where the shape pass finds it.
+fn reported_fault(tokens: &[Token], fault: ShapeFault) -> ShapeFault
+    ensures { (src : List ℕ) → result ≡ reported_fault (map (lexeme_of src) tokens.now) fault }
 {
     match fault {
         ShapeFault::TooMany(place) => match tokens.get(place) {
             Some(token) => match token.kind {
-                Kind::Fixed(Terminal::Semicolon) => behind_semicolon(tokens, place + 1),
+                Kind::Fixed(Terminal::Semicolon) => after_semicolon(tokens, place + 1),
                 _ => ShapeFault::TooMany(place),
             },
             None => ShapeFault::TooMany(place),
@@ -89,14 +89,14 @@ fn refuse(alloc: Global, file: SourceFile, tokens: &[Token], fault: ShapeFault) 
     if let ShapeFault::Memory = fault {
         return Refusal::new(RefusalNumber::Memory);
     }
-    let told = told_fault(tokens, fault);
-    let met = met_before(tokens, &told);
+    let reported = reported_fault(tokens, fault);
+    let met = met_before(tokens, &reported);
     let Ok(line) = begun_too_many(alloc, met) else {
         return Refusal::new(RefusalNumber::Memory);
     };
     match line {
         Some(line) => limit(file, line),
-        None => refusal(file, tokens, told),
+        None => refusal(file, tokens, reported),
     }
 }
 
@@ -147,7 +147,7 @@ pub fn parse_program(
 }
 
 /// The same tokens say one thing: two spellings of them have one tree.
-#[tactic(auto, using(rg_build_programs::proofs::BuildsPrograms::one_program))]
+#[tactic(auto, using(rg_build::proofs::BuildsPrograms::one_program))]
 pub fn programs_have_one_tree()
     ensures { OneProgram }
 {}

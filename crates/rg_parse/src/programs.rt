@@ -25,7 +25,7 @@ use std::alloc::Global;
 /// # Errors
 ///
 /// The first fault, in file `text`, at the line of its token: first `Limit` at line 1 (the text is too large) and `BadByte`; then of its
-/// shape, as `parse_program` tells it; then of its meaning, the least token first, as `rg_parse::resolve::resolve_program` tells it.
+/// shape, as `parse_program` reports it; then of its meaning, the least token first, as `rg_parse::resolve::resolve_program` reports it.
 /// `Memory` where memory is refused.
 pub fn program(alloc: Global, source: &[u8]) -> Result<Program, Refusal>
     // What is read is what is written.

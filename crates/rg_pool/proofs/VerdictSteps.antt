@@ -1,4 +1,4 @@
--- from what is told of each condition to what is told of all
+-- from what is reported of each condition to what is reported of all
 use Rattle.std.proofs.Common.{◌≡◌, ℕ, ◌+◌, ◌<◌, zero, suc, List, [], ◌∷◌, length, get_or, inl, inr, ⊎_elim, subst, sym, arith}
 use Rattle.std.proofs.lemmas.Bool.Decides.{eqb_tells}
 use Rattle.rg_words.specs.declared.refusal.Refusal.{Refusal}

@@ -19,17 +19,17 @@ use std::thread::{Promise, PromisedHandle, Scope, Threads};
 /// The least count of lines of a section that is cut into pieces.
 pub const LEAST_LINES: usize = 512;
 
-/// Is told before each piece of a section is checked, in the thread that checks it.
+/// Called before each piece of a section is checked, in the thread that checks it.
 pub trait Pieces {
     /// The piece with this number, from 1 to 4, is checked next in this thread.
     fn before(&self, piece: usize);
 }
 
-/// Nobody is told.
+/// Nobody hears of it.
 #[derive(Clone, Copy)]
-pub struct Untold;
+pub struct Unreported;
 
-impl Pieces for Untold {
+impl Pieces for Unreported {
     fn before(&self, _piece: usize) {}
 }
 
@@ -94,7 +94,7 @@ impl<'a> Promise<Result<(), Refusal>> for PieceOf<'a> {
     ghost kept_by = { λ p r. IsPieceAnswer p.clauses.now.clauses p.lines.now p.from p.to r };
 }
 
-/// Begins to check a piece in a thread of its own, which is told the piece's number first.
+/// Begins to check a piece in a thread of its own, which first passes on the piece's number.
 fn begin<'s, E, P: Pieces + Sync>(
     alloc: Global,
     scope: &Scope<'s, E>,
@@ -158,7 +158,7 @@ fn check_in<'s, E, R: Threads, P: Pieces + Sync>(
     joined(clauses, lines, 0, 2 * quarter, all, front, back)
 }
 
-/// The same, in a scope of its own: all threads are joined when it returns.
+/// Checks the four pieces in a scope of its own: all threads are joined when it returns.
 fn check_four<R: Threads + Wait + Sync, P: Pieces + Sync>(
     rt: &R,
     alloc: Global,
@@ -192,7 +192,7 @@ fn count_all(clauses: &Clauses, lines: &Lines) -> usize
     clauses.len() + count
 }
 
-/// Whether the clause at this place is empty: a given one, or, behind all of those, that of a line.
+/// Whether the clause at this place is empty: a given one, or, after all of those, that of a line.
 fn is_empty_at(clauses: &Clauses, lines: &Lines, place: usize) -> bool
     requires { place < length clauses.now.clauses + length lines.now.lines }
     ensures { IsTrue result ↔ IsEmptyAt clauses.now.clauses lines.now place }
@@ -231,7 +231,7 @@ fn has_empty<R: Threads + Sync>(rt: &R, clauses: &Clauses, lines: &Lines) -> boo
 }
 
 /// Whether the section of this condition, which counts from 1, is closed: the answer of `rg_hints::check`. A section of
-/// `LEAST_LINES` lines or more is checked in four pieces, each in a thread of its own, in which `pieces` is told first; the first three
+/// `LEAST_LINES` lines or more is checked in four pieces, each in a thread of its own, in which `pieces` is called first; the first three
 /// have a quarter of the lines each, rounded down. A shorter one is checked in the thread that asks.
 ///
 /// # Errors

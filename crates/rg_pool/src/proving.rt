@@ -10,7 +10,7 @@ ghost use Rattle.rg_pool.specs.Inner.Verdicts.{IsVerdictAt, AreVerdicts};
 ghost use Rattle.rg_pool.specs.Parts.{ArePartProved, IsPartRefusal};
 
 use crate::dealing::deal;
-use crate::pieces::{Untold, check_all, ran_out};
+use crate::pieces::{Unreported, check_all, ran_out};
 use rg_clauses::Clauses;
 use rg_hints::{
     Checker, Lines, Prover, SectionBytes, check, place_sections, proof_sections, prove,
@@ -23,7 +23,7 @@ use std::sync::Wait;
 use std::sync::atomic::{AtomicBool, Ordering};
 use std::thread::Threads;
 
-/// What is told of the condition at this place, from 0.
+/// What is reported of the condition at this place, from 0.
 fn prove_at<R: Threads + Wait + Sync>(
     rt: &R,
     alloc: Global,
@@ -45,7 +45,7 @@ fn prove_at<R: Threads + Wait + Sync>(
     prove_condition(&checker, alloc, &conditions[index], number, placed[place])
 }
 
-/// The same; nothing, where another condition was refused before.
+/// Proves the condition at a place; nothing, where another condition was refused before.
 fn prove_one<R: Threads + Wait + Sync>(
     rt: &R,
     alloc: Global,
@@ -74,7 +74,7 @@ fn prove_one<R: Threads + Wait + Sync>(
     Some(proved)
 }
 
-/// What is told of the condition at this place, from 0: what is known of it, and else what is found now.
+/// What is reported of the condition at this place, from 0: what is known of it, and else what is found now.
 fn verdict_at<R: Threads + Wait + Sync>(
     rt: &R,
     alloc: Global,
@@ -131,7 +131,7 @@ fn settle<R: Threads + Wait + Sync>(
     Ok(())
 }
 
-/// What is told of each condition, in so many threads; nothing of some of them, where one is refused.
+/// What is reported of each condition, in so many threads; nothing of some of them, where one is refused.
 fn prove_some<R: Threads + Wait + Sync>(
     rt: &R,
     alloc: Global,
@@ -147,7 +147,7 @@ fn prove_some<R: Threads + Wait + Sync>(
     ensures known { IfOk result (λ known. AreVerdicts (map text_of sections.now) before (map condition_tree conditions.now) known.items) }
 {
     let refused = AtomicBool::new(false);
-    let told = &refused;
+    let reported = &refused;
     deal(
         rt,
         alloc,
@@ -158,7 +158,7 @@ fn prove_some<R: Threads + Wait + Sync>(
             ensures { IfSome result (IsVerdictAt (map text_of sections.entry.now) before (map condition_tree conditions.entry.now) index) }
         {
             prove_one(
-                rt, alloc, threads, before, conditions, sections, placed, told, index,
+                rt, alloc, threads, before, conditions, sections, placed, reported, index,
             )
         },
     )
@@ -195,16 +195,16 @@ fn prove_each_all<R: Threads + Wait + Sync>(
     )
 }
 
-/// Whether a proofs file for `count` conditions proves these, which stand behind so many others: condition by condition, in
+/// Whether a proofs file for `count` conditions proves these, which stand after so many others: condition by condition, in
 /// at most so many threads; each takes the first that is left, and checks its section as `check_all` does.
 ///
 /// With 0 or 1 threads all is done in the thread that asks. A thread that can't be had for conditions costs time alone; one
-/// that can't be had for a piece of a section is refused as `check_all` tells it. Once a condition is refused no other is begun.
+/// that can't be had for a piece of a section is refused as `check_all` reports it. Once a condition is refused no other is begun.
 ///
 /// # Errors
 ///
 /// First the faults of the whole file that `rg_hints::proof_sections` tells; then the first fault of these conditions, in
-/// their order, as `rg_hints::prove_condition` tells it. `Memory` where memory is refused in any thread, or a piece of a section has no
+/// their order, as `rg_hints::prove_condition` reports it. `Memory` where memory is refused in any thread, or a piece of a section has no
 /// thread; all threads are joined then too.
 pub fn prove_part<R: Threads + Wait + Sync>(
     rt: &R,
@@ -278,7 +278,7 @@ impl<R: Threads + Wait + Sync> Checker for InThreads<'_, R> {
         if self.threads < 2 {
             return check(alloc, condition, clauses, lines);
         }
-        check_all(self.rt, alloc, condition, clauses, lines, &Untold)
+        check_all(self.rt, alloc, condition, clauses, lines, &Unreported)
     }
 }
 

@@ -8,4 +8,8 @@ mod inputs;
 #[cfg(test)]
 mod programs;
 #[cfg(test)]
+mod tokens;
+#[cfg(test)]
 mod trees;
+#[cfg(test)]
+mod words;

@@ -1,8 +1,41 @@
-//! Refused memory while a program is read.
+//! What is refused of formulas by themselves and of programs, also where memory is refused.
 
-use rg_parse::program;
+use rg_parse::{formula, program, show};
 use rg_words::{Place, Refusal, RefusalNumber, SourceFile};
 use std::alloc::Global;
+
+/// What is refused of a text, and its line; none where it is read.
+type Fault = Option<(RefusalNumber, u64)>;
+
+fn refusal(fault: Fault) -> Option<Refusal> {
+    let (number, line) = fault?;
+    Some(Refusal::at(number, SourceFile::Text, Place::Line(line)))
+}
+
+/// Formulas with the number and the line of what is refused of them; none where one is read.
+const FORMULAS: &[(&str, Fault)] = &[
+    ("(x' = 1)", None),
+    ("(x = 1)", None),
+    ("", Some((RefusalNumber::Unfinished, 1))),
+    ("not\n", Some((RefusalNumber::Unfinished, 1))),
+    ("(x\n)", Some((RefusalNumber::Unexpected, 2))),
+    ("true\ntrue", Some((RefusalNumber::Unexpected, 2))),
+    ("(x' =\n256)", Some((RefusalNumber::NumberTooLarge, 2))),
+    ("(x =\nz')", Some((RefusalNumber::UnknownName, 2))),
+];
+
+/// Whether a formula over the word x of eight bits has this fault.
+fn has_fault(alloc: Global, text: &str, fault: Fault) -> Result<bool, Refusal> {
+    let (layout, _tree) = show(alloc, b"words x:8 show true")?;
+    Ok(formula(alloc, &layout, text.as_bytes()).err() == refusal(fault))
+}
+
+#[test]
+fn a_formula_is_read_by_itself(rt: HostRuntime) {
+    for (text, fault) in FORMULAS {
+        assert!(rt; matches!(has_fault(rt.alloc(), text, *fault), Ok(true)));
+    }
+}
 
 /// Two parts, which each set a word: eleven lines.
 const TWO_PARTS: &str =
@@ -16,39 +49,24 @@ const ITEMS: &str =
 const FIXED: &str =
     "words x:2 fixed n:2\npre (x = n) rely (x' = x) guar true post (x = (n + 1))\npart p pre (x = n) rely (x' = x) guar true post (x = (n + 1))\nbegin ";
 
-/// Texts with the number and the line of what is refused of them; none where a program is read.
-const TEXTS: &[(&str, Option<(RefusalNumber, u64)>)] = &[
+/// Programs with their faults.
+const PROGRAMS: &[(&str, Fault)] = &[
     (TWO_PARTS, None),
     (ITEMS, None),
     (FIXED, Some((RefusalNumber::Unfinished, 4))),
     ("words x:1 show true", Some((RefusalNumber::Unexpected, 1))),
 ];
 
-/// Whether a refusal is this one, at a line of the text, or that of memory.
-fn is_refusal(refusal: Refusal, expected: Option<(RefusalNumber, u64)>) -> bool {
-    if refusal == Refusal::new(RefusalNumber::Memory) {
-        return true;
-    }
-    match expected {
-        Some((number, line)) => {
-            refusal == Refusal::at(number, SourceFile::Text, Place::Line(line))
-        }
-        None => false,
-    }
-}
-
-/// Whether this is refused of a text, or memory; nothing where a program is read.
-fn is_told(alloc: Global, text: &str, expected: Option<(RefusalNumber, u64)>) -> bool {
-    match program(alloc, text.as_bytes()) {
-        Ok(_) => expected.is_none(),
-        Err(refusal) => is_refusal(refusal, expected),
-    }
+/// Whether a program has this fault, or memory was refused.
+fn is_reported(alloc: Global, text: &str, fault: Fault) -> bool {
+    let found = program(alloc, text.as_bytes()).err();
+    found == refusal(fault) || found == Some(Refusal::new(RefusalNumber::Memory))
 }
 
 /// Under `rt try --test --fail-alloc N` too: this test allocates nothing of its own, so what is refused is the program's.
 #[test]
 fn tells_refused_memory(rt: HostRuntime) {
-    for (text, expected) in TEXTS {
-        assert!(rt; is_told(rt.alloc(), text, *expected));
+    for (text, fault) in PROGRAMS {
+        assert!(rt; is_reported(rt.alloc(), text, *fault));
     }
 }

@@ -1,4 +1,4 @@
--- A chain that leans to the left, as its first operand and the links behind it.
+-- A chain that leans to the left, as its first operand and the links after it.
 use Rattle.std.proofs.Common.{◌≡◌, ℕ, ◌+◌, ◌≤◌, ◌<◌, Bool, List, [], ◌∷◌, ◌++◌, length, map, reverse, refl, ap, subst, arith}
 use Rattle.std.proofs.lemmas.List.{reverse-append}
 use Rattle.rg_words.specs.declared.refusal.Refusal.{Refusal}
@@ -33,7 +33,7 @@ abbrev mutual
   claim_size (implied d f g) = claim_size f + claim_size g + 1
   claim_size (compared c a b) = term_size a + term_size b + 1
 
--- a connective and the operand behind it
+-- a connective and the operand after it
 pub record Step : Type 0 where
   pub junction : Junction
   pub operand : Claim
@@ -72,12 +72,12 @@ unfolding chain_of
 chain_refused words one_state file refusal f [] h = h
 chain_refused words one_state file refusal f (s ∷ ss) h = chain_refused words one_state file refusal (joined s.junction f s.operand) ss (of_first _ _ _ _ h)
 
--- what is left of a chain: the operand that is reached, and the links behind it
+-- what is left of a chain: the operand that is reached, and the links after it
 pub record IsSpine (whole f : Claim) (ss : List Step) : Type 0 where
   pub chain : chain_of f ss ≡ whole
   pub smaller : claim_size f + 1 < claim_size whole
 
--- what is done of a chain, and the links behind it
+-- what is done of a chain, and the links after it
 pub record IsDone (words : List Word) (one_state : Bool) (whole : Claim) (done_tree : Proposition) (ss : List Step) : Type 0 where
   pub done : Claim
   pub tree : IsClaimTree words one_state done done_tree

@@ -9,33 +9,33 @@ use Rattle.rg_text.specs.Text.{leaf_of}
 use Rattle.rg_syntax.specs.declared.written.Declaration.{Declaration}
 use Rattle.rg_syntax.specs.Written.{DeclaredWord, declared_word}
 use Rattle.rg_resolve.specs.Faults.{IsRefusal}
-use Rattle.rg_resolve.specs.Words.{word_of, words_of, name_faults, width_faults, faults_behind, declaration_faults}
+use Rattle.rg_resolve.specs.Words.{word_of, words_of, name_faults, width_faults, faults_after, declaration_faults}
 use Rattle.rg_leaves.proofs.Refusals.{of_first}
 
 -- these words and the rest of the declarations are all declarations
 pub record IsDeclaredSoFar (all rest : List DeclaredWord) (words : List Word) : Type 0 where
   pub whole : words ++ words_of rest ≡ words_of all
-  pub faults : faults_behind words rest ≡ declaration_faults all
+  pub faults : faults_after words rest ≡ declaration_faults all
 
 pub so_far_start : (all : List DeclaredWord) → IsDeclaredSoFar all all []
 so_far_start all = record { whole = refl; faults = refl }
 
 pub so_far_step : (all rest : List DeclaredWord) (d : DeclaredWord) (words more : List Word) → IsDeclaredSoFar all (d ∷ rest) words → name_faults words d.name ++ width_faults d.width ≡ [] → more ≡ words ++ word_of d ∷ [] → IsDeclaredSoFar all rest more
-unfolding faults_behind
+unfolding faults_after
 so_far_step all rest d words more h none same = rw same (record {
   whole = append_assoc words (word_of d ∷ []) (words_of rest) ∙ h.whole;
-  faults = sym (ap (λ fs. fs ++ faults_behind (words ++ word_of d ∷ []) rest) none) ∙ h.faults;
+  faults = sym (ap (λ fs. fs ++ faults_after (words ++ word_of d ∷ []) rest) none) ∙ h.faults;
 })
 
 pub so_far_refused : (file : SourceFile) (refusal : Refusal) (all rest : List DeclaredWord) (d : DeclaredWord) (words : List Word) → IsDeclaredSoFar all (d ∷ rest) words → IsRefusal file (name_faults words d.name ++ width_faults d.width) refusal → IsRefusal file (declaration_faults all) refusal
-unfolding faults_behind
+unfolding faults_after
 so_far_refused file refusal all rest d words h r = rw (← h.faults) (of_first file _ _ refusal r)
 
 pub so_far_words : (all : List DeclaredWord) (words : List Word) → IsDeclaredSoFar all [] words → words ≡ words_of all
 so_far_words all words h = sym (append-nil words) ∙ h.whole
 
 pub so_far_faultless : (all : List DeclaredWord) (words : List Word) → IsDeclaredSoFar all [] words → declaration_faults all ≡ []
-unfolding faults_behind
+unfolding faults_after
 so_far_faultless all words h = sym h.faults
 
 -- the declarations from a place on

@@ -11,7 +11,7 @@ use Rattle.rg_words.proofs.Words.{layout_more}
 use Rattle.rg_syntax.specs.Written.{DeclaredWord}
 use Rattle.rg_syntax.proofs.Clauses.{and_both}
 use Rattle.rg_resolve.specs.Faults.{number_of}
-use Rattle.rg_resolve.specs.Words.{word_of, words_of, name_faults, width_faults, faults_behind, declaration_faults}
+use Rattle.rg_resolve.specs.Words.{word_of, words_of, name_faults, width_faults, faults_after, declaration_faults}
 use Rattle.rg_resolve.specs.Programs.{spec_faults}
 use Rattle.rg_resolve.specs.Faultless.{AreDeclarable, FaultlessWords, FaultlessShown, FaultlessProgram}
 use Rattle.rg_leaves.proofs.Refusals.{no_faults}
@@ -25,11 +25,11 @@ is_none-None : (found : Option ℕ) → is_none found ≡ true → found ≡ Non
 is_none-None None h = refl
 is_none-None (Some k) h = cc
 
--- behind the words of a layout, declarations without faults make a layout
-layout_behind : (before : List Word) (ds : List DeclaredWord) → IsLayout before → length before + length ds ≤ MOST_WORDS → All (λ d. IsName d.name.text) ds → faults_behind before ds ≡ [] → IsLayout (before ++ words_of ds)
-unfolding faults_behind
-layout_behind before [] layout room named h = rw (append-nil before) layout
-layout_behind before (d ∷ ds) layout room named h =
+-- after the words of a layout, declarations without faults make a layout
+layout_after : (before : List Word) (ds : List DeclaredWord) → IsLayout before → length before + length ds ≤ MOST_WORDS → All (λ d. IsName d.name.text) ds → faults_after before ds ≡ [] → IsLayout (before ++ words_of ds)
+unfolding faults_after
+layout_after before [] layout room named h = rw (append-nil before) layout
+layout_after before (d ∷ ds) layout room named h =
     let here = none_left _ _ h in
     let absent = is_none-None _ (unless-none _ _ _ (none_left (name_faults before d.name) (width_faults d.width) here)) in
     let range = unless-none _ _ _ (none_right (name_faults before d.name) (width_faults d.width) here) in
@@ -37,14 +37,14 @@ layout_behind before (d ∷ ds) layout room named h =
     let least = leb-true _ _ both.0 in
     let most = leb-true _ _ both.1 in
     let one = layout_more before (word_of d) layout absent (omega (arith, room)) (least, most) (All-head (λ d. IsName d.name.text) d ds named) in
-    let rest = layout_behind (before ++ word_of d ∷ []) ds one (omega (arith, length-append before (word_of d ∷ []), room)) (All-tail (λ d. IsName d.name.text) d ds named) (none_right _ _ h) in
+    let rest = layout_after (before ++ word_of d ∷ []) ds one (omega (arith, length-append before (word_of d ∷ []), room)) (All-tail (λ d. IsName d.name.text) d ds named) (none_right _ _ h) in
     subst IsLayout (append_assoc before (word_of d ∷ []) (words_of ds)) rest
 
 no_words : IsLayout []
 no_words = record { count = omega arith; widths = λ k d less. absurd (omega arith); names = λ k d less. absurd (omega arith); distinct = λ i j d less within. absurd (omega arith) }
 
 words_stand : (ds : List DeclaredWord) → AreDeclarable ds → declaration_faults ds ≡ [] → IsLayout (words_of ds)
-words_stand ds fine h = layout_behind [] ds no_words (omega (arith, fine.count)) fine.names h
+words_stand ds fine h = layout_after [] ds no_words (omega (arith, fine.count)) fine.names h
 
 pub faultless_words : FaultlessWords
 faultless_words ds fine = (words_stand ds fine, layout_faultless ds)

@@ -17,7 +17,7 @@ use Rattle.rg_words.specs.Refusals.{no_memory}
 use Rattle.rg_words.specs.Layout.{Word, IsLayout, IsWidth, index_of}
 use Rattle.rg_syntax.specs.Written.{DeclaredWord}
 use Rattle.rg_resolve.specs.Faults.{number_of, IsRefusal}
-use Rattle.rg_resolve.specs.Words.{word_of, words_of, faults_behind, declaration_faults}
+use Rattle.rg_resolve.specs.Words.{word_of, words_of, faults_after, declaration_faults}
 use Rattle.rg_leaves.proofs.Refusals.{no_faults, no_test}
 
 -- no two words of one name
@@ -41,21 +41,21 @@ new_name before after w distinct = by before (index_of before w.name) refl disti
 none_is : (found : Option ℕ) → found ≡ None → is_none found ≡ true
 none_is found e = ap is_none e
 
-behind_faultless : (before : List Word) (ds : List DeclaredWord) → AreDistinct (before ++ words_of ds) → All (λ w. IsWidth w.width) (words_of ds) → faults_behind before ds ≡ []
-unfolding faults_behind
-behind_faultless before [] distinct widths = refl
-behind_faultless before (d ∷ ds) distinct widths =
+after_faultless : (before : List Word) (ds : List DeclaredWord) → AreDistinct (before ++ words_of ds) → All (λ w. IsWidth w.width) (words_of ds) → faults_after before ds ≡ []
+unfolding faults_after
+after_faultless before [] distinct widths = refl
+after_faultless before (d ∷ ds) distinct widths =
     let new = none_is _ (new_name before (words_of ds) (word_of d) distinct) in
     let range = widths 0 (word_of d) (omega arith) in
     let name = no_test (is_none (index_of before d.name.text)) NameTwice d.name.line new in
     let width = no_test (nat_le 1 (number_of d.width.text) && nat_le (number_of d.width.text) MOST_WIDTH) WidthRange d.width.line (and_from _ _ (le-leb _ _ range.0) (le-leb _ _ range.1)) in
     let P : List Word → Type 0 = λ words. AreDistinct words in
     let rest = subst P (sym (append_assoc before (word_of d ∷ []) (words_of ds))) distinct in
-    no_faults _ _ (no_faults _ _ name width) (behind_faultless (before ++ word_of d ∷ []) ds rest (All-tail (λ w. IsWidth w.width) (word_of d) (words_of ds) widths))
+    no_faults _ _ (no_faults _ _ name width) (after_faultless (before ++ word_of d ∷ []) ds rest (All-tail (λ w. IsWidth w.width) (word_of d) (words_of ds) widths))
 
 pub layout_faultless : (ds : List DeclaredWord) → IsLayout (words_of ds) → declaration_faults ds ≡ []
-layout_faultless ds layout = behind_faultless [] ds layout.distinct layout.widths
+layout_faultless ds layout = after_faultless [] ds layout.distinct layout.widths
 
--- a refusal that isn't want of memory tells that the words are of no layout
+-- a refusal that isn't want of memory reports that the words are of no layout
 pub refused_of_no_layout : (ds : List DeclaredWord) (file : SourceFile) (refusal : Refusal) → IsRefusal file (declaration_faults ds) refusal → (refusal ≡ no_memory) ⊎ (IsLayout (words_of ds) → ⊥)
 refused_of_no_layout ds file refusal h = elim h.cause [ inl e ↦ inl e | inr e ↦ inr (λ layout. rw (layout_faultless ds layout) at e) ]

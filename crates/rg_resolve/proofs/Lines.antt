@@ -95,7 +95,7 @@ one_list_of_lines words ls s t h g = lines_are words ls s h ∙ sym (lines_are w
 pub faultless_derivation : FaultlessDerivation
 faultless_derivation words ls = (λ h. (_, lines_stand words ls h), λ s. lines_faultless words ls s.0 s.1)
 
--- a refusal that isn't want of memory tells of a fault
+-- a refusal that isn't want of memory reports a fault
 pub refused_lines : (words : List Word) (ls : List WrittenLine) (file : SourceFile) (refusal : Refusal) → IsRefusal file (derivation_faults words ls) refusal → (refusal ≡ no_memory) ⊎ ((ts : List LineTree) → DerivationStandsFor words ls ts → ⊥)
 refused_lines words ls file refusal h = elim h.cause [ inl e ↦ inl e | inr e ↦ inr (λ ts g. rw (lines_faultless words ls ts g) at e) ]
 

@@ -22,7 +22,7 @@ use Rattle.rg_resolve.specs.Inner.FormulaTrees.{place_of, typed_term}
 use Rattle.rg_resolve.specs.Words.{words_of}
 use Rattle.rg_resolve.specs.Programs.{is_fixed, assigned_faults, statement_faults, block_faults, spec_faults, has_part, part_faults, parts_faults, program_faults}
 use Rattle.rg_resolve.specs.Inner.ProgramTrees.{assignment_tree, items_of, block_of, statement_tree, statement_trees, block_tree, spec_tree, part_tree}
-use Rattle.rg_resolve.specs.ProgramTyping.{AssignedStandsFor, AssignmentsStandFor, StatementStandsFor, skip, assign, await, branch, loop, BlockStandsFor, single, several, ItemsStandFor, last, next, SpecStandsFor, PartStandsFor, PartsStandBehind, ProgramStandsFor, OneProgramTree}
+use Rattle.rg_resolve.specs.ProgramTyping.{AssignedStandsFor, AssignmentsStandFor, StatementStandsFor, skip, assign, await, branch, loop, BlockStandsFor, single, several, ItemsStandFor, last, next, SpecStandsFor, PartStandsFor, PartsStandAfter, ProgramStandsFor, OneProgramTree}
 use Rattle.rg_syntax.specs.ProgramLimits.{IsFullStatement, IsFullBlock, AreFull, AreFullParts, IsWithinLimits}
 use Rattle.rg_resolve.proofs.Assigned.{fine_assignment}
 use Rattle.rg_leaves.proofs.Refusals.{no_faults, no_test}
@@ -63,7 +63,7 @@ module _ (words : List Word) where
   assignments_are [] (t ∷ ts) h = absurd h
   assignments_are (a ∷ as_) [] h = absurd h
 
-  -- behind another statement, these stand for their trees
+  -- after another statement, these stand for their trees
   abbrev Stand : StatementTrees → Type 0
   Stand no_more = Unit {0}
   Stand (also t ts) = ItemsStandFor words (also t ts) (items_of (statement_tree words t) (statement_trees words ts))
@@ -110,9 +110,9 @@ module _ (words : List Word) where
     items_faultless _ _ (last s a h) = no_faults _ _ (statement_faultless s a h) refl
     items_faultless _ _ (next s a ss items h g) = no_faults _ _ (statement_faultless s a h) (items_faultless ss items g)
 
-  -- behind a statement these items are those of the list
+  -- after a statement these items are those of the list
   pub record AreItems (ts : List tree.Statement) (items : tree.Items) : Type 0 where
-    pub behind : (b : tree.Statement) → items_of b ts ≡ tree.more b items
+    pub after : (b : tree.Statement) → items_of b ts ≡ tree.more b items
     pub block : (b : tree.Statement) → block_of (b ∷ ts) ≡ tree.sequence (line_of_statement b) b items
 
   mutual
@@ -130,10 +130,10 @@ module _ (words : List Word) where
     items_are : (ss : StatementTrees) (items : tree.Items) → ItemsStandFor words ss items → AreItems (statement_trees words ss) items
     items_are _ _ (last s a h) =
         let same = sym (statement_is s a h) in
-        record { behind = λ b. ap (λ x. tree.more b (tree.one x)) same; block = λ b. ap (λ x. tree.sequence (line_of_statement b) b (tree.one x)) same }
+        record { after = λ b. ap (λ x. tree.more b (tree.one x)) same; block = λ b. ap (λ x. tree.sequence (line_of_statement b) b (tree.one x)) same }
     items_are _ _ (next s a ss items h g) =
-        let rest = (items_are ss items g).behind (statement_tree words s) ∙ ap (λ x. tree.more x items) (sym (statement_is s a h)) in
-        record { behind = λ b. ap (tree.more b) rest; block = λ b. ap (tree.sequence (line_of_statement b) b) rest }
+        let rest = (items_are ss items g).after (statement_tree words s) ∙ ap (λ x. tree.more x items) (sym (statement_is s a h)) in
+        record { after = λ b. ap (tree.more b) rest; block = λ b. ap (tree.sequence (line_of_statement b) b) rest }
 
   pub spec_stands : (s : SpecTree) → spec_faults words s ≡ [] → SpecStandsFor words s (spec_tree words s)
   unfolding spec_faults
@@ -191,7 +191,7 @@ module _ (name : List ℕ) where
   no_name (p ∷ ps) [] h none = absurd h
 
 module _ (words : List Word) where
-  parts_stand : (before ps : List written.WrittenPart) (others : List tree.PartTree) → AreNamed before others → AreFullParts ps → faults_in_turn (part_faults words) before ps ≡ [] → PartsStandBehind words others ps (map (part_tree words) ps)
+  parts_stand : (before ps : List written.WrittenPart) (others : List tree.PartTree) → AreNamed before others → AreFullParts ps → faults_in_turn (part_faults words) before ps ≡ [] → PartsStandAfter words others ps (map (part_tree words) ps)
   unfolding faults_in_turn part_faults
   parts_stand before [] others named full h = tt
   parts_stand before (p ∷ ps) others named full h =
@@ -202,7 +202,7 @@ module _ (words : List Word) where
         parts_stand (before ++ p ∷ []) ps (others ++ part_tree words p ∷ []) (named-more before others p (part_tree words p) named refl) full.1 (none_right _ _ h),
       )
 
-  parts_faultless : (before ps : List written.WrittenPart) (others ts : List tree.PartTree) → AreNamed before others → PartsStandBehind words others ps ts → faults_in_turn (part_faults words) before ps ≡ []
+  parts_faultless : (before ps : List written.WrittenPart) (others ts : List tree.PartTree) → AreNamed before others → PartsStandAfter words others ps ts → faults_in_turn (part_faults words) before ps ≡ []
   unfolding faults_in_turn part_faults
   parts_faultless before [] others [] named h = refl
   parts_faultless before (p ∷ ps) others (t ∷ ts) named h =
@@ -218,7 +218,7 @@ module _ (words : List Word) where
       by : t.name ≡ p.name.text → t.spec ≡ spec_tree words p.spec → t.body ≡ block_tree words p.body → t ≡ part_tree words p
       by n s b = rw (← n, ← s, ← b) refl
 
-  parts_are : (others : List tree.PartTree) (ps : List written.WrittenPart) (ts : List tree.PartTree) → PartsStandBehind words others ps ts → ts ≡ map (part_tree words) ps
+  parts_are : (others : List tree.PartTree) (ps : List written.WrittenPart) (ts : List tree.PartTree) → PartsStandAfter words others ps ts → ts ≡ map (part_tree words) ps
   parts_are others [] [] h = refl
   parts_are others (p ∷ ps) (t ∷ ts) h = rw (← part_is p t h.0, ← parts_are (others ++ t ∷ []) ps ts h.2) refl
   parts_are others [] (t ∷ ts) h = absurd h
@@ -237,12 +237,12 @@ pub program_faultless : (p : written.WrittenProgram) (t : tree.ProgramTree) → 
 program_faultless p t h =
     let layout = subst IsLayout h.words h.layout in
     let spec = subst (λ words. SpecStandsFor words p.spec t.spec) h.words h.spec in
-    let parts = subst (λ words. PartsStandBehind words [] p.parts t.parts) h.words h.parts in
+    let parts = subst (λ words. PartsStandAfter words [] p.parts t.parts) h.words h.parts in
     no_faults _ _ (layout_faultless p.words layout) (no_faults _ _ (spec_faultless (words_of p.words) p.spec t.spec spec) (parts_faultless (words_of p.words) [] p.parts [] t.parts tt parts))
 
 program_is : (p : written.WrittenProgram) (t : tree.ProgramTree) → ProgramStandsFor p t → t ≡ program_tree p
 program_is p t h =
-    by _ _ _ h.words (spec_is (words_of p.words) p.spec t.spec (subst (λ words. SpecStandsFor words p.spec t.spec) h.words h.spec)) (parts_are (words_of p.words) [] p.parts t.parts (subst (λ words. PartsStandBehind words [] p.parts t.parts) h.words h.parts))
+    by _ _ _ h.words (spec_is (words_of p.words) p.spec t.spec (subst (λ words. SpecStandsFor words p.spec t.spec) h.words h.spec)) (parts_are (words_of p.words) [] p.parts t.parts (subst (λ words. PartsStandAfter words [] p.parts t.parts) h.words h.parts))
   where
     by : (words : List Word) (spec : tree.Specification) (parts : List tree.PartTree) → t.words ≡ words → t.spec ≡ spec → t.parts ≡ parts → t ≡ record { words = words; spec = spec; parts = parts }
     by words spec parts w s ps = rw (← w, ← s, ← ps) refl

@@ -21,7 +21,7 @@ use Rattle.rg_syntax.specs.Written as written
 use Rattle.rg_syntax.specs.Written.{SettingTree}
 use Rattle.rg_resolve.specs.Faults.{number_of, width_at, group_at, number_faults, faults_in_turn, IsRefusal}
 use Rattle.rg_resolve.specs.Inner.FormulaTrees.{place_of}
-use Rattle.rg_resolve.specs.Settings.{is_named, named_faults, setting_faults, settings_faults, move_faults, moves_faults, SettingStandsFor, StandBehind, SettingsStandFor, StartStandsFor, MoveStandsFor, MovesStandFor, OneStateOfSettings, OneListOfMoves, FaultlessStart, FaultlessMoves}
+use Rattle.rg_resolve.specs.Settings.{is_named, named_faults, setting_faults, settings_faults, move_faults, moves_faults, SettingStandsFor, StandAfter, SettingsStandFor, StartStandsFor, MoveStandsFor, MovesStandFor, OneStateOfSettings, OneListOfMoves, FaultlessStart, FaultlessMoves}
 use Rattle.rg_leaves.proofs.Refusals.{no_faults, no_test}
 use Rattle.rg_resolve.proofs.Typed.{none_left, none_right, unless-none, found_within}
 use Rattle.rg_resolve.specs.Inner.SettingTrees.{word_value, word_values, move_tree, move_trees}
@@ -105,26 +105,26 @@ unfolding setting_faults
 fine_faultless words before s k e new small = rw e (no_faults _ _ (no_test (not (is_named before s.word.text)) NameTwice s.word.line (ap not new)) (no_test (nat_lt (number_of s.value.text) (2 ^ width_at words k)) NumberTooLarge s.value.line (lt-ltb _ _ small)))
 
 -- settings without faults stand for their values
-stand_behind : (words : List Word) (before : List SettingTree) (others : List WordValue) (ss : List SettingTree) → AreOf words before others → faults_in_turn (setting_faults words) before ss ≡ [] → StandBehind words others ss (word_values words ss)
+stand_after : (words : List Word) (before : List SettingTree) (others : List WordValue) (ss : List SettingTree) → AreOf words before others → faults_in_turn (setting_faults words) before ss ≡ [] → StandAfter words others ss (word_values words ss)
 unfolding faults_in_turn
-stand_behind words before others [] of h = tt
-stand_behind words before others (s ∷ ss) of h =
+stand_after words before others [] of h = tt
+stand_after words before others (s ∷ ss) of h =
     let here = fine words before s (none_left _ _ h) in (
       record { word = here.word; value = refl; small = here.small },
       no_value words s.word.text _ here.word before others of here.new,
-      stand_behind words (before ++ s ∷ []) (others ++ word_value words s ∷ []) ss (are_of-more words before others s (word_value words s) of here.word) (none_right _ _ h),
+      stand_after words (before ++ s ∷ []) (others ++ word_value words s ∷ []) ss (are_of-more words before others s (word_value words s) of here.word) (none_right _ _ h),
     )
 
 -- and what stands for values has no faults
-behind_faultless : (words : List Word) (before : List SettingTree) (others : List WordValue) (ss : List SettingTree) (vs : List WordValue) → AreOf words before others → StandBehind words others ss vs → faults_in_turn (setting_faults words) before ss ≡ []
+after_faultless : (words : List Word) (before : List SettingTree) (others : List WordValue) (ss : List SettingTree) (vs : List WordValue) → AreOf words before others → StandAfter words others ss vs → faults_in_turn (setting_faults words) before ss ≡ []
 unfolding faults_in_turn
-behind_faultless words before others [] [] of h = refl
-behind_faultless words before others (s ∷ ss) (v ∷ vs) of h =
+after_faultless words before others [] [] of h = refl
+after_faultless words before others (s ∷ ss) (v ∷ vs) of h =
     let small = let P : ℕ → Type 0 = λ n. n < 2 ^ width_at words v.word in subst P (sym h.0.value) h.0.small in
     no_faults _ _ (fine_faultless words before s v.word h.0.word (not_named words s.word.text v.word h.0.word before others of h.1) small)
-    (behind_faultless words (before ++ s ∷ []) (others ++ v ∷ []) ss vs (are_of-more words before others s v of h.0.word) h.2)
-behind_faultless words before others [] (v ∷ vs) of h = absurd h
-behind_faultless words before others (s ∷ ss) [] of h = absurd h
+    (after_faultless words (before ++ s ∷ []) (others ++ v ∷ []) ss vs (are_of-more words before others s v of h.0.word) h.2)
+after_faultless words before others [] (v ∷ vs) of h = absurd h
+after_faultless words before others (s ∷ ss) [] of h = absurd h
 
 value_is : (words : List Word) (s : SettingTree) (v : WordValue) → SettingStandsFor words s v → v ≡ word_value words s
 value_is words s v h = by (ap (λ o. unwrap_or o 0) h.word) h.value
@@ -132,23 +132,23 @@ value_is words s v h = by (ap (λ o. unwrap_or o 0) h.word) h.value
     by : place_of words s.word.text ≡ v.word → number_of s.value.text ≡ v.value → v ≡ word_value words s
     by e d = rw (e, d) refl
 
-behind_values : (words : List Word) (others : List WordValue) (ss : List SettingTree) (vs : List WordValue) → StandBehind words others ss vs → vs ≡ word_values words ss
-behind_values words others [] [] h = refl
-behind_values words others (s ∷ ss) (v ∷ vs) h = rw (← value_is words s v h.0, ← behind_values words (others ++ v ∷ []) ss vs h.2) refl
-behind_values words others [] (v ∷ vs) h = absurd h
-behind_values words others (s ∷ ss) [] h = absurd h
+after_values : (words : List Word) (others : List WordValue) (ss : List SettingTree) (vs : List WordValue) → StandAfter words others ss vs → vs ≡ word_values words ss
+after_values words others [] [] h = refl
+after_values words others (s ∷ ss) (v ∷ vs) h = rw (← value_is words s v h.0, ← after_values words (others ++ v ∷ []) ss vs h.2) refl
+after_values words others [] (v ∷ vs) h = absurd h
+after_values words others (s ∷ ss) [] h = absurd h
 
 -- the values are of words that are there
-behind_each : (words : List Word) (others : List WordValue) (ss : List SettingTree) (vs : List WordValue) → StandBehind words others ss vs → All (IsValueOf (widths_of words)) vs
-behind_each words others [] [] h = λ i d less. absurd (omega arith)
-behind_each words others (s ∷ ss) (v ∷ vs) h =
+after_each : (words : List Word) (others : List WordValue) (ss : List SettingTree) (vs : List WordValue) → StandAfter words others ss vs → All (IsValueOf (widths_of words)) vs
+after_each words others [] [] h = λ i d less. absurd (omega arith)
+after_each words others (s ∷ ss) (v ∷ vs) h =
     let here : IsValueOf (widths_of words) v = record { word = rw (length-map words (λ w. w.width)) (found_within words s.word.text v.word h.0.word); small = h.0.small } in
-    All-cons (IsValueOf (widths_of words)) v vs here (behind_each words (others ++ v ∷ []) ss vs h.2)
-behind_each words others [] (v ∷ vs) h = absurd h
-behind_each words others (s ∷ ss) [] h = absurd h
+    All-cons (IsValueOf (widths_of words)) v vs here (after_each words (others ++ v ∷ []) ss vs h.2)
+after_each words others [] (v ∷ vs) h = absurd h
+after_each words others (s ∷ ss) [] h = absurd h
 
 -- a value that stands before has another word than these
-none_again : (words : List Word) (others : List WordValue) (ss : List SettingTree) (vs : List WordValue) (k : ℕ) (u : WordValue) → k < length others → get_or others k u ≡ u → StandBehind words others ss vs → All (λ v. v.word ≢ u.word) vs
+none_again : (words : List Word) (others : List WordValue) (ss : List SettingTree) (vs : List WordValue) (k : ℕ) (u : WordValue) → k < length others → get_or others k u ≡ u → StandAfter words others ss vs → All (λ v. v.word ≢ u.word) vs
 none_again words others [] [] k u inside at h = λ i d less. absurd (omega arith)
 none_again words others (s ∷ ss) (v ∷ vs) k u inside at h =
     let other : v.word ≢ u.word = λ same. h.1 k u inside (ap (λ (w : WordValue). w.word) at ∙ sym same) in
@@ -157,25 +157,25 @@ none_again words others (s ∷ ss) (v ∷ vs) k u inside at h =
 none_again words others [] (v ∷ vs) k u inside at h = absurd h
 none_again words others (s ∷ ss) [] k u inside at h = absurd h
 
-behind_once : (words : List Word) (others : List WordValue) (ss : List SettingTree) (vs : List WordValue) → StandBehind words others ss vs → OnePerWord vs
-behind_once words others [] [] h = tt
-behind_once words others (s ∷ ss) (v ∷ vs) h =
+after_once : (words : List Word) (others : List WordValue) (ss : List SettingTree) (vs : List WordValue) → StandAfter words others ss vs → OnePerWord vs
+after_once words others [] [] h = tt
+after_once words others (s ∷ ss) (v ∷ vs) h =
     let inside : length others < length (others ++ v ∷ []) = omega (arith, length-append others (v ∷ [])) in
-    (none_again words (others ++ v ∷ []) ss vs (length others) v inside (get_or-append_seam others v [] v) h.2, behind_once words (others ++ v ∷ []) ss vs h.2)
-behind_once words others [] (v ∷ vs) h = absurd h
-behind_once words others (s ∷ ss) [] h = absurd h
+    (none_again words (others ++ v ∷ []) ss vs (length others) v inside (get_or-append_seam others v [] v) h.2, after_once words (others ++ v ∷ []) ss vs h.2)
+after_once words others [] (v ∷ vs) h = absurd h
+after_once words others (s ∷ ss) [] h = absurd h
 
 pub settings_stand : (words : List Word) (ss : List SettingTree) → settings_faults words ss ≡ [] → SettingsStandFor words ss (word_values words ss)
-settings_stand words ss h = stand_behind words [] [] ss tt h
+settings_stand words ss h = stand_after words [] [] ss tt h
 
 pub settings_faultless : (words : List Word) (ss : List SettingTree) (vs : List WordValue) → SettingsStandFor words ss vs → settings_faults words ss ≡ []
-settings_faultless words ss vs h = behind_faultless words [] [] ss vs tt h
+settings_faultless words ss vs h = after_faultless words [] [] ss vs tt h
 
 pub settings_values : (words : List Word) (ss : List SettingTree) (vs : List WordValue) → SettingsStandFor words ss vs → vs ≡ word_values words ss
-settings_values words ss vs h = behind_values words [] ss vs h
+settings_values words ss vs h = after_values words [] ss vs h
 
 pub settings_change : (words : List Word) (ss : List SettingTree) (vs : List WordValue) → SettingsStandFor words ss vs → IsChange words vs
-settings_change words ss vs h = record { each = behind_each words [] ss vs h; once = behind_once words [] ss vs h }
+settings_change words ss vs h = record { each = after_each words [] ss vs h; once = after_once words [] ss vs h }
 
 -- a state
 pub start_stands : (words : List Word) (ss : List SettingTree) (vs : List WordValue) (state : List ℕ) → settings_faults words ss ≡ [] → vs ≡ word_values words ss → state ≡ given vs (replicate (length words) 0) → StartStandsFor words ss state
@@ -230,7 +230,7 @@ one_list_of_moves words ms s t h g = moves_are words ms s h ∙ sym (moves_are w
 pub faultless_moves : FaultlessMoves
 faultless_moves words ms = (λ h. (_, moves_stand words ms h), λ s. moves_faultless words ms s.0 s.1)
 
--- a refusal that isn't want of memory tells of a fault
+-- a refusal that isn't want of memory reports a fault
 pub refused_start : (words : List Word) (ss : List SettingTree) (file : SourceFile) (refusal : Refusal) → IsRefusal file (settings_faults words ss) refusal → (refusal ≡ no_memory) ⊎ ((s : List ℕ) → StartStandsFor words ss s → ⊥)
 refused_start words ss file refusal h = elim h.cause [ inl e ↦ inl e | inr e ↦ inr (λ s g. rw (settings_faultless words ss g.values g.stand) at e) ]
 
@@ -241,4 +241,4 @@ pub moves_stand_as : (words : List Word) (ms : List written.WrittenMove) (ts : L
 moves_stand_as words ms ts h same = rw same (moves_stand words ms h)
 
 pub values_fit : (words : List Word) (ss : List SettingTree) (vs : List WordValue) (widths : List ℕ) → settings_faults words ss ≡ [] → vs ≡ word_values words ss → widths ≡ widths_of words → All (IsValueOf widths) vs
-values_fit words ss vs widths h same wide = rw (same, wide) (behind_each words [] ss _ (settings_stand words ss h))
+values_fit words ss vs widths h same wide = rw (same, wide) (after_each words [] ss _ (settings_stand words ss h))

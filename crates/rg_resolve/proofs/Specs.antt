@@ -47,7 +47,7 @@ module _ (words : List Word) (s : SpecTree) (one two : Bool) (one_is : IsTrue on
         unfolding spec_faults
         spec_faultless o post = no_faults _ _ pre_none (no_faults _ _ rely_none (no_faults _ _ guar_none (rw one_is at post.faultless)))
 
--- a part behind others, of whose name it is known whether one of them has it
+-- a part after others, of whose name it is known whether one of them has it
 module _ (words : List Word) (before : List WrittenPart) (p : WrittenPart) (found : Bool) (name : List ℕ) (named : name ≡ p.name.text) (tested : found ≡ has_part before name) where
   twice : found ≡ has_part before p.name.text
   twice = tested ∙ ap (λ n. has_part before n) named

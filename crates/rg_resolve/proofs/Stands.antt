@@ -143,6 +143,6 @@ one_tree words one_state f p q s r = claim_tree words one_state f p s ∙ sym (c
 pub faultless_stand : FaultlessStand
 faultless_stand words one_state f = (λ h. (typed_claim words f, claim_stands words one_state f h), λ s. claim_faultless words one_state f s.0 s.1)
 
--- a refusal that isn't want of memory tells of a fault
+-- a refusal that isn't want of memory reports a fault
 pub refused_stands_for_none : (words : List Word) (one_state : Bool) (f : Claim) (file : SourceFile) (refusal : Refusal) → IsRefusal file (claim_faults words one_state f) refusal → (refusal ≡ no_memory) ⊎ ((p : Proposition) → ClaimStandsFor words one_state f p → ⊥)
 refused_stands_for_none words one_state f file refusal h = elim h.cause [ inl e ↦ inl e | inr e ↦ inr (λ p s. rw (claim_faultless words one_state f p s) at e) ]

@@ -1,4 +1,4 @@
--- A list whose items are resolved one after another, each behind those before it.
+-- A list whose items are resolved one after another, each after those before it.
 use Rattle.std.proofs.Common.{◌≡◌, ℕ, suc, ◌+◌, ◌≤◌, ◌<◌, Bool, ◌||◌, List, [], ◌∷◌, ◌++◌, length, map, take, refl, sym, ap, ◌∙◌, add-one, append_assoc, get_or}
 use Rattle.std.specs.List.{list_any}
 use Rattle.std.proofs.lemmas.List.{append-nil, map-append, get_or_default}
@@ -13,7 +13,7 @@ pub any-map : {A B : Type 0} (p : B → Bool) (f : A → B) (xs : List A) → li
 any-map p f [] = refl
 any-map p f (x ∷ xs) = ap (λ b. p (f x) || b) (any-map p f xs)
 
--- what is done, and what the rest gives, is what all give; and the faults of the rest, behind those before, are those of all
+-- what is done, and what the rest gives, is what all give; and the faults of the rest, after those before, are those of all
 pub record AreTaken {A B : Type 0} (tree : A → B) (faults : List A → A → List Fault) (all before rest : List A) (done : List B) : Type 0 where
   pub whole : done ++ map tree rest ≡ map tree all
   pub none : faults_in_turn faults before rest ≡ faults_in_turn faults [] all

@@ -29,7 +29,7 @@ abbrev mutual
   claim_faults words one_state (compared c a b) =
       term_faults words one_state (group_of words a b) a ++ term_faults words one_state (after_first (group_of words a b)) b
 
--- the faults of items, each behind those before it
+-- the faults of items, each after those before it
 unfoldable pub faults_in_turn : {A : Type 0} → (List A → A → List Fault) → List A → List A → List Fault
 faults_in_turn faults before [] = []
 faults_in_turn faults before (x ∷ xs) = faults before x ++ faults_in_turn faults (before ++ x ∷ []) xs

@@ -57,19 +57,19 @@ pub record PartStandsFor (words : List Word) (p : written.WrittenPart) (t : tree
   pub spec : SpecStandsFor words p.spec t.spec
   pub body : BlockStandsFor words p.body t.body
 
--- behind other parts, parts stand for these, one by one, and none has the name of one before
-abbrev pub PartsStandBehind : List Word → List tree.PartTree → List written.WrittenPart → List tree.PartTree → Type 0
-PartsStandBehind words before [] [] = Unit {0}
-PartsStandBehind words before (p ∷ ps) (t ∷ ts) = PartStandsFor words p t × All (λ u. u.name ≢ t.name) before × PartsStandBehind words (before ++ t ∷ []) ps ts
-PartsStandBehind words before [] (t ∷ ts) = ⊥
-PartsStandBehind words before (p ∷ ps) [] = ⊥
+-- after other parts, parts stand for these, one by one, and none has the name of one before
+abbrev pub PartsStandAfter : List Word → List tree.PartTree → List written.WrittenPart → List tree.PartTree → Type 0
+PartsStandAfter words before [] [] = Unit {0}
+PartsStandAfter words before (p ∷ ps) (t ∷ ts) = PartStandsFor words p t × All (λ u. u.name ≢ t.name) before × PartsStandAfter words (before ++ t ∷ []) ps ts
+PartsStandAfter words before [] (t ∷ ts) = ⊥
+PartsStandAfter words before (p ∷ ps) [] = ⊥
 
 -- a program: its words are declared so, and are a layout
 pub record ProgramStandsFor (p : written.WrittenProgram) (t : tree.ProgramTree) : Type 0 where
   pub words : t.words ≡ words_of p.words
   pub layout : IsLayout t.words
   pub spec : SpecStandsFor t.words p.spec t.spec
-  pub parts : PartsStandBehind t.words [] p.parts t.parts
+  pub parts : PartsStandAfter t.words [] p.parts t.parts
 
 -- a program stands for one tree at most
 abbrev pub OneProgramTree : Type 0

@@ -36,7 +36,7 @@ spec_faults words s = claim_faults words true s.pre ++ (claim_faults words false
 abbrev pub has_part : List WrittenPart → List ℕ → Bool
 has_part parts name = list_any (λ p. bytes_eq name p.name.text) parts
 
--- the faults of a part behind these parts: one of them has its name, or its specification or its body has faults
+-- the faults of a part after these parts: one of them has its name, or its specification or its body has faults
 unfoldable pub part_faults : List Word → List WrittenPart → WrittenPart → List Fault
 part_faults words before p =
     unless (not (has_part before p.name.text)) NameTwice p.name.line ++ (spec_faults words p.spec ++ block_faults words p.body)

@@ -16,12 +16,12 @@ use Rattle.rg_resolve.specs.Faults.{Fault, number_of, width_at, group_at, unless
 abbrev pub is_named : List SettingTree → List ℕ → Bool
 is_named settings name = list_any (λ s. bytes_eq name s.word.text) settings
 
--- the fault of a named word behind these settings: it isn't declared, or is named twice
+-- the fault of a named word after these settings: it isn't declared, or is named twice
 abbrev pub named_faults : List SettingTree → Leaf → Option ℕ → List Fault
 named_faults before x None = record { number = UnknownName; line = x.line } ∷ []
 named_faults before x (Some k) = unless (not (is_named before x.text)) NameTwice x.line
 
--- the faults of a setting behind these settings; a word that isn't declared asks nothing of its number
+-- the faults of a setting after these settings; a word that isn't declared asks nothing of its number
 unfoldable pub setting_faults : List Word → List SettingTree → SettingTree → List Fault
 setting_faults words before s =
     named_faults before s.word (index_of words s.word.text) ++ number_faults (group_at words (index_of words s.word.text)) s.value.line (number_of s.value.text)
@@ -44,16 +44,16 @@ pub record SettingStandsFor (words : List Word) (s : SettingTree) (v : WordValue
   pub value : number_of s.value.text ≡ v.value
   pub small : v.value < 2 ^ width_at words v.word
 
--- behind other values, settings stand for these, one by one, and none is of a word that has one already
-abbrev pub StandBehind : List Word → List WordValue → List SettingTree → List WordValue → Type 0
-StandBehind words before [] [] = Unit {0}
-StandBehind words before (s ∷ ss) (v ∷ vs) = SettingStandsFor words s v × All (λ u. u.word ≢ v.word) before × StandBehind words (before ++ v ∷ []) ss vs
-StandBehind words before [] (v ∷ vs) = ⊥
-StandBehind words before (s ∷ ss) [] = ⊥
+-- after other values, settings stand for these, one by one, and none is of a word that has one already
+abbrev pub StandAfter : List Word → List WordValue → List SettingTree → List WordValue → Type 0
+StandAfter words before [] [] = Unit {0}
+StandAfter words before (s ∷ ss) (v ∷ vs) = SettingStandsFor words s v × All (λ u. u.word ≢ v.word) before × StandAfter words (before ++ v ∷ []) ss vs
+StandAfter words before [] (v ∷ vs) = ⊥
+StandAfter words before (s ∷ ss) [] = ⊥
 
 -- settings stand for values of words, one by one, each of a word of its own
 abbrev pub SettingsStandFor : List Word → List SettingTree → List WordValue → Type 0
-SettingsStandFor words settings values = StandBehind words [] settings values
+SettingsStandFor words settings values = StandAfter words [] settings values
 
 -- settings stand for the state in which the named words have these values, and every other word is 0
 pub record StartStandsFor (words : List Word) (settings : List SettingTree) (state : List ℕ) : Type 0 where

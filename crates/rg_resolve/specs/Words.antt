@@ -15,7 +15,7 @@ word_of d = record { name = d.name.text; width = number_of d.width.text; fixed =
 abbrev pub words_of : List DeclaredWord → List Word
 words_of declarations = map word_of declarations
 
--- the fault of a name behind these words: one of them has it
+-- the fault of a name after these words: one of them has it
 abbrev pub name_faults : List Word → Leaf → List Fault
 name_faults before x = unless (is_none (index_of before x.text)) NameTwice x.line
 
@@ -23,14 +23,14 @@ name_faults before x = unless (is_none (index_of before x.text)) NameTwice x.lin
 abbrev pub width_faults : Leaf → List Fault
 width_faults n = unless (nat_le 1 (number_of n.text) && nat_le (number_of n.text) MOST_WIDTH) Width n.line
 
--- the faults of declarations behind these words
-unfoldable pub faults_behind : List Word → List DeclaredWord → List Fault
-faults_behind before [] = []
-faults_behind before (d ∷ ds) = (name_faults before d.name ++ width_faults d.width) ++ faults_behind (before ++ word_of d ∷ []) ds
+-- the faults of declarations after these words
+unfoldable pub faults_after : List Word → List DeclaredWord → List Fault
+faults_after before [] = []
+faults_after before (d ∷ ds) = (name_faults before d.name ++ width_faults d.width) ++ faults_after (before ++ word_of d ∷ []) ds
 
 -- the faults of declarations, and of declarations with a formula over them that may speak of two states
 abbrev pub declaration_faults : List DeclaredWord → List Fault
-declaration_faults declarations = faults_behind [] declarations
+declaration_faults declarations = faults_after [] declarations
 
 -- the faults of a text to show: those of its declarations, and then those of its formula
 abbrev pub shown_faults : List DeclaredWord → Claim → List Fault

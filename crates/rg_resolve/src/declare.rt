@@ -35,7 +35,7 @@ fn width_of(file: SourceFile, source: &[u8], token: &Token) -> Result<u32, Refus
     }
 }
 
-/// Puts a declared word behind the others.
+/// Puts a declared word after the others.
 #[tactic(auto, using(rg_leaves::proofs::Refusals::refusals))]
 fn declare_word(
     layout: &mut Layout,

@@ -89,7 +89,7 @@ abbrev pub number_row : ℕ → ℕ → List Lit
 number_row zero n = []
 number_row (suc w) n = cond (nat_eq (n % 2) 1) True False ∷ number_row w (n / 2)
 
--- the row shifted by k places to the high bits, with zeros behind it, in as many bits
+-- the row shifted by k places to the high bits, with zeros after it, in as many bits
 abbrev pub shifted_left : ℕ → List Lit → List Lit
 shifted_left k row = take (length row) (replicate k False ++ row)
 

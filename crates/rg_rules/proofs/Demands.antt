@@ -219,10 +219,10 @@ module _ (lines : List LineTree) (k : ℕ) where
 
 pub no_fault : DerivationsHaveNoFault
 no_fault parts lines last refusal d h =
-    ⊎_elim (λ bad. told (fits_answer lines bad.place (statements_of_parts parts) bad.line (Some bad.number) (d.numbered bad.place bad.line bad.found) (d.lines_fit bad.place bad.line bad.found) bad.fault)) (λ missing. missing.missing d.parts_derived) h
+    ⊎_elim (λ bad. reported (fits_answer lines bad.place (statements_of_parts parts) bad.line (Some bad.number) (d.numbered bad.place bad.line bad.found) (d.lines_fit bad.place bad.line bad.found) bad.fault)) (λ missing. missing.missing d.parts_derived) h
   where
-    told : {number : RefusalNumber} → Some number ≡ None → ⊥
-    told e = cc e
+    reported : {number : RefusalNumber} → Some number ≡ None → ⊥
+    reported e = cc e
 
 -- a number that names a line is no greater than the count of lines
 nth_most : {X : Type 0} (xs : List X) (k : ℕ) (x : X) → nth xs k ≡ Some x → k ≤ length xs

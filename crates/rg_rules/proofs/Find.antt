@@ -7,7 +7,7 @@ use Rattle.rg_tree.specs.Programs.{nth}
 pub use Rattle.rg_conditions.proofs.Found.{nth-map}
 use Rattle.rg_conditions.proofs.Found.{nth_later}
 
--- what stands at a place, and what stands behind it
+-- what stands at a place, and what stands after it
 pub here : {X : Type 0} (xs : List X) (i : ℕ) (x : X) → i < length xs → x ≡ get_or xs i x → drop i xs ≡ x ∷ drop (i + 1) xs
 here xs i x less at = drop-cons xs i x less ∙ ap (λ y. y ∷ drop (suc i) xs) (sym at) ∙ ap (λ j. x ∷ drop j xs) (sym (add-one i))
 

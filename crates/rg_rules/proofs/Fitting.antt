@@ -52,7 +52,7 @@ chained_first : (spec a : Specification) (xs : List Specification) (b : Bool) �
 chained_first spec a [] b some same rest = absurd (omega arith)
 chained_first spec a (x ∷ xs) b some same rest = (λ h. (same, rest.0 h), λ h. rest.1 h.1)
 
--- a premise that isn't the last one, and those behind it
+-- a premise that isn't the last one, and those after it
 pub chained_from : (lines : List LineTree) (k i : ℕ) (is others : List ℕ) (line : LineTree) (spec : Specification) (b : Bool) → is ≡ i ∷ others → nth lines i ≡ Some line → AreEarlier k is → k ≤ length lines + 1 → 1 ≤ length others → line.spec ≡ record spec { post = line.spec.post } → IsTrue b ↔ AreChained (record spec { pre = line.spec.post }) (map (λ l. l.spec) (lines_at lines others)) → IsTrue b ↔ AreChained spec (map (λ l. l.spec) (lines_at lines is))
 chained_from lines k i is others line spec b split found early le some same rest =
     let early' = subst (AreEarlier k) split early in

@@ -49,7 +49,7 @@ abbrev pub AreEarlier : ℕ → List ℕ → Type 0
 AreEarlier k [] = Unit {0}
 AreEarlier k (i ∷ is) = (1 ≤ i) × (i < k) × AreEarlier k is
 
--- the line that was found, and the lines behind it
+-- the line that was found, and the lines after it
 abbrev pub found_first : Option LineTree → List LineTree → List LineTree
 found_first None lines = lines
 found_first (Some line) lines = line ∷ lines
@@ -131,7 +131,7 @@ pub record IsFirstBadLine (all : List Statement) (lines : List LineTree) (refusa
   pub before : AreFaultlessBefore all lines place
   pub refused : refusal ≡ refused_at number Derivation line.source_line
 
--- all lines meet their demands, and some part isn't derived: told at the last line of the source
+-- all lines meet their demands, and some part isn't derived: reported at the last line of the source
 pub record IsMissingPart (parts : List PartTree) (lines : List LineTree) (last : ℕ) (refusal : Refusal) : Type 0 where
   pub before : AreFaultlessBefore (statements_of_parts parts) lines (suc (length lines))
   pub missing : PartsDerived lines 1 parts → ⊥

@@ -8,7 +8,7 @@ pub fn rules_are_sound()
     ensures { RulesAreSound }
 {}
 
-/// Lines that derive the parts have no fault: what is told as the first fault of a derivation is told of none that fits.
+/// Lines that derive the parts have no fault: what is reported as the first fault of a derivation is reported of none that fits.
 pub fn derivations_have_no_fault()
     ensures { DerivationsHaveNoFault }
 {}

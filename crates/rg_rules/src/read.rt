@@ -21,8 +21,8 @@ impl Derivation {
     /// The first fault, in the file `derivation`. First `Limit` at line 1 (the file is too large) and `BadByte` at the byte's
     /// line. Then of its shape, at the line of the token, `UnexpectedInDerivation`, `Depth` and `Limit`, and `Unfinished` at
     /// the last line. Then of its meaning, the least token first: `NumberTooLarge` for a number of a line above
-    /// 4,294,967,295, and the faults of its formulas as `rg_resolve::resolve::resolve_formula` tells them. Then of its lines, as
-    /// `of_lines` tells them. `Memory` where memory was refused.
+    /// 4,294,967,295, and the faults of its formulas as `rg_resolve::resolve::resolve_formula` reports them. Then of its lines, as
+    /// `of_lines` reports them. `Memory` where memory was refused.
     pub fn read(alloc: Global, program: &Program, source: &[u8]) -> Result<Derivation, Refusal>
         // What is read is what is written, and it derives the program's parts.
         ensures fits { IfOk result (λ d. FitsProgram (program_tree program.now) source.now (map line_tree d.lines.items)) }

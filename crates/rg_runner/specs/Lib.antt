@@ -1,3 +1,5 @@
-pub use Rattle.rg_standing.specs.Moves
-pub use Rattle.rg_threads.specs.Faults
+pub mod Faults
+pub mod Inner
+pub use Rattle.rg_floor.specs.Moves
+pub use Rattle.rg_runner.specs.Faults
 pub mod Running

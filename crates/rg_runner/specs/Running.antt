@@ -12,8 +12,8 @@ use Rattle.rg_monitor.specs.Lines.{lines_of}
 use Rattle.rg_floor.specs.History.{FloorView, IsLegal, change_in}
 use Rattle.rg_floor.specs.Turns.{ClosedView, why_of}
 use Rattle.rg_floor.specs.declared.turn.Why.TheVariants.{Stopped}
-use Rattle.rg_threads.specs.Faults.{IsRunFault}
-use Rattle.rg_standing.specs.Moves.{first_place, MovesStand}
+use Rattle.rg_runner.specs.Faults.{IsRunFault}
+use Rattle.rg_floor.specs.Moves.{first_place, MovesStand}
 
 -- what is left of a run of this program and code, from this start, with so many steps by parts at most, and with these moves: it ended
 -- in a legal floor, whose words and places say why, and not since it was stopped; the history is the floor's, and the changes are exactly

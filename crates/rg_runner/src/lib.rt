@@ -1,7 +1,10 @@
 //! Runs of a program: a thread for each part, one for the moves of the environment, and the records printed in order.
 #![tactic(auto)]
 
+pub mod gate;
+pub mod log;
 pub mod player;
 pub mod runner;
-
-pub use rg_threads::gate as gate;
+pub mod table;
+mod task;
+pub mod threads;

@@ -7,15 +7,15 @@ ghost use Rattle.rg_tree.specs.Moves.{move as move_tree, AreMoves};
 ghost use Rattle.rg_tree.specs.ProgramTrees.{program as program_tree};
 ghost use Rattle.rg_code.specs.CodeTrees.{code_blocks};
 ghost use Rattle.rg_floor.specs.Turns.{open_fault};
-ghost use Rattle.rg_threads.specs.Faults.{failures_in};
+ghost use Rattle.rg_runner.specs.Faults.{failures_in};
 ghost use Rattle.rg_runner.specs.Running.{IsRunOf, IsPlayed};
 
+use crate::gate::Gate;
 use crate::runner::run;
 use rg_code::checked::Checked;
 use rg_floor::closed::Closed;
 use rg_floor::floor::Floor;
 use rg_floor::round::Round;
-use rg_threads::gate::Gate;
 use rg_tree::moves::Move;
 use rg_words::{Out, Refusal, State};
 use std::alloc::Global;

@@ -4,6 +4,7 @@
 ghost use Rattle.std.specs.Prelude.{◌≡◌};
 ghost use Rattle.rg_machine.specs.Replay.{EventFits};
 
+use crate::programs::EACH_SETS_A_WORD;
 use rg_code::compile::compile;
 use rg_machine::config::Config;
 use rg_machine::event::Event;
@@ -33,14 +34,15 @@ fn trace(alloc: Global, layout: &Layout, first: &str, steps: Steps) -> Result<Tr
     })
 }
 
-/// What `follows` says of a trace of a program.
+/// What `follows` says of a program and of a trace over the words of a layout: that it is no run, or whether the run has ended.
 fn answer(
     alloc: Global,
     read: &Program,
+    layout: &Layout,
     first: &str,
     steps: Steps,
 ) -> Result<Option<bool>, Refusal> {
-    let trace = trace(alloc, &read.layout, first, steps)?;
+    let trace = trace(alloc, layout, first, steps)?;
     Ok(follows(alloc, read, &trace)?)
 }
 
@@ -86,177 +88,143 @@ fn does_all(alloc: Global, read: &Program, first: &str, steps: Steps) -> Result<
     Ok(true)
 }
 
-/// A trace, and what is said of it: that it is no run, or whether the run has ended.
-type Row<'a> = (Steps<'a>, Option<bool>);
+/// A trace, and what is said of it.
+type JudgedTrace<'a> = (Steps<'a>, Option<bool>);
 
 /// Of each trace of a program this is said, and the machine does just the runs.
-fn expect_of(
+fn expect(
     rt: &impl Abort,
     alloc: Global,
     read: &Program,
     first: &str,
-    rows: &[Row],
+    traces: &[JudgedTrace],
 ) -> Result<(), Fail> {
-    for (steps, ended) in rows {
-        let found = answer(alloc, read, first, steps)?;
+    for (steps, ended) in traces {
+        let found = answer(alloc, read, &read.layout, first, steps)?;
         let is_done = does_all(alloc, read, first, steps)?;
         assert!(rt; found == *ended && is_done == ended.is_some());
     }
     Ok(())
 }
 
-/// Of each trace of the program that a text spells this is said.
-fn expect(
-    rt: &impl Abort,
-    alloc: Global,
-    text: &str,
-    first: &str,
-    rows: &[Row],
-) -> Result<(), Fail> {
-    let read = program(alloc, text.as_bytes())?;
-    expect_of(rt, alloc, &read, first, rows)
-}
-
 const ASSIGNMENT: &str = "words x:2 y:2 pre true rely true guar true post true
 part p pre true rely true guar true post true begin x := 1 end";
 
-#[test]
-fn an_assignment_is_one_step(rt: HostRuntime) -> Result<(), Fail> {
-    let rows = [
-        ([].as_slice(), Some(false)),
-        ([(1, "x = 1")].as_slice(), Some(true)),
-        ([(1, "")].as_slice(), None),
-        ([(1, "x = 1"), (1, "x = 1")].as_slice(), None),
-        (
-            [(0, "x = 3 y = 2"), (1, "x = 1 y = 2"), (0, "")].as_slice(),
-            Some(true),
-        ),
-        ([(2, "x = 1")].as_slice(), None),
-    ];
-    expect(&rt, rt.alloc(), ASSIGNMENT, "", rows.as_slice())
-}
-
-const ITEMS: &str = "words x:2 y:2 pre true rely true guar true post true
-part p pre true rely true guar true post true begin x := 1; if (x = 1) then skip; x := 2 else skip end end";
-
-#[test]
-fn items_are_done_in_order(rt: HostRuntime) -> Result<(), Fail> {
-    let rows = [
-        (
-            [(1, "x = 1"), (1, "x = 1"), (1, "x = 1"), (1, "x = 2")].as_slice(),
-            Some(true),
-        ),
-        (
-            [(1, "x = 1"), (0, ""), (1, ""), (1, "")].as_slice(),
-            Some(true),
-        ),
-        ([(1, "x = 1"), (1, "x = 1"), (1, "x = 2")].as_slice(), None),
-        ([(1, "x = 1"), (1, "x = 1")].as_slice(), Some(false)),
-    ];
-    expect(&rt, rt.alloc(), ITEMS, "", rows.as_slice())
-}
-
-const AWAIT: &str = "words x:2 y:2 pre true rely true guar true post true
-part p pre true rely true guar true post true begin await (x = 1) do x := 2; y := x end end";
-
-#[test]
-fn an_await_waits_for_its_guard(rt: HostRuntime) -> Result<(), Fail> {
-    let rows = [
-        ([(1, "x = 2 y = 2")].as_slice(), None),
-        (
-            [(0, "x = 1 y = 3"), (1, "x = 2 y = 2")].as_slice(),
-            Some(true),
-        ),
-        ([(0, "x = 1 y = 3"), (1, "x = 2 y = 1")].as_slice(), None),
-        ([(0, "x = 1 y = 3"), (0, "")].as_slice(), Some(false)),
-    ];
-    expect(&rt, rt.alloc(), AWAIT, "", rows.as_slice())
-}
-
-const LOOP: &str = "words x:2 y:2 pre true rely true guar true post true
-part p pre true rely true guar true post true begin while (x = 0) do x := 1 end end";
-
-#[test]
-fn a_loop_ends_by_a_test(rt: HostRuntime) -> Result<(), Fail> {
-    let rows = [
-        ([(1, ""), (1, "x = 1"), (1, "x = 1")].as_slice(), Some(true)),
-        ([(1, ""), (1, "x = 1")].as_slice(), Some(false)),
-        ([(0, "x = 2"), (1, "x = 2")].as_slice(), Some(true)),
-        (
-            [
-                (1, ""),
-                (0, "y = 1"),
-                (1, "x = 1 y = 1"),
-                (0, "y = 1"),
-                (1, "y = 1"),
-            ]
-            .as_slice(),
-            Some(false),
-        ),
-        ([(1, "x = 1")].as_slice(), None),
-    ];
-    expect(&rt, rt.alloc(), LOOP, "", rows.as_slice())
-}
-
-const TWO_PARTS: &str = "words x:2 y:2 pre true rely true guar true post true
+/// Programs, each with the first state of its traces, and these.
+const PROGRAMS: &[(&str, &str, &[JudgedTrace<'static>])] = &[
+    // An assignment is one step.
+    (
+        ASSIGNMENT,
+        "",
+        &[
+            (&[], Some(false)),
+            (&[(1, "x = 1")], Some(true)),
+            (&[(1, "")], None),
+            (&[(1, "x = 1"), (1, "x = 1")], None),
+            (
+                &[(0, "x = 3 y = 2"), (1, "x = 1 y = 2"), (0, "")],
+                Some(true),
+            ),
+            (&[(2, "x = 1")], None),
+        ],
+    ),
+    // Items are done in order.
+    (
+        "words x:2 y:2 pre true rely true guar true post true
+part p pre true rely true guar true post true begin x := 1; if (x = 1) then skip; x := 2 else skip end end",
+        "",
+        &[
+            (
+                &[(1, "x = 1"), (1, "x = 1"), (1, "x = 1"), (1, "x = 2")],
+                Some(true),
+            ),
+            (&[(1, "x = 1"), (0, ""), (1, ""), (1, "")], Some(true)),
+            (&[(1, "x = 1"), (1, "x = 1"), (1, "x = 2")], None),
+            (&[(1, "x = 1"), (1, "x = 1")], Some(false)),
+        ],
+    ),
+    // An await waits for its guard.
+    (
+        "words x:2 y:2 pre true rely true guar true post true
+part p pre true rely true guar true post true begin await (x = 1) do x := 2; y := x end end",
+        "",
+        &[
+            (&[(1, "x = 2 y = 2")], None),
+            (&[(0, "x = 1 y = 3"), (1, "x = 2 y = 2")], Some(true)),
+            (&[(0, "x = 1 y = 3"), (1, "x = 2 y = 1")], None),
+            (&[(0, "x = 1 y = 3"), (0, "")], Some(false)),
+        ],
+    ),
+    // A loop ends by a test.
+    (
+        "words x:2 y:2 pre true rely true guar true post true
+part p pre true rely true guar true post true begin while (x = 0) do x := 1 end end",
+        "",
+        &[
+            (&[(1, ""), (1, "x = 1"), (1, "x = 1")], Some(true)),
+            (&[(1, ""), (1, "x = 1")], Some(false)),
+            (&[(0, "x = 2"), (1, "x = 2")], Some(true)),
+            (
+                &[
+                    (1, ""),
+                    (0, "y = 1"),
+                    (1, "x = 1 y = 1"),
+                    (0, "y = 1"),
+                    (1, "y = 1"),
+                ],
+                Some(false),
+            ),
+            (&[(1, "x = 1")], None),
+        ],
+    ),
+    // Parts take turns.
+    (
+        "words x:2 y:2 pre true rely true guar true post true
 part p pre true rely true guar true post true begin x := 1 end
-part q pre true rely true guar true post true begin y := x end";
+part q pre true rely true guar true post true begin y := x end",
+        "",
+        &[
+            (&[], Some(false)),
+            (&[(1, "x = 1")], Some(false)),
+            (&[(1, "x = 1"), (2, "x = 1 y = 1")], Some(true)),
+            (&[(2, ""), (1, "x = 1")], Some(true)),
+            (&[(1, "")], None),
+            (&[(0, "x = 1 y = 1")], Some(false)),
+            (&[(3, "x = 1 y = 1")], None),
+        ],
+    ),
+    // Each part sets a word.
+    (
+        EACH_SETS_A_WORD,
+        "",
+        &[
+            (&[], Some(false)),
+            (&[(1, "x = 1")], Some(false)),
+            (&[(1, "x = 1"), (2, "x = 1 y = 1")], Some(true)),
+            (&[(1, "")], None),
+            (&[(0, "x = 1 y = 1")], Some(false)),
+        ],
+    ),
+    // Fixed words stay.
+    (
+        "words x:2 fixed y:2 pre true rely true guar true post true
+part p pre true rely true guar true post true begin x := 1 end",
+        "x = 1 y = 1",
+        &[
+            (&[(0, "x = 1 y = 2")], None),
+            (&[(0, "x = 3 y = 1")], Some(false)),
+            (&[(1, "x = 1 y = 1")], Some(true)),
+        ],
+    ),
+];
 
 #[test]
-fn parts_take_turns(rt: HostRuntime) -> Result<(), Fail> {
-    let rows = [
-        ([].as_slice(), Some(false)),
-        ([(1, "x = 1")].as_slice(), Some(false)),
-        ([(1, "x = 1"), (2, "x = 1 y = 1")].as_slice(), Some(true)),
-        ([(2, ""), (1, "x = 1")].as_slice(), Some(true)),
-        ([(1, "")].as_slice(), None),
-        ([(0, "x = 1 y = 1")].as_slice(), Some(false)),
-        ([(3, "x = 1 y = 1")].as_slice(), None),
-    ];
-    expect(&rt, rt.alloc(), TWO_PARTS, "", rows.as_slice())
-}
-
-const EACH_SETS_A_WORD: &str = "words x:1 y:1
-pre true
-rely ((x' = x) and (y' = y))
-guar true
-post ((x = 1) and (y = 1))
-part a
-pre true rely (x' = x) guar (y' = y) post (x = 1)
-begin x := 1 end
-part b
-pre true rely (y' = y) guar (x' = x) post (y = 1)
-begin y := 1 end";
-
-#[test]
-fn each_part_sets_a_word(rt: HostRuntime) -> Result<(), Fail> {
-    let rows = [
-        ([].as_slice(), Some(false)),
-        ([(1, "x = 1")].as_slice(), Some(false)),
-        ([(1, "x = 1"), (2, "x = 1 y = 1")].as_slice(), Some(true)),
-        ([(1, "")].as_slice(), None),
-        ([(0, "x = 1 y = 1")].as_slice(), Some(false)),
-    ];
-    expect(&rt, rt.alloc(), EACH_SETS_A_WORD, "", rows.as_slice())
-}
-
-const FIXED: &str = "words x:2 fixed y:2 pre true rely true guar true post true
-part p pre true rely true guar true post true begin x := 1 end";
-
-#[test]
-fn fixed_words_stay(rt: HostRuntime) -> Result<(), Fail> {
-    let rows = [
-        ([(0, "x = 1 y = 2")].as_slice(), None),
-        ([(0, "x = 3 y = 1")].as_slice(), Some(false)),
-        ([(1, "x = 1 y = 1")].as_slice(), Some(true)),
-    ];
-    expect(&rt, rt.alloc(), FIXED, "x = 1 y = 1", rows.as_slice())
-}
-
-/// A state of the words that a text declares.
-fn state_of(alloc: Global, declared: &str, first: &str) -> Result<State, Refusal> {
-    let (layout, _) = show(alloc, declared.as_bytes())?;
-    start(alloc, &layout, first.as_bytes())
+fn follows_is_some_where_the_machine_does_the_trace(rt: HostRuntime) -> Result<(), Fail> {
+    for (text, first, traces) in PROGRAMS {
+        let read = program(rt.alloc(), text.as_bytes())?;
+        expect(&rt, rt.alloc(), &read, first, traces)?;
+    }
+    Ok(())
 }
 
 /// What `follows` says of a program and of a trace without steps, whose first state is of the words that another text declares.
@@ -266,25 +234,8 @@ fn answer_of_words(
     declared: &str,
     first: &str,
 ) -> Result<Option<bool>, Refusal> {
-    let trace = Trace {
-        first: state_of(alloc, declared, first)?,
-        steps: Vec::new(alloc),
-    };
-    Ok(follows(alloc, read, &trace)?)
-}
-
-/// Of a program and each first state, declared and written by two texts, this is said.
-fn expect_of_words(
-    rt: &impl Abort,
-    alloc: Global,
-    read: &Program,
-    rows: &[(&str, &str, Option<bool>)],
-) -> Result<(), Fail> {
-    for (declared, first, ended) in rows {
-        let found = answer_of_words(alloc, read, declared, first)?;
-        assert!(rt; found == *ended);
-    }
-    Ok(())
+    let (layout, _goal) = show(alloc, declared.as_bytes())?;
+    answer(alloc, read, &layout, first, &[])
 }
 
 #[test]
@@ -295,5 +246,8 @@ fn a_state_of_other_words_is_none(rt: HostRuntime) -> Result<(), Fail> {
         ("words x:3 y:3 show true", "y = 4", None),
     ];
     let read = program(rt.alloc(), ASSIGNMENT.as_bytes())?;
-    expect_of_words(&rt, rt.alloc(), &read, rows.as_slice())
+    for (declared, first, ended) in &rows {
+        assert!(rt; answer_of_words(rt.alloc(), &read, declared, first)? == *ended);
+    }
+    Ok(())
 }

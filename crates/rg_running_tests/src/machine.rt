@@ -37,15 +37,11 @@ fn seen(rt: &impl Abort, config: &Config) -> Seen {
     ((state.get(0), state.get(1)), ends)
 }
 
-/// What a copy shows.
-fn seen_of_copy(rt: &impl Abort, config: &Config) -> Result<Seen, AllocError> {
+/// Whether a configuration and its copy are at the ends of both parts, with these values of the words.
+fn is_over(rt: &impl Abort, config: &Config, values: (u64, u64)) -> Result<bool, AllocError> {
     let copy = config.copy()?;
-    Ok(seen(rt, &copy))
-}
-
-/// Whether both parts are at their ends, with these values of the words.
-fn is_over(seen: Seen, values: (u64, u64)) -> bool {
-    seen == (values, [(true, 0), (true, 0)])
+    let over = (values, [(true, 0), (true, 0)]);
+    Ok(seen(rt, config) == over && seen(rt, &copy) == over)
 }
 
 const TWO_ASSIGNMENTS: &str = "words x:1 y:1 pre true rely true guar true post true
@@ -66,33 +62,13 @@ fn replayed(rt: &impl Abort, config: &mut Config) -> Result<usize, AllocError> {
     Ok(config.replay(events.as_slice()))
 }
 
-/// What the code shows at the beginning, how many of the events happen, and what it and its copy show then.
-fn events_of(
-    rt: &impl Abort,
-    alloc: Global,
-    code: &Code,
-) -> Result<(Seen, usize, Seen, Seen), Refusal> {
-    let mut config = begin(alloc, code)?;
-    let first = seen(rt, &config);
-    let done = replayed(rt, &mut config)?;
-    let copied = seen_of_copy(rt, &config)?;
-    Ok((first, done, seen(rt, &config), copied))
-}
-
-/// The same of the program of two assignments.
-fn events_of_two_assignments(
-    rt: &impl Abort,
-    alloc: Global,
-) -> Result<(Seen, usize, Seen, Seen), Refusal> {
-    let code = code_of(alloc, TWO_ASSIGNMENTS)?;
-    events_of(rt, alloc, &code)
-}
-
 #[test]
 fn events_happen_up_to_the_first_that_can_not(rt: HostRuntime) -> Result<(), Fail> {
-    let (first, done, last, copied) = events_of_two_assignments(&rt, rt.alloc())?;
-    assert!(rt; first == ((0, 0), [(false, 3), (false, 3)]));
-    assert!(rt; done == 3 && is_over(last, (0, 1)) && is_over(copied, (0, 1)));
+    let code = code_of(rt.alloc(), TWO_ASSIGNMENTS)?;
+    let mut config = begin(rt.alloc(), &code)?;
+    assert!(rt; seen(&rt, &config) == ((0, 0), [(false, 3), (false, 3)]));
+    let done = replayed(&rt, &mut config)?;
+    assert!(rt; done == 3 && is_over(&rt, &config, (0, 1))?);
     Ok(())
 }
 
@@ -101,12 +77,6 @@ part a pre true rely true guar true post true begin
 await (x = 1) do y := 1 end end
 part b pre true rely true guar true post true begin
 x := 1 end";
-
-/// Whether the first part can step.
-fn first_can_step(rt: &impl Abort, config: &mut Config) -> bool {
-    assert!(rt; config.parts() == 2);
-    config.can_step(1)
-}
 
 /// How many happen of a step of the first part and then one of the second, or the other way round.
 fn steps_done(rt: &impl Abort, config: &mut Config, first_leads: bool) -> usize {
@@ -117,34 +87,14 @@ fn steps_done(rt: &impl Abort, config: &mut Config, first_leads: bool) -> usize 
     config.replay([Event::Part(2), Event::Part(1)].as_slice())
 }
 
-/// Whether the first part can step at the beginning, how many of its step and then the other's happen and what is seen then, and
-/// how many of the steps happen the other way round and what is seen then.
-fn turns_of(
-    rt: &impl Abort,
-    alloc: Global,
-    code: &Code,
-) -> Result<(bool, usize, Seen, usize, Seen), Refusal> {
-    let mut config = begin(alloc, code)?;
-    let can_step = first_can_step(rt, &mut config);
-    let blocked = steps_done(rt, &mut config, true);
-    let waiting = seen(rt, &config);
-    let free = steps_done(rt, &mut config, false);
-    Ok((can_step, blocked, waiting, free, seen(rt, &config)))
-}
-
-/// The same of the program with an `await`.
-fn turns_of_await(
-    rt: &impl Abort,
-    alloc: Global,
-) -> Result<(bool, usize, Seen, usize, Seen), Refusal> {
-    let code = code_of(alloc, AWAIT)?;
-    turns_of(rt, alloc, &code)
-}
-
 #[test]
 fn an_await_waits_for_another_part(rt: HostRuntime) -> Result<(), Fail> {
-    let (can_step, blocked, waiting, free, last) = turns_of_await(&rt, rt.alloc())?;
-    assert!(rt; !can_step && blocked == 0 && waiting == ((0, 0), [(false, 3), (false, 5)]));
-    assert!(rt; free == 2 && is_over(last, (1, 1)));
+    let code = code_of(rt.alloc(), AWAIT)?;
+    let mut config = begin(rt.alloc(), &code)?;
+    let waits = config.parts() == 2 && !config.can_step(1);
+    let blocked = steps_done(&rt, &mut config, true);
+    assert!(rt; waits && blocked == 0 && seen(&rt, &config) == ((0, 0), [(false, 3), (false, 5)]));
+    let free = steps_done(&rt, &mut config, false);
+    assert!(rt; free == 2 && is_over(&rt, &config, (1, 1))?);
     Ok(())
 }

@@ -1,11 +1,12 @@
 //! What is equal by the gates' operands, shown by unit clauses alone.
 
+use crate::answer::Search;
 use crate::leaders::Leaders;
-use rg_solver::circuit::{Circuit, Operands};
 use rg_solver::code::{Code, code_for, negated, variable_of};
-use rg_solver::solver::{FALSE, OPEN, Solver, TRUE};
-use rg_solver::table::{add, at, put};
+use rg_solver::solver::{FALSE, OPEN, TRUE};
+use rg_solver::table::{add, at, extend, put};
 use std::alloc::Global;
+use std::mem;
 
 /// The code that stands for true, and its negation for false.
 const TRUTH: Code = 0;
@@ -22,7 +23,7 @@ const FALSE_GATE: u64 = 1 << 63;
 #[derive(Drop)]
 pub struct Classes {
     /// The literal under which they are equal, or 0.
-    pub case: Code,
+    case: Code,
     /// By variable a literal of a lower one that is equal, or its own.
     parents: Vec<Code>,
     /// The parents without the case.
@@ -31,20 +32,23 @@ pub struct Classes {
 }
 
 impl Classes {
-    /// Each literal is equal to itself alone.
-    pub fn new(alloc: Global, variables: usize, lacks_memory: &mut bool) -> Self {
-        let size = variables.saturating_add(1);
-        let mut classes = Classes {
+    /// No literals.
+    pub fn new(alloc: Global) -> Self {
+        Classes {
             case: 0,
             parents: Vec::new(alloc),
             kept: Vec::new(alloc),
-            gates: Leaders::new(alloc, size, lacks_memory),
-        };
-        for variable in 0..size {
-            add(&mut classes.parents, code_for(variable), lacks_memory);
-            add(&mut classes.kept, code_for(variable), lacks_memory);
+            gates: Leaders::new(alloc),
         }
-        classes
+    }
+
+    /// Room for so many variables, each of which is equal to itself alone.
+    pub fn make_room(&mut self, variables: usize, lacks_memory: &mut bool) {
+        let size = variables.saturating_add(1);
+        self.gates.make_room(size, lacks_memory);
+        for variable in 0..size {
+            add(&mut self.parents, code_for(variable), lacks_memory);
+        }
     }
 
     #[inline]
@@ -67,16 +71,6 @@ impl Classes {
         lower
     }
 
-    /// The lowest literal that is equal, or a constant.
-    pub fn reduced(&mut self, solver: &Solver, literal: Code) -> Code {
-        let root = self.root(literal);
-        match solver.value(root) {
-            OPEN => root,
-            TRUE => TRUTH,
-            _ => FALSITY,
-        }
-    }
-
     /// Makes two literals equal.
     pub fn join(&mut self, first: Code, second: Code) {
         let a = self.root(first);
@@ -89,129 +83,127 @@ impl Classes {
         put(&mut self.parents, variable_of(high), low ^ (high & 1));
     }
 
+    /// Begins a case; the classes are as they were before it when it ends.
+    pub fn begin(&mut self, case: Code, lacks_memory: &mut bool) {
+        self.case = case;
+        self.kept.clear();
+        extend(&mut self.kept, &self.parents, lacks_memory);
+    }
+
+    /// Ends the case.
+    pub fn end(&mut self) {
+        self.case = 0;
+        mem::swap(&mut self.parents, &mut self.kept);
+    }
+}
+
+impl Search {
+    /// The lowest literal that is equal, or a constant.
+    pub fn reduced(&mut self, literal: Code) -> Code {
+        let root = self.classes.root(literal);
+        match self.solver.value(root) {
+            OPEN => root,
+            TRUE => TRUTH,
+            _ => FALSITY,
+        }
+    }
+
     /// Looks at the gates, round by round, until nothing is found, the case is refuted, or the solver has done so much.
-    pub fn close(&mut self, solver: &mut Solver, circuit: &Circuit, effort: u64) {
+    pub fn close(&mut self, effort: u64) {
         for _ in 0..MOST_ROUNDS {
-            if !self.goes_round(solver, circuit, effort) {
+            if !self.goes_round(effort) {
                 return;
             }
         }
     }
 
     /// Whether a look at all gates found anything, and it makes sense to look again.
-    fn goes_round(&mut self, solver: &mut Solver, circuit: &Circuit, effort: u64) -> bool {
+    fn goes_round(&mut self, effort: u64) -> bool {
         let mut has_found = false;
-        self.gates.clear();
-        for variable in circuit.inputs.saturating_add(1)..circuit.variables().saturating_add(1) {
-            if self.looks_at(solver, circuit, variable) {
+        self.classes.gates.clear();
+        for variable in 1..self.solver.circuit.variables().saturating_add(1) {
+            if self.looks_at(variable) {
                 has_found = true;
-                if self.is_ended(solver) || solver.effort > effort {
+                if self.is_ended() || self.solver.effort > effort {
                     return false;
                 }
             }
         }
-        solver.effort = solver
-            .effort
-            .saturating_add(circuit.gates.len() as u64 / 16);
+        let work = self.solver.circuit.gates.len() as u64 / 16;
+        self.solver.effort = self.solver.effort.saturating_add(work);
         has_found
     }
 
     /// Whether there is nothing more to find: all is refuted, or the case is.
-    fn is_ended(&self, solver: &Solver) -> bool {
-        solver.is_over() || self.case > 0 && solver.value(self.case) == FALSE
+    fn is_ended(&self) -> bool {
+        let case = self.classes.case;
+        self.solver.is_over() || case > 0 && self.solver.value(case) == FALSE
     }
 
     /// Whether a gate shows anything.
-    fn looks_at(&mut self, solver: &mut Solver, circuit: &Circuit, variable: usize) -> bool {
+    fn looks_at(&mut self, variable: usize) -> bool {
         let gate = code_for(variable);
-        let value = solver.value(gate);
-        if value == TRUE || !circuit.is_active(variable) {
+        let value = self.solver.value(gate);
+        if value == TRUE || !self.solver.circuit.is_active(variable) {
             return false;
         }
-        let Some(operands) = circuit.operands(variable) else {
+        let Some(operands) = self.solver.circuit.operands(variable) else {
             return false;
         };
-        let reduced = self.reduce(solver, operands);
+        let a = self.reduced(operands.first);
+        let b = self.reduced(operands.second);
         if value == OPEN {
-            self.looks_at_open(solver, gate, reduced)
+            self.looks_at_open(gate, a.min(b), a.max(b))
         } else {
-            self.looks_at_false(solver, reduced)
+            self.looks_at_false(a.min(b), a.max(b))
         }
     }
 
-    /// The reduced operands, the lower one first.
-    fn reduce(&mut self, solver: &Solver, operands: Operands) -> Operands {
-        let a = self.reduced(solver, operands.first);
-        let b = self.reduced(solver, operands.second);
-        Operands {
-            first: a.min(b),
-            second: a.max(b),
-        }
-    }
-
-    fn looks_at_open(&mut self, solver: &mut Solver, gate: Code, reduced: Operands) -> bool {
-        let Operands { first, second } = reduced;
+    /// Looks at an open gate with these reduced operands, the lower one first.
+    fn looks_at_open(&mut self, gate: Code, first: Code, second: Code) -> bool {
         if first == FALSITY || second == FALSITY || first == negated(second) {
-            return solver.excludes(self.case, gate, gate);
+            return self.solver.excludes(self.classes.case, gate, gate);
         }
         if first == TRUTH || first == second {
-            return self.merge(solver, gate, second);
+            return self.merge(gate, second);
         }
         let key = key_of(first, second);
-        match self.gates.leader_or(key, variable_of(gate)) {
-            Some(other) => self.merge(solver, gate, code_for(other)),
+        match self.classes.gates.leader_or(key, variable_of(gate)) {
+            Some(other) => self.merge(gate, code_for(other)),
             None => false,
         }
     }
 
     /// Not both operands: with the same of their negations they are opposite.
-    fn looks_at_false(&mut self, solver: &mut Solver, reduced: Operands) -> bool {
-        let Operands { first, second } = reduced;
+    fn looks_at_false(&mut self, first: Code, second: Code) -> bool {
         if first < 2 {
             return false;
         }
         if first == second {
-            return solver.excludes(self.case, first, first);
+            return self.solver.excludes(self.classes.case, first, first);
         }
         let key = key_of(first, second) ^ FALSE_GATE;
-        let _earlier = self.gates.leader_or(key, 0);
+        let _earlier = self.classes.gates.leader_or(key, 0);
         let opposite = key_of(negated(first), negated(second)) ^ FALSE_GATE;
-        if self.gates.leader(opposite).is_some() {
-            return self.merge(solver, first, negated(second));
-        }
-        false
+        self.classes.gates.leader(opposite).is_some() && self.merge(first, negated(second))
     }
 
     /// Shows that two literals are equal, by a clause in each direction. Whether it did, or there is nothing more to find.
-    fn merge(&mut self, solver: &mut Solver, first: Code, second: Code) -> bool {
-        let a = self.reduced(solver, first);
-        let b = self.reduced(solver, second);
+    fn merge(&mut self, first: Code, second: Code) -> bool {
+        let a = self.reduced(first);
+        let b = self.reduced(second);
         if a == b || a < 2 || b < 2 {
             return false;
         }
-        let case = self.case;
+        let case = self.classes.case;
+        let solver = &mut self.solver;
         let is_shown = solver.excludes(case, first, negated(second))
             && !solver.is_over()
             && solver.excludes(case, negated(first), second);
         if is_shown && !solver.is_over() {
-            self.join(first, second);
+            self.classes.join(first, second);
         }
-        is_shown || self.is_ended(solver)
-    }
-
-    /// Begins a case; the classes are as they were before it when it ends.
-    pub fn begin(&mut self, case: Code) {
-        self.case = case;
-        for variable in 0..self.parents.len() {
-            put(&mut self.kept, variable, at(&self.parents, variable, 0));
-        }
-    }
-
-    pub fn end(&mut self) {
-        self.case = 0;
-        for variable in 0..self.kept.len() {
-            put(&mut self.parents, variable, at(&self.kept, variable, 0));
-        }
+        is_shown || self.is_ended()
     }
 }
 

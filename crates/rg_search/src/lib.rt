@@ -7,12 +7,8 @@
 mod answer;
 mod cases;
 mod congruence;
-mod exclusive;
 mod leaders;
-mod leaves;
 mod plain;
-mod refutation;
-mod samples;
 mod shortening;
 mod simulation;
 mod sums;
@@ -20,6 +16,6 @@ mod sweep;
 
 pub use answer::{Answer, solve};
 pub use plain::Twin;
-pub use refutation::Refutation;
 pub use rg_solver::given::Given;
 pub use rg_solver::watcher::{Unwatched, Watcher};
+pub use shortening::Refutation;

@@ -4,18 +4,16 @@
 //! After A. Kuehlmann and F. Krohm ("Equivalence checking using cuts and heaps", 1997) and A. Mishchenko, S. Chatterjee,
 //! R. Jiang and R. Brayton ("FRAIGs: a unifying representation for logic synthesis and verification", 2005).
 
-use crate::congruence::Classes;
+use crate::answer::Search;
 use crate::leaders::Leaders;
-use crate::samples::Samples;
 use crate::simulation::Simulation;
 use crate::sums::Sums;
-use rg_solver::circuit::{Circuit, Operands};
+use rg_solver::circuit::Operands;
 use rg_solver::code::{Code, code_for, negated, variable_of};
-use rg_solver::search::{Goal, Outcome};
+use rg_solver::search::Outcome;
 use rg_solver::solver::{OPEN, Solver};
 use rg_solver::table::{add, at, fill, put};
 use rg_solver::watcher::Watcher;
-use std::alloc::Global;
 
 /// How often 64 random inputs are looked at.
 const ROUNDS: usize = 32;
@@ -38,76 +36,71 @@ const SUMS_WORK: u64 = 1_000_000;
 
 const REWARD: u64 = 4;
 
-/// How much a sweep may do.
-#[derive(Clone, Copy)]
-pub struct Effort {
-    /// The most conflicts in each direction of a pair.
-    pub conflicts: u64,
-    /// The most conflicts in each direction of any pair.
-    pub steps: u64,
-    /// The work of the solver after which the sweep ends where it proves nothing: values that were followed, and gates that were looked
-    /// at.
-    pub work: u64,
-    /// The work after which it ends.
-    pub most: u64,
-}
-
+/// Where a sweep stands, and how much it may do.
 #[derive(Drop)]
 pub struct Sweep {
-    alloc: Global,
+    /// The most conflicts in each direction of a pair.
+    conflicts: u64,
+    /// The work of the solver after which the sweep ends: values that were followed, and gates that were looked at. What it proves may
+    /// allow more, up to `most`.
+    work: u64,
+    most: u64,
     simulation: Simulation,
     leaders: Leaders,
     sums: Sums,
-    samples: Samples,
     /// By variable: whether it leads none, since it is equal to an earlier one, or may be.
     follows: Vec<bool>,
     /// How many pairs were given up.
     misses: u64,
-    /// The work of the solver after which the sweep ends.
-    allowed: u64,
 }
 
 impl Sweep {
-    pub fn new(solver: &mut Solver, circuit: &Circuit, classes: &mut Classes) -> Self {
-        let alloc = solver.alloc;
+    /// A sweep that has looked at random inputs, with at most so many conflicts, and so much work or, with more allowed, at most so much.
+    pub fn new(search: &mut Search, conflicts: u64, work: u64, most: u64) -> Self {
+        let sums = Sums::new(search);
+        let alloc = search.solver.alloc;
+        let circuit = &search.solver.circuit;
+        let lacks_memory = &mut search.solver.lacks_memory;
         let size = circuit.variables().saturating_add(1);
         let mut sweep = Sweep {
-            alloc,
-            simulation: Simulation::new(alloc, circuit, &mut solver.lacks_memory),
-            leaders: Leaders::new(alloc, size, &mut solver.lacks_memory),
-            sums: Sums::new(solver, circuit, classes),
-            samples: Samples::new(alloc, circuit),
+            conflicts,
+            work,
+            most,
+            simulation: Simulation::new(alloc, circuit, lacks_memory),
+            leaders: Leaders::new(alloc),
+            sums,
             follows: Vec::new(alloc),
             misses: 0,
-            allowed: 0,
         };
-        fill(&mut sweep.follows, false, size, &mut solver.lacks_memory);
-        sweep.tie(solver, circuit, classes);
-        sweep.look(solver, circuit);
+        sweep.leaders.make_room(size, lacks_memory);
+        fill(&mut sweep.follows, false, size, lacks_memory);
+        sweep.tie(search);
+        sweep.look(&mut search.solver);
         sweep
     }
 
     /// Ties variables to what is equal to them, or to their values.
-    fn tie(&mut self, solver: &Solver, circuit: &Circuit, classes: &mut Classes) {
-        for variable in 1..circuit.variables().saturating_add(1) {
+    fn tie(&mut self, search: &mut Search) {
+        for variable in 1..search.solver.circuit.variables().saturating_add(1) {
             let code = code_for(variable);
-            let root = classes.reduced(solver, code);
+            let root = search.reduced(code);
             if root != code {
                 let tie = if root < 2 { negated(root) } else { root };
-                self.simulation.tie(variable, tie);
+                put(&mut self.simulation.ties, variable, tie);
             }
         }
     }
 
     /// Looks at random inputs.
-    fn look(&mut self, solver: &mut Solver, circuit: &Circuit) {
-        self.simulation.begin(circuit);
-        for round in 1..ROUNDS {
-            self.simulation.look(circuit, round);
-            self.samples
-                .take(&self.simulation, &mut solver.lacks_memory);
+    fn look(&mut self, solver: &mut Solver) {
+        for round in 0..ROUNDS {
+            self.simulation.look(&solver.circuit, round);
+            if round > 0 {
+                self.sums
+                    .sample(&self.simulation.words, &mut solver.lacks_memory);
+            }
         }
-        self.lead(circuit.inputs.saturating_add(1));
+        self.lead(solver.circuit.inputs.saturating_add(1));
     }
 
     /// Enters the leaders before this variable anew, by their hashes.
@@ -115,34 +108,26 @@ impl Sweep {
         self.leaders.clear();
         for variable in 0..end {
             if !at(&self.follows, variable, false) {
-                let hash = self.simulation.hash(variable);
+                let hash = at(&self.simulation.hashes, variable, 0);
                 let _earlier = self.leaders.leader_or(hash, variable);
             }
         }
     }
 
     /// Proves gates equal to earlier ones, in order, until the solver is refuted or much work is done.
-    pub fn run<W: Watcher>(
-        &mut self,
-        solver: &mut Solver,
-        circuit: &Circuit,
-        classes: &mut Classes,
-        effort: Effort,
-        watcher: &mut W,
-    ) {
-        self.allowed = effort.work;
+    pub fn run<W: Watcher>(&mut self, search: &mut Search, watcher: &mut W) {
         if self.sums.are_likely {
-            self.allow(effort, SUMS_WORK);
+            self.allow(SUMS_WORK);
         }
-        let first = circuit.inputs.saturating_add(1);
-        for variable in first..circuit.variables().saturating_add(1) {
-            if solver.is_over() || solver.effort > self.allowed {
+        let first = search.solver.circuit.inputs.saturating_add(1);
+        for variable in first..search.solver.circuit.variables().saturating_add(1) {
+            if search.solver.is_over() || search.solver.effort > self.work {
                 break;
             }
-            if circuit.is_active(variable) {
-                let follows = self.follows(solver, circuit, classes, variable, effort, watcher);
+            if search.solver.circuit.is_active(variable) {
+                let follows = self.follows(search, variable, watcher);
                 put(&mut self.follows, variable, follows);
-                solver.backtrack(0);
+                search.solver.backtrack(0);
             }
         }
     }
@@ -150,38 +135,31 @@ impl Sweep {
     /// Whether a gate follows an earlier one, or may do so. A gate that doesn't leads from now on.
     fn follows<W: Watcher>(
         &mut self,
-        solver: &mut Solver,
-        circuit: &Circuit,
-        classes: &mut Classes,
+        search: &mut Search,
         variable: usize,
-        effort: Effort,
         watcher: &mut W,
     ) -> bool {
-        let literal = self.simulation.literal(variable);
-        if solver.value(literal) != OPEN || classes.root(literal) != literal {
+        let first = self.simulation.literal(variable);
+        if search.solver.value(first) != OPEN || search.classes.root(first) != first {
             return true;
         }
         for _ in 0..TRIES {
-            let hash = self.simulation.hash(variable);
+            let hash = at(&self.simulation.hashes, variable, 0);
             let Some(leader) = self.leaders.leader_or(hash, variable) else {
                 return false;
             };
-            let other = self.simulation.literal(leader);
-            if other >= 2 && !circuit.is_active(leader) {
+            let second = self.simulation.literal(leader);
+            if second >= 2 && !search.solver.circuit.is_active(leader) {
                 return true;
             }
-            let pair = Operands {
-                first: literal,
-                second: other,
-            };
-            let outcome = self.decide(solver, circuit, classes, pair, effort, watcher);
-            if outcome == Outcome::Excluded && other >= 2 {
-                classes.join(literal, other);
+            let outcome = self.decide(search, Operands { first, second }, watcher);
+            if outcome == Outcome::Excluded && second >= 2 {
+                search.classes.join(first, second);
             }
             if outcome != Outcome::Assigned {
                 return true;
             }
-            self.look_at_values(solver, circuit, variable);
+            self.look_at_values(&mut search.solver, variable);
         }
         true
     }
@@ -189,96 +167,68 @@ impl Sweep {
     /// Tries to prove a pair equal, after what may be known of the sum of their carries.
     fn decide<W: Watcher>(
         &mut self,
-        solver: &mut Solver,
-        circuit: &Circuit,
-        classes: &mut Classes,
+        search: &mut Search,
         pair: Operands,
-        effort: Effort,
         watcher: &mut W,
     ) -> Outcome {
-        let begun = solver.effort;
-        let samples = &self.samples;
-        let limit = effort.steps.min(SUM_CONFLICTS);
-        let is_summed = self
-            .sums
-            .prove(solver, circuit, classes, samples, pair, limit, watcher);
-        let limit = self.limit(effort, is_summed);
-        let outcome = prove_equal(solver, circuit, pair.first, pair.second, limit, watcher);
-        self.count(outcome, effort, solver.effort.saturating_sub(begun));
-        outcome
-    }
-
-    /// The most conflicts in each direction of a pair.
-    fn limit(&self, effort: Effort, is_summed: bool) -> u64 {
-        let more = if is_summed {
+        let begun = search.solver.effort;
+        let limit = search.steps.min(SUM_CONFLICTS);
+        let most = if self.sums.prove(search, pair, limit, watcher) {
             SUMMED_CONFLICTS
         } else if self.sums.are_likely && self.misses < FEW_MISSES {
             SOME_CONFLICTS
         } else {
             0
         };
-        effort.conflicts.max(more).min(effort.steps)
+        let limit = self.conflicts.max(most).min(search.steps);
+        let outcome = prove_equal(&mut search.solver, pair, limit, watcher);
+        match outcome {
+            Outcome::Excluded if self.sums.are_likely => {
+                let work = search.solver.effort.saturating_sub(begun);
+                self.allow(work.saturating_mul(REWARD));
+            }
+            Outcome::GaveUp => self.misses = self.misses.saturating_add(1),
+            _ => {}
+        }
+        outcome
     }
 
     /// Allows so much more work.
-    fn allow(&mut self, effort: Effort, work: u64) {
-        self.allowed = self.allowed.saturating_add(work).min(effort.most);
+    fn allow(&mut self, work: u64) {
+        self.work = self.work.saturating_add(work).min(self.most);
     }
 
-    /// Counts what became of a pair after so much work.
-    fn count(&mut self, outcome: Outcome, effort: Effort, work: u64) {
-        match outcome {
-            Outcome::Excluded if self.sums.are_likely => {
-                self.allow(effort, work.saturating_mul(REWARD));
-            }
-            Outcome::Excluded => {}
-            Outcome::Assigned => {}
-            Outcome::GaveUp => self.misses = self.misses.saturating_add(1),
-        }
-    }
-
-    /// Looks at the inputs under which the solver saw two gates differ, so that other pairs are told apart.
-    fn look_at_values(&mut self, solver: &mut Solver, circuit: &Circuit, variable: usize) {
-        let mut values = Vec::new(self.alloc);
-        for _ in 0..circuit.inputs.saturating_add(1) {
+    /// Looks at the inputs under which the solver saw two gates differ, so that other pairs are distinguished.
+    fn look_at_values(&mut self, solver: &mut Solver, variable: usize) {
+        let mut values = Vec::new(solver.alloc);
+        for _ in 0..solver.circuit.inputs.saturating_add(1) {
             let value = self.simulation.draw() & 1 == 1;
             add(&mut values, value, &mut solver.lacks_memory);
         }
-        take_values(&solver.trail, &mut values);
+        for literal in &solver.trail {
+            put(&mut values, variable_of(*literal), *literal & 1 == 0);
+        }
         solver.backtrack(0);
-        self.simulation.look_near(circuit, &values);
+        self.simulation.look_near(&solver.circuit, &values);
         self.lead(variable);
-        let work = circuit.variables() as u64;
+        let work = solver.circuit.variables() as u64;
         solver.effort = solver.effort.saturating_add(work);
-    }
-}
-
-/// Takes the values of the inputs from a trail.
-fn take_values(trail: &[Code], values: &mut [bool]) {
-    for literal in trail {
-        put(values, variable_of(*literal), *literal & 1 == 0);
     }
 }
 
 /// Proves that two literals are equal, with at most so many conflicts in each direction. The code 0 is false, and 1 true.
 fn prove_equal<W: Watcher>(
     solver: &mut Solver,
-    circuit: &Circuit,
-    first: Code,
-    second: Code,
+    pair: Operands,
     limit: u64,
     watcher: &mut W,
 ) -> Outcome {
+    let Operands { first, second } = pair;
     if second < 2 {
-        let excess = first ^ second;
-        return solver.search(circuit, &mut Goal::lemma(&[excess], limit), watcher);
+        return solver.exclude(&[first ^ second], limit, watcher);
     }
-    let mut goal = Goal::lemma(&[first, negated(second)], limit);
-    match solver.search(circuit, &mut goal, watcher) {
-        Outcome::Excluded => {
-            let mut goal = Goal::lemma(&[negated(first), second], limit);
-            solver.search(circuit, &mut goal, watcher)
-        }
+    match solver.exclude(&[first, negated(second)], limit, watcher) {
+        Outcome::Excluded => solver.exclude(&[negated(first), second], limit, watcher),
         other => other,
     }
 }

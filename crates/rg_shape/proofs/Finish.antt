@@ -99,8 +99,8 @@ more_closing front rest q keep (inl c) = inl (calm-append false front rest keep 
 more_closing front rest q keep (inr c) =
     inr (front ++ c.0, calm-append false front c.0 keep c.1, ap (λ ls. front ++ ls) c.2 ∙ sym (append_assoc front c.0 part_tail), c.3)
 
-behind : (k : TextKind) (text : List Lexeme → List Lexeme) (front : List Lexeme) → calm front ≡ true → Closes k (λ r. text (front ++ r)) → Closes k text
-behind k text front keep c = (front ++ c.0, c.1, c.2, more_closing front c.0 (last_point k c.1) keep c.3)
+after : (k : TextKind) (text : List Lexeme → List Lexeme) (front : List Lexeme) → calm front ≡ true → Closes k (λ r. text (front ++ r)) → Closes k text
+after k text front keep c = (front ++ c.0, c.1, c.2, more_closing front c.0 (last_point k c.1) keep c.3)
 
 -- a whole specification, with what the part or the program still needs
 spec_ends : (w : Whose) (s : SpecSpelling) → Closes (whose_kind w) (λ r. before_whose w (specification s r))
@@ -113,13 +113,13 @@ spec_ends (of_line d l p) s = ([], and_line d (whole_line l p s), refl, inl refl
 
 clause_ends : (w : Whose) (c : Clauses) (f : FormulaSpelling) → Closes (whose_kind w) (λ r. before_whose w (before_clause c (formula f r)))
 clause_ends w to_pre f =
-    behind (whose_kind w) (λ r. before_whose w (before_clause to_pre (formula f r))) (fixed (Section Rely) ∷ fixed (Truth true) ∷ fixed (Section Guar) ∷ fixed (Truth true) ∷ fixed (Section Post) ∷ fixed (Truth true) ∷ []) refl
+    after (whose_kind w) (λ r. before_whose w (before_clause to_pre (formula f r))) (fixed (Section Rely) ∷ fixed (Truth true) ∷ fixed (Section Guar) ∷ fixed (Truth true) ∷ fixed (Section Post) ∷ fixed (Truth true) ∷ []) refl
     (spec_ends w (record { pre = f; rely = truth true; guar = truth true; post = truth true }))
 clause_ends w (to_rely f) g =
-    behind (whose_kind w) (λ r. before_whose w (before_clause (to_rely f) (formula g r))) (fixed (Section Guar) ∷ fixed (Truth true) ∷ fixed (Section Post) ∷ fixed (Truth true) ∷ []) refl
+    after (whose_kind w) (λ r. before_whose w (before_clause (to_rely f) (formula g r))) (fixed (Section Guar) ∷ fixed (Truth true) ∷ fixed (Section Post) ∷ fixed (Truth true) ∷ []) refl
     (spec_ends w (record { pre = f; rely = g; guar = truth true; post = truth true }))
 clause_ends w (to_guar f g) h =
-    behind (whose_kind w) (λ r. before_whose w (before_clause (to_guar f g) (formula h r))) (fixed (Section Post) ∷ fixed (Truth true) ∷ []) refl
+    after (whose_kind w) (λ r. before_whose w (before_clause (to_guar f g) (formula h r))) (fixed (Section Post) ∷ fixed (Truth true) ∷ []) refl
     (spec_ends w (record { pre = f; rely = g; guar = h; post = truth true }))
 clause_ends w (to_post f g h) k = spec_ends w (record { pre = f; rely = g; guar = h; post = k })
 
@@ -129,12 +129,12 @@ block_ends (in_body ws sp None n own_sp) b =
     (fixed (Section EndWord) ∷ [], record { words = ws; spec = sp; parts = one_part (record { name = n; spec = own_sp; body = b }) }, refl, inl refl)
 block_ends (in_body ws sp (Some ps) n own_sp) b =
     (fixed (Section EndWord) ∷ [], record { words = ws; spec = sp; parts = and_part ps (record { name = n; spec = own_sp; body = b }) }, refl, inl refl)
-block_ends (in_then a None i f) b = behind texts.Program (λ r. before_around (in_then a None i f) (block b r)) (fixed Else ∷ opening a_skip zero_leaf ∷ fixed (Section EndWord) ∷ []) refl (block_ends a (one_statement (branching i f b (one_statement (skipping zero_leaf)))))
-block_ends (in_then a (Some d) i f) b = behind texts.Program (λ r. before_around (in_then a (Some d) i f) (block b r)) (fixed Else ∷ opening a_skip zero_leaf ∷ fixed (Section EndWord) ∷ []) refl (block_ends a (and_statement d (branching i f b (one_statement (skipping zero_leaf)))))
-block_ends (in_else a None i f c) b = behind texts.Program (λ r. before_around (in_else a None i f c) (block b r)) (fixed (Section EndWord) ∷ []) refl (block_ends a (one_statement (branching i f c b)))
-block_ends (in_else a (Some d) i f c) b = behind texts.Program (λ r. before_around (in_else a (Some d) i f c) (block b r)) (fixed (Section EndWord) ∷ []) refl (block_ends a (and_statement d (branching i f c b)))
-block_ends (in_loop a None i f) b = behind texts.Program (λ r. before_around (in_loop a None i f) (block b r)) (fixed (Section EndWord) ∷ []) refl (block_ends a (one_statement (looping i f b)))
-block_ends (in_loop a (Some d) i f) b = behind texts.Program (λ r. before_around (in_loop a (Some d) i f) (block b r)) (fixed (Section EndWord) ∷ []) refl (block_ends a (and_statement d (looping i f b)))
+block_ends (in_then a None i f) b = after texts.Program (λ r. before_around (in_then a None i f) (block b r)) (fixed Else ∷ opening a_skip zero_leaf ∷ fixed (Section EndWord) ∷ []) refl (block_ends a (one_statement (branching i f b (one_statement (skipping zero_leaf)))))
+block_ends (in_then a (Some d) i f) b = after texts.Program (λ r. before_around (in_then a (Some d) i f) (block b r)) (fixed Else ∷ opening a_skip zero_leaf ∷ fixed (Section EndWord) ∷ []) refl (block_ends a (and_statement d (branching i f b (one_statement (skipping zero_leaf)))))
+block_ends (in_else a None i f c) b = after texts.Program (λ r. before_around (in_else a None i f c) (block b r)) (fixed (Section EndWord) ∷ []) refl (block_ends a (one_statement (branching i f c b)))
+block_ends (in_else a (Some d) i f c) b = after texts.Program (λ r. before_around (in_else a (Some d) i f c) (block b r)) (fixed (Section EndWord) ∷ []) refl (block_ends a (and_statement d (branching i f c b)))
+block_ends (in_loop a None i f) b = after texts.Program (λ r. before_around (in_loop a None i f) (block b r)) (fixed (Section EndWord) ∷ []) refl (block_ends a (one_statement (looping i f b)))
+block_ends (in_loop a (Some d) i f) b = after texts.Program (λ r. before_around (in_loop a (Some d) i f) (block b r)) (fixed (Section EndWord) ∷ []) refl (block_ends a (and_statement d (looping i f b)))
 
 statement_ends : (a : Around) (p : Option BlockSpelling) (s : StatementSpelling) → Closes texts.Program (λ r. before_around a (before_item p (statement s r)))
 statement_ends a None s = block_ends a (one_statement s)
@@ -143,7 +143,7 @@ statement_ends a (Some b) s = block_ends a (and_statement b s)
 -- whole assignments of an await
 await_ends : (a : Around) (p : Option BlockSpelling) (i : Leaf) (f : FormulaSpelling) (as_ : AssignmentsSpelling) → Closes texts.Program (λ r. before_around a (before_item p (before_await i f (assignments as_ r))))
 await_ends a p i f as_ =
-    behind texts.Program (λ r. before_around a (before_item p (before_await i f (assignments as_ r)))) (fixed (Section EndWord) ∷ []) refl (statement_ends a p (awaiting i f as_))
+    after texts.Program (λ r. before_around a (before_item p (before_await i f (assignments as_ r)))) (fixed (Section EndWord) ∷ []) refl (statement_ends a p (awaiting i f as_))
 
 one_ends : (a : Around) (p : Option BlockSpelling) (i : Leaf) (f : FormulaSpelling) (as_ : Option AssignmentsSpelling) (x : AssignmentSpelling) → Closes texts.Program (λ r. before_around a (before_item p (before_await i f (before_assignment as_ (an_assignment x r)))))
 one_ends a p i f None x = await_ends a p i f (one_assignment x)
@@ -151,17 +151,17 @@ one_ends a p i f (Some as_) x = await_ends a p i f (and_assignment as_ x)
 
 await_guard_ends : (a : Around) (p : Option BlockSpelling) (i : Leaf) (f : FormulaSpelling) → Closes texts.Program (λ r. before_around a (before_item p (opening an_await i ∷ formula f r)))
 await_guard_ends a p i f =
-    behind texts.Program (λ r. before_around a (before_item p (opening an_await i ∷ formula f r))) (fixed (Section Do) ∷ name zero_leaf ∷ fixed Assign ∷ number zero_leaf ∷ []) refl
+    after texts.Program (λ r. before_around a (before_item p (opening an_await i ∷ formula f r))) (fixed (Section Do) ∷ name zero_leaf ∷ fixed Assign ∷ number zero_leaf ∷ []) refl
     (one_ends a p i f None (record { target = zero_leaf; value = zero_text }))
 
 branch_guard_ends : (a : Around) (p : Option BlockSpelling) (i : Leaf) (f : FormulaSpelling) → Closes texts.Program (λ r. before_around a (before_item p (opening an_if i ∷ formula f r)))
 branch_guard_ends a p i f =
-    behind texts.Program (λ r. before_around a (before_item p (opening an_if i ∷ formula f r))) (fixed Then ∷ opening a_skip zero_leaf ∷ []) refl
+    after texts.Program (λ r. before_around a (before_item p (opening an_if i ∷ formula f r))) (fixed Then ∷ opening a_skip zero_leaf ∷ []) refl
     (block_ends (in_then a p i f) (one_statement (skipping zero_leaf)))
 
 loop_guard_ends : (a : Around) (p : Option BlockSpelling) (i : Leaf) (f : FormulaSpelling) → Closes texts.Program (λ r. before_around a (before_item p (opening a_while i ∷ formula f r)))
 loop_guard_ends a p i f =
-    behind texts.Program (λ r. before_around a (before_item p (opening a_while i ∷ formula f r))) (fixed (Section Do) ∷ opening a_skip zero_leaf ∷ []) refl
+    after texts.Program (λ r. before_around a (before_item p (opening a_while i ∷ formula f r))) (fixed (Section Do) ∷ opening a_skip zero_leaf ∷ []) refl
     (block_ends (in_loop a p i f) (one_statement (skipping zero_leaf)))
 
 -- a pair of parentheses may give either of these
@@ -170,9 +170,9 @@ either_ends fs ends h e = go (taking fs).formula refl (taking fs).expression ref
   where
     go : (a : Bool) → (taking fs).formula ≡ a → (b : Bool) → (taking fs).expression ≡ b → (a || b) ≡ true → Closes (frames_kind fs) (λ r. before_all fs (fixed Open ∷ expression e r))
     go true p b q k =
-        behind _ (λ r. before_all fs (fixed Open ∷ expression e r)) (fixed (Compare Equal) ∷ number zero_leaf ∷ fixed Close ∷ []) refl (ends.formula_ends (comparison Equal e zero_text) p)
+        after _ (λ r. before_all fs (fixed Open ∷ expression e r)) (fixed (Compare Equal) ∷ number zero_leaf ∷ fixed Close ∷ []) refl (ends.formula_ends (comparison Equal e zero_text) p)
     go false p true q k =
-        behind _ (λ r. before_all fs (fixed Open ∷ expression e r)) (fixed (Operate Add) ∷ number zero_leaf ∷ fixed Close ∷ []) refl (ends.expression_ends (operation Add e zero_text) q)
+        after _ (λ r. before_all fs (fixed Open ∷ expression e r)) (fixed (Operate Add) ∷ number zero_leaf ∷ fixed Close ∷ []) refl (ends.expression_ends (operation Add e zero_text) q)
     go false p false q k = cc
 
 ends : (fs : Frames) → Well fs → Ends fs
@@ -187,40 +187,40 @@ ends (bottom (await_value a p i f as_ t)) w = record { formula_ends = λ f h. cc
 ends (within negated fs) w = record { formula_ends = λ f h. (ends fs w.1).formula_ends (negation f) w.0; expression_ends = λ e h. cc }
 ends (within inverted fs) w = record { formula_ends = λ f h. cc; expression_ends = λ e h. (ends fs w.1).expression_ends (inverse e) w.0 }
 ends (within first fs) w = record {
-  formula_ends = λ f h. behind _ (λ r. before_all fs (fixed Open ∷ formula f r)) (fixed (Imply Implies) ∷ fixed (Truth true) ∷ fixed Close ∷ []) refl ((ends fs w.1).formula_ends (conditional Implies f (truth true)) h);
+  formula_ends = λ f h. after _ (λ r. before_all fs (fixed Open ∷ formula f r)) (fixed (Imply Implies) ∷ fixed (Truth true) ∷ fixed Close ∷ []) refl ((ends fs w.1).formula_ends (conditional Implies f (truth true)) h);
   expression_ends = λ e h. either_ends fs (ends fs w.1) w.0 e;
 }
 ends (within (another j (single g)) fs) w = record {
-  formula_ends = λ f h. behind _ (λ r. before_all fs (fixed Open ∷ chain j (pair g f) r)) (fixed Close ∷ []) refl ((ends fs w.1).formula_ends (junction j (pair g f)) w.0);
+  formula_ends = λ f h. after _ (λ r. before_all fs (fixed Open ∷ chain j (pair g f) r)) (fixed Close ∷ []) refl ((ends fs w.1).formula_ends (junction j (pair g f)) w.0);
   expression_ends = λ e h. cc;
 }
 ends (within (another j (several c)) fs) w = record {
-  formula_ends = λ f h. behind _ (λ r. before_all fs (fixed Open ∷ chain j (longer c f) r)) (fixed Close ∷ []) refl ((ends fs w.1).formula_ends (junction j (longer c f)) w.0);
+  formula_ends = λ f h. after _ (λ r. before_all fs (fixed Open ∷ chain j (longer c f) r)) (fixed Close ∷ []) refl ((ends fs w.1).formula_ends (junction j (longer c f)) w.0);
   expression_ends = λ e h. cc;
 }
 ends (within (second d g) fs) w = record {
-  formula_ends = λ f h. behind _ (λ r. before_all fs (part (closing_conditional d g f) r)) (fixed Close ∷ []) refl ((ends fs w.1).formula_ends (conditional d g f) w.0);
+  formula_ends = λ f h. after _ (λ r. before_all fs (part (closing_conditional d g f) r)) (fixed Close ∷ []) refl ((ends fs w.1).formula_ends (conditional d g f) w.0);
   expression_ends = λ e h. cc;
 }
 ends (within (compared c a) fs) w = record {
   formula_ends = λ f h. cc;
-  expression_ends = λ e h. behind _ (λ r. before_all fs (part (closing_comparison c a e) r)) (fixed Close ∷ []) refl ((ends fs w.1).formula_ends (comparison c a e) w.0);
+  expression_ends = λ e h. after _ (λ r. before_all fs (part (closing_comparison c a e) r)) (fixed Close ∷ []) refl ((ends fs w.1).formula_ends (comparison c a e) w.0);
 }
 ends (within (operated o a) fs) w = record {
   formula_ends = λ f h. cc;
-  expression_ends = λ e h. behind _ (λ r. before_all fs (part (closing_operation o a e) r)) (fixed Close ∷ []) refl ((ends fs w.1).expression_ends (operation o a e) w.0);
+  expression_ends = λ e h. after _ (λ r. before_all fs (part (closing_operation o a e) r)) (fixed Close ∷ []) refl ((ends fs w.1).expression_ends (operation o a e) w.0);
 }
 ends (within (condition i) fs) w = record {
-  formula_ends = λ f h. behind _ (λ r. before_all fs (part (after_condition i f) r)) (fixed Then ∷ number zero_leaf ∷ fixed Else ∷ number zero_leaf ∷ fixed Close ∷ []) refl ((ends fs w.1).expression_ends (choice i f zero_text zero_text) w.0);
+  formula_ends = λ f h. after _ (λ r. before_all fs (part (after_condition i f) r)) (fixed Then ∷ number zero_leaf ∷ fixed Else ∷ number zero_leaf ∷ fixed Close ∷ []) refl ((ends fs w.1).expression_ends (choice i f zero_text zero_text) w.0);
   expression_ends = λ e h. cc;
 }
 ends (within (consequent i f) fs) w = record {
   formula_ends = λ g h. cc;
-  expression_ends = λ e h. behind _ (λ r. before_all fs (part (after_consequent i f e) r)) (fixed Else ∷ number zero_leaf ∷ fixed Close ∷ []) refl ((ends fs w.1).expression_ends (choice i f e zero_text) w.0);
+  expression_ends = λ e h. after _ (λ r. before_all fs (part (after_consequent i f e) r)) (fixed Else ∷ number zero_leaf ∷ fixed Close ∷ []) refl ((ends fs w.1).expression_ends (choice i f e zero_text) w.0);
 }
 ends (within (alternative i f a) fs) w = record {
   formula_ends = λ g h. cc;
-  expression_ends = λ e h. behind _ (λ r. before_all fs (part (closing_choice i f a e) r)) (fixed Close ∷ []) refl ((ends fs w.1).expression_ends (choice i f a e) w.0);
+  expression_ends = λ e h. after _ (λ r. before_all fs (part (closing_choice i f a e) r)) (fixed Close ∷ []) refl ((ends fs w.1).expression_ends (choice i f a e) w.0);
 }
 
 -- an item of one of the sorts that the place takes
@@ -228,10 +228,10 @@ hole_ends : (fs : Frames) → Ends fs → Closes (frames_kind fs) (before_all fs
 hole_ends fs e = go fs e
   where
     by_formula : (fs : Frames) → Ends fs → (taking fs).formula ≡ true → Closes (frames_kind fs) (before_all fs)
-    by_formula fs e h = behind _ (before_all fs) (fixed (Truth true) ∷ []) refl (e.formula_ends (truth true) h)
+    by_formula fs e h = after _ (before_all fs) (fixed (Truth true) ∷ []) refl (e.formula_ends (truth true) h)
 
     by_expression : (fs : Frames) → Ends fs → (taking fs).expression ≡ true → Closes (frames_kind fs) (before_all fs)
-    by_expression fs e h = behind _ (before_all fs) (number zero_leaf ∷ []) refl (e.expression_ends zero_text h)
+    by_expression fs e h = after _ (before_all fs) (number zero_leaf ∷ []) refl (e.expression_ends zero_text h)
 
     go : (fs : Frames) → Ends fs → Closes (frames_kind fs) (before_all fs)
     go (bottom (value a p t)) e = by_expression (bottom (value a p t)) e refl
@@ -249,17 +249,17 @@ hole_ends fs e = go fs e
     go (within (alternative i f a) fs) e = by_expression (within (alternative i f a) fs) e refl
 
 part_ends : (fs : Frames) → Ends fs → (p : Part) → part_needs p (taking fs) ≡ true → Closes (frames_kind fs) (λ r. before_all fs (part p r))
-part_ends fs e (after_formula f) n = behind _ (λ r. before_all fs (part (after_formula f) r)) (fixed (Imply Implies) ∷ fixed (Truth true) ∷ fixed Close ∷ []) refl (e.formula_ends (conditional Implies f (truth true)) n)
+part_ends fs e (after_formula f) n = after _ (λ r. before_all fs (part (after_formula f) r)) (fixed (Imply Implies) ∷ fixed (Truth true) ∷ fixed Close ∷ []) refl (e.formula_ends (conditional Implies f (truth true)) n)
 part_ends fs e (after_expression a) n = either_ends fs e n a
-part_ends fs e (after_next j c) n = behind _ (λ r. before_all fs (part (after_next j c) r)) (fixed Close ∷ []) refl (e.formula_ends (junction j c) n)
-part_ends fs e (counted s a) n = behind _ (λ r. before_all fs (part (counted s a) r)) (number zero_leaf ∷ fixed Close ∷ []) refl (e.expression_ends (shift s a zero_leaf) n)
-part_ends fs e (closing_conditional d f g) n = behind _ (λ r. before_all fs (part (closing_conditional d f g) r)) (fixed Close ∷ []) refl (e.formula_ends (conditional d f g) n)
-part_ends fs e (closing_comparison c a b) n = behind _ (λ r. before_all fs (part (closing_comparison c a b) r)) (fixed Close ∷ []) refl (e.formula_ends (comparison c a b) n)
-part_ends fs e (closing_operation o a b) n = behind _ (λ r. before_all fs (part (closing_operation o a b) r)) (fixed Close ∷ []) refl (e.expression_ends (operation o a b) n)
-part_ends fs e (closing_shift s a text) n = behind _ (λ r. before_all fs (part (closing_shift s a text) r)) (fixed Close ∷ []) refl (e.expression_ends (shift s a text) n)
-part_ends fs e (closing_choice i f a b) n = behind _ (λ r. before_all fs (part (closing_choice i f a b) r)) (fixed Close ∷ []) refl (e.expression_ends (choice i f a b) n)
-part_ends fs e (after_condition i f) n = behind _ (λ r. before_all fs (part (after_condition i f) r)) (fixed Then ∷ number zero_leaf ∷ fixed Else ∷ number zero_leaf ∷ fixed Close ∷ []) refl (e.expression_ends (choice i f zero_text zero_text) n)
-part_ends fs e (after_consequent i f a) n = behind _ (λ r. before_all fs (part (after_consequent i f a) r)) (fixed Else ∷ number zero_leaf ∷ fixed Close ∷ []) refl (e.expression_ends (choice i f a zero_text) n)
+part_ends fs e (after_next j c) n = after _ (λ r. before_all fs (part (after_next j c) r)) (fixed Close ∷ []) refl (e.formula_ends (junction j c) n)
+part_ends fs e (counted s a) n = after _ (λ r. before_all fs (part (counted s a) r)) (number zero_leaf ∷ fixed Close ∷ []) refl (e.expression_ends (shift s a zero_leaf) n)
+part_ends fs e (closing_conditional d f g) n = after _ (λ r. before_all fs (part (closing_conditional d f g) r)) (fixed Close ∷ []) refl (e.formula_ends (conditional d f g) n)
+part_ends fs e (closing_comparison c a b) n = after _ (λ r. before_all fs (part (closing_comparison c a b) r)) (fixed Close ∷ []) refl (e.formula_ends (comparison c a b) n)
+part_ends fs e (closing_operation o a b) n = after _ (λ r. before_all fs (part (closing_operation o a b) r)) (fixed Close ∷ []) refl (e.expression_ends (operation o a b) n)
+part_ends fs e (closing_shift s a text) n = after _ (λ r. before_all fs (part (closing_shift s a text) r)) (fixed Close ∷ []) refl (e.expression_ends (shift s a text) n)
+part_ends fs e (closing_choice i f a b) n = after _ (λ r. before_all fs (part (closing_choice i f a b) r)) (fixed Close ∷ []) refl (e.expression_ends (choice i f a b) n)
+part_ends fs e (after_condition i f) n = after _ (λ r. before_all fs (part (after_condition i f) r)) (fixed Then ∷ number zero_leaf ∷ fixed Else ∷ number zero_leaf ∷ fixed Close ∷ []) refl (e.expression_ends (choice i f zero_text zero_text) n)
+part_ends fs e (after_consequent i f a) n = after _ (λ r. before_all fs (part (after_consequent i f a) r)) (fixed Else ∷ number zero_leaf ∷ fixed Close ∷ []) refl (e.expression_ends (choice i f a zero_text) n)
 
 done_ends : (o : Outer) (f : FormulaSpelling) → WellState (done o f) → Closes (outer_kind o) (λ r. before_outer o (formula f r))
 done_ends alone f w = ([], f, refl, inl refl)
@@ -359,7 +359,7 @@ zero_to t = record { target = t; value = zero_text }
 await_target_ends : (a : Around) (p : Option BlockSpelling) (i : Leaf) (f : FormulaSpelling) (as_ : Option AssignmentsSpelling) → StateEnds (place (await_target a p i f as_))
 await_target_ends a p i f as_ =
     let c = one_ends a p i f as_ (zero_to zero_leaf) in
-    let e = behind texts.Program (λ r. before_place (await_name a p i f as_ zero_leaf) r) (fixed Assign ∷ number zero_leaf ∷ []) refl c in
+    let e = after texts.Program (λ r. before_place (await_name a p i f as_ zero_leaf) r) (fixed Assign ∷ number zero_leaf ∷ []) refl c in
     record {
       rest = name zero_leaf ∷ e.0;
       text = e.1;
@@ -369,7 +369,7 @@ await_target_ends a p i f as_ =
 
 part_name_ends : (ws : WordsSpelling) (sp : SpecSpelling) (ps : Option PartsSpelling) → StateEnds (place (part_name ws sp ps))
 part_name_ends ws sp ps =
-    let e = behind texts.Program (λ r. before_place (named_part ws sp ps zero_leaf) r) (fixed (Section Pre) ∷ fixed (Truth true) ∷ []) refl (clause_ends (of_part ws sp ps zero_leaf) to_pre (truth true)) in
+    let e = after texts.Program (λ r. before_place (named_part ws sp ps zero_leaf) r) (fixed (Section Pre) ∷ fixed (Truth true) ∷ []) refl (clause_ends (of_part ws sp ps zero_leaf) to_pre (truth true)) in
     record {
       rest = name zero_leaf ∷ e.0;
       text = e.1;
@@ -382,14 +382,14 @@ place_ends : (x : Place) → StateEnds (place x)
 place_ends (after_clause w c f) = by_closing (place (after_clause w c f)) (clause_ends w c f)
 place_ends (part_name ws sp ps) = part_name_ends ws sp ps
 place_ends (named_part ws sp ps n) =
-    by_closing (place (named_part ws sp ps n)) (behind texts.Program (before_place (named_part ws sp ps n)) (fixed (Section Pre) ∷ fixed (Truth true) ∷ []) refl (clause_ends (of_part ws sp ps n) to_pre (truth true)))
+    by_closing (place (named_part ws sp ps n)) (after texts.Program (before_place (named_part ws sp ps n)) (fixed (Section Pre) ∷ fixed (Truth true) ∷ []) refl (clause_ends (of_part ws sp ps n) to_pre (truth true)))
 place_ends (after_part ws sp ps) = by_closing (place (after_part ws sp ps)) ([], record { words = ws; spec = sp; parts = ps }, refl, inl refl)
-place_ends (item a p) = by_closing (place (item a p)) (behind texts.Program (before_place (item a p)) (opening a_skip zero_leaf ∷ []) refl (statement_ends a p (skipping zero_leaf)))
+place_ends (item a p) = by_closing (place (item a p)) (after texts.Program (before_place (item a p)) (opening a_skip zero_leaf ∷ []) refl (statement_ends a p (skipping zero_leaf)))
 place_ends (after_item a b) = by_closing (place (after_item a b)) (block_ends a b)
-place_ends (target a p t) = by_closing (place (target a p t)) (behind texts.Program (before_place (target a p t)) (fixed Assign ∷ number zero_leaf ∷ []) refl (statement_ends a p (assigning (zero_to t))))
+place_ends (target a p t) = by_closing (place (target a p t)) (after texts.Program (before_place (target a p t)) (fixed Assign ∷ number zero_leaf ∷ []) refl (statement_ends a p (assigning (zero_to t))))
 place_ends (after_await_guard a p i f) = by_closing (place (after_await_guard a p i f)) (await_guard_ends a p i f)
 place_ends (await_target a p i f as_) = await_target_ends a p i f as_
-place_ends (await_name a p i f as_ t) = by_closing (place (await_name a p i f as_ t)) (behind texts.Program (before_place (await_name a p i f as_ t)) (fixed Assign ∷ number zero_leaf ∷ []) refl (one_ends a p i f as_ (zero_to t)))
+place_ends (await_name a p i f as_ t) = by_closing (place (await_name a p i f as_ t)) (after texts.Program (before_place (await_name a p i f as_ t)) (fixed Assign ∷ number zero_leaf ∷ []) refl (one_ends a p i f as_ (zero_to t)))
 place_ends (after_assignment a p i f as_) = by_closing (place (after_assignment a p i f as_)) (await_ends a p i f as_)
 place_ends (after_branch_guard a p i f) = by_closing (place (after_branch_guard a p i f)) (branch_guard_ends a p i f)
 place_ends (after_loop_guard a p i f) = by_closing (place (after_loop_guard a p i f)) (loop_guard_ends a p i f)

@@ -69,7 +69,7 @@ abbrev pub is_do_kind : Kind → Bool
 is_do_kind (Fixed (Section k)) = is_do k
 is_do_kind _ = false
 
--- the same, where a name may stand behind `do`
+-- the same, where a name may stand after `do`
 abbrev pub calm_from : Bool → List Lexeme → Bool
 calm_from d [] = true
 calm_from d (l ∷ ls) = ((d && is_name (kind_of l)) || is_calm (kind_of l)) && calm_from (is_do_kind (kind_of l)) ls
@@ -134,7 +134,7 @@ allowed_calm lists (p ∷ ps) k h =
     free : (o j r x y : Bool) → o ≡ false → j ≡ false → r ≡ true → ((r || not lists) && cond o x (cond j y true)) ≡ true
     free o j r x y e f g = rw (e, f, g) refl
 
--- behind `do` each token has room
+-- after `do` each token has room
 do_room : (ps qs : List Point) (k : Kind) → is_do_kind k ≡ true → next ps k ≡ Some qs → (x : Kind) → has_room qs x ≡ true
 do_room [] qs k d h x = cc
 do_room (AfterAwaitGuard b ∷ ps) qs (Fixed (Section Do)) d h x = room_of (AwaitTarget b 0 ∷ ps) qs (cc) x refl

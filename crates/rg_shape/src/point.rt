@@ -112,7 +112,7 @@ pub enum Point {
     Settings(bool),
     /// After the word that is set.
     SettingWord(bool),
-    /// After the `=` behind the word.
+    /// After the `=` after the word.
     SettingValue(bool),
     /// Before the first move. The text may end.
     BeforeMoves,
@@ -633,7 +633,7 @@ impl Clause {
 }
 
 impl BlockKind {
-    /// Where the `end` behind the block leads.
+    /// Where the `end` after the block leads.
     fn end(self) -> Option<Turn>
         ensures { result ≡ block_end self }
     {
@@ -733,7 +733,7 @@ fn at_statement(block: BlockKind, keyword: Keyword) -> Option<Turn>
     }
 }
 
-/// The place behind a prefix operator.
+/// The place after a prefix operator.
 pub fn operand_of(sort: Sort) -> Point
     ensures { result ≡ operand_of sort }
 {

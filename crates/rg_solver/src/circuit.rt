@@ -12,11 +12,6 @@ pub struct Operands {
     pub second: Code,
 }
 
-pub const NO_OPERANDS: Operands = Operands {
-    first: 0,
-    second: 0,
-};
-
 /// Gates in order; their variables follow the inputs.
 #[derive(Drop)]
 pub struct Circuit {
@@ -24,19 +19,11 @@ pub struct Circuit {
     pub gates: Vec<Operands>,
     /// By variable: whether the assertion rests on it.
     pub active: Vec<bool>,
-    /// The literal that the one clause behind those of the gates asserts, or 0.
+    /// The literal that the one clause after those of the gates asserts, or 0.
     pub assertion: Code,
 }
 
-/// The literal of the last clause, where it has one alone.
-fn assertion_of(given: Given<'_>) -> Code {
-    let literals = given.clause(given.len().saturating_sub(1));
-    if literals.len() == 1 {
-        return code_of(at(literals, 0, 0));
-    }
-    0
-}
-
+/// The code of a literal of a given clause.
 fn code_at(given: Given<'_>, index: usize, place: usize) -> Code {
     code_of(at(given.clause(index), place, 0))
 }
@@ -63,55 +50,52 @@ fn operands_at(given: Given<'_>, start: usize, variable: usize) -> Option<Operan
 }
 
 impl Circuit {
-    /// The circuit that the clauses begin with.
-    pub fn read(alloc: Global, given: Given<'_>, lacks_memory: &mut bool) -> Circuit {
-        let size = (given.variables as usize).saturating_add(1);
-        let mut circuit = Circuit {
-            inputs: given.inputs as usize,
+    /// No gates.
+    pub fn new(alloc: Global) -> Self {
+        Circuit {
+            inputs: 0,
             gates: Vec::new(alloc),
             active: Vec::new(alloc),
-            assertion: assertion_of(given),
-        };
-        circuit.read_gates(given, lacks_memory);
-        circuit.keep_assertion(given);
-        fill(&mut circuit.active, false, size, lacks_memory);
-        circuit.mark_active(given);
-        circuit
+            assertion: 0,
+        }
     }
 
-    /// The gates that the clauses begin with, three clauses for each.
-    fn read_gates(&mut self, given: Given<'_>, lacks_memory: &mut bool) {
-        let mut variable = self.inputs;
+    /// Reads the circuit that the clauses begin with, three clauses for each gate. One clause of one literal after those of the gates
+    /// is the assertion.
+    pub fn read(&mut self, given: Given<'_>, lacks_memory: &mut bool) {
+        let size = (given.variables as usize).saturating_add(1);
+        fill(&mut self.active, false, size, lacks_memory);
+        self.inputs = given.inputs as usize;
         for index in 0..given.len() / 3 {
-            variable = variable.saturating_add(1);
+            let variable = self.variables().saturating_add(1);
             let Some(gate) = operands_at(given, index.saturating_mul(3), variable) else {
                 break;
             };
             add(&mut self.gates, gate, lacks_memory);
         }
-    }
-
-    /// Keeps the assertion where it is the one clause behind those of the gates; beside other clauses it is one of them.
-    fn keep_assertion(&mut self, given: Given<'_>) {
-        let gates = self.gates.len().saturating_mul(3);
-        if given.len() != gates.saturating_add(1) {
-            self.assertion = 0;
+        let rest = self.gates.len().saturating_mul(3);
+        let last = given.clause(rest);
+        if given.len() == rest.saturating_add(1) && last.len() == 1 {
+            self.assertion = code_of(at(last, 0, 0));
         }
+        self.mark_active(given, rest);
     }
 
     /// Marks what the clauses after those of the gates rest on.
-    fn mark_active(&mut self, given: Given<'_>) {
-        for index in self.gates.len().saturating_mul(3)..given.len() {
+    fn mark_active(&mut self, given: Given<'_>, rest: usize) {
+        for index in rest..given.len() {
             for literal in given.clause(index) {
                 put(&mut self.active, variable_of(code_of(*literal)), true);
             }
         }
         for place in (0..self.gates.len()).rev() {
             let variable = self.inputs.saturating_add(place).saturating_add(1);
-            if self.is_active(variable) {
-                let gate = at(&self.gates, place, NO_OPERANDS);
-                put(&mut self.active, variable_of(gate.first), true);
-                put(&mut self.active, variable_of(gate.second), true);
+            match self.operands(variable) {
+                Some(gate) if self.is_active(variable) => {
+                    put(&mut self.active, variable_of(gate.first), true);
+                    put(&mut self.active, variable_of(gate.second), true);
+                }
+                _ => {}
             }
         }
     }
@@ -139,5 +123,25 @@ impl Circuit {
     pub fn operands(&self, variable: usize) -> Option<Operands> {
         let place = variable.checked_sub(self.inputs)?.checked_sub(1)?;
         self.gates.get(place).copied()
+    }
+
+    /// The operands of both operands of a gate of two negated gates.
+    pub fn halves(&self, variable: usize) -> Option<(Operands, Operands)> {
+        let gate = self.operands(variable)?;
+        if gate.first & gate.second & 1 == 0 {
+            return None;
+        }
+        let a = self.operands(variable_of(gate.first))?;
+        let b = self.operands(variable_of(gate.second))?;
+        Some((a, b))
+    }
+
+    /// The operands of an exclusive or, or of its negation: a gate of two negated gates, whose operands are opposite.
+    pub fn exclusive(&self, variable: usize) -> Option<Operands> {
+        let (a, b) = self.halves(variable)?;
+        if a.first == negated(b.first) && a.second == negated(b.second) {
+            return Some(a);
+        }
+        None
     }
 }

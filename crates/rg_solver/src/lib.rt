@@ -9,16 +9,12 @@
 pub mod analysis;
 pub mod circuit;
 pub mod code;
-pub mod cone;
+pub mod conclusion;
 pub mod given;
-pub mod lists;
-pub mod loading;
 pub mod log;
 pub mod order;
-pub mod probe;
 pub mod propagation;
 pub mod reduction;
-pub mod restart;
 pub mod search;
 pub mod solver;
 pub mod table;

@@ -120,19 +120,15 @@ impl Order {
             self.rise(place);
         }
         if raised > 1e100 {
-            self.rescale();
+            for activity in self.activity.iter_mut() {
+                *activity = *activity * 1e-100;
+            }
+            self.step = self.step * 1e-100;
         }
     }
 
     /// Makes later bumps count more.
     pub fn decay(&mut self) {
         self.step = self.step / 0.95;
-    }
-
-    fn rescale(&mut self) {
-        for activity in self.activity.iter_mut() {
-            *activity = *activity * 1e-100;
-        }
-        self.step = self.step * 1e-100;
     }
 }

@@ -1,7 +1,7 @@
 //! Unit propagation by two watched literals.
 
 use crate::code::{Code, negated};
-use crate::solver::{FALSE, NO_WATCH, SHORT, Solver, TRUE, Watch};
+use crate::solver::{FALSE, NO_WATCH, SHORT, Solver, Span, TRUE, Watch};
 use crate::table::{at, put};
 use std::mem;
 
@@ -32,20 +32,17 @@ impl Solver {
         None
     }
 
-    /// Looks at the clauses that watch a literal which became false.
+    /// Looks at the clauses that watch a literal which became false, and leaves those in its list that watch it still.
     fn visit(&mut self, literal: Code) -> Option<u32> {
-        let mut list = self.take_watches(literal);
-        let conflict = self.visit_all(&mut list, literal);
-        self.give_watches(literal, list);
-        conflict
-    }
-
-    /// Looks at these clauses, which watch the literal, and leaves those in the list that watch it still.
-    fn visit_all(&mut self, list: &mut Vec<Watch>, literal: Code) -> Option<u32> {
+        let empty = Vec::new(self.alloc);
+        let mut list = match self.watches.get_mut(literal as usize) {
+            Some(slot) => mem::replace(slot, empty),
+            None => return None,
+        };
         let mut kept = 0usize;
         let mut conflict = None;
         for index in 0..list.len() {
-            let watch = at(list, index, NO_WATCH);
+            let watch = at(&list, index, NO_WATCH);
             let blocker = match self.look(watch, literal, conflict.is_some()) {
                 Rewatch::Moved => continue,
                 Rewatch::Kept(blocker) => blocker,
@@ -54,10 +51,13 @@ impl Solver {
                     watch.blocker
                 }
             };
-            put(list, kept, Watch { blocker, ..watch });
+            put(&mut list, kept, Watch { blocker, ..watch });
             kept = kept.saturating_add(1);
         }
         list.truncate(kept);
+        if let Some(slot) = self.watches.get_mut(literal as usize) {
+            *slot = list;
+        }
         conflict
     }
 
@@ -77,32 +77,18 @@ impl Solver {
         Rewatch::Kept(watch.blocker)
     }
 
-    pub fn take_watches(&mut self, literal: Code) -> Vec<Watch> {
-        let alloc = self.alloc;
-        match self.watches.get_mut(literal as usize) {
-            Some(slot) => mem::replace(slot, Vec::new(alloc)),
-            None => Vec::new(alloc),
-        }
-    }
-
-    pub fn give_watches(&mut self, literal: Code, list: Vec<Watch>) {
-        if let Some(slot) = self.watches.get_mut(literal as usize) {
-            *slot = list;
-        }
-    }
-
     /// Finds another literal to watch, or follows the clause.
     fn rewatch(&mut self, clause: u32, literal: Code) -> Rewatch {
-        let span = self.span(clause);
-        let second = span.start.saturating_add(1);
-        let other = at(&self.arena, span.start, 0) ^ at(&self.arena, second, 0) ^ literal;
+        let Span { start, end } = self.span(clause);
+        let second = start.saturating_add(1);
+        let other = at(&self.arena, start, 0) ^ at(&self.arena, second, 0) ^ literal;
         if self.value(other) == TRUE {
             return Rewatch::Kept(other);
         }
-        for place in span.start.saturating_add(2)..span.end {
+        for place in start.saturating_add(2)..end {
             let candidate = at(&self.arena, place, 0);
             if self.value(candidate) != FALSE {
-                put(&mut self.arena, span.start, other);
+                put(&mut self.arena, start, other);
                 put(&mut self.arena, second, candidate);
                 put(&mut self.arena, place, literal);
                 self.watch(candidate, clause, other);

@@ -2,18 +2,12 @@
 //! for.
 
 use crate::analysis::{GLUE, USE};
-use crate::solver::{HEAD, SHORT, Solver, Watch};
-use crate::table::{add, at, put};
+use crate::solver::{HEAD, NO_WATCH, SHORT, Solver, Watch};
+use crate::table::{add, at, extend, put};
 use std::mem;
-
-/// The bit of a note that says that the clause may be dropped.
-const WEAK: u32 = 1 << 31;
 
 /// What stands for the note of a dropped clause.
 const DROPPED: u32 = u32::MAX;
-
-/// The ranks of clauses that may be dropped.
-const RANKS: usize = 4096;
 
 impl Solver {
     /// Drops clauses where it is due.
@@ -27,95 +21,72 @@ impl Solver {
         }
         let pause = self.root.saturating_mul(250);
         self.next_reduction = self.conflicts.saturating_add(pause);
-        self.reduce();
-    }
-
-    /// Drops the worse half of the clauses that may be dropped.
-    pub fn reduce(&mut self) {
-        let mut counts = [0u32; RANKS];
-        let count = self.count_weak(&mut counts);
-        let (rank, spared) = rank_above(&counts, count / 2);
-        self.drop_weak(rank, spared);
+        self.drop_weak();
         self.compact();
     }
 
-    /// Counts the clauses that may be dropped by their ranks, and marks them.
-    fn count_weak(&mut self, counts: &mut [u32]) -> u32 {
-        let mut count = 0u32;
+    /// Marks the worse half of the clauses that may be dropped: those of higher rank, and of the same rank the later ones.
+    fn drop_weak(&mut self) {
+        let mut weak = Vec::new(self.alloc);
         for place in 0..self.kept.len() {
             let clause = at(&self.kept, place, 0);
-            if self.weaken(clause) {
-                let rank = self.rank(clause);
-                let before = at(counts, rank, 0);
-                put(counts, rank, before.saturating_add(1));
-                count = count.saturating_add(1);
+            if let Some(rank) = self.weaken(clause) {
+                add(&mut weak, (rank, clause), &mut self.lacks_memory);
             }
         }
-        count
+        if weak.sort().is_err() {
+            self.lacks_memory = true;
+        }
+        for place in weak.len() / 2..weak.len() {
+            let (_rank, clause) = at(&weak, place, (0, 0));
+            self.set_note(clause, DROPPED);
+        }
     }
 
-    /// Lets a clause grow older. Whether it may be dropped.
-    fn weaken(&mut self, clause: u32) -> bool {
+    /// Lets a clause grow older. Its rank where it may be dropped: by the glue, and by the count of literals where that is the same.
+    fn weaken(&mut self, clause: u32) -> Option<u32> {
         let note = self.note(clause);
+        let literals = at(&self.arena, clause as usize, 0);
         let glue = note & GLUE;
         let uses = note / USE;
-        if glue <= 2 || at(&self.arena, clause as usize, 0) == 2 {
-            return false;
+        if glue <= 2 || literals == 2 {
+            return None;
         }
-        let is_weak = uses == 0 || uses == 1 && glue > 6;
-        let older = uses.saturating_sub(1).wrapping_mul(USE) | glue;
-        self.set_note(clause, if is_weak { older | WEAK } else { older });
-        is_weak
-    }
-
-    /// By the glue, and by the count of literals where that is the same.
-    fn rank(&self, clause: u32) -> usize {
-        let glue = self.note(clause) & GLUE;
-        let literals = at(&self.arena, clause as usize, 0);
-        (glue.min(63) << 6 | literals.min(63)) as usize
-    }
-
-    /// Marks those that may be dropped as dropped, from a rank on, of which so many are spared.
-    fn drop_weak(&mut self, rank: usize, spared: u32) {
-        let mut left = spared;
-        for place in 0..self.kept.len() {
-            let clause = at(&self.kept, place, 0);
-            let note = self.note(clause);
-            if note & WEAK == 0 {
-                continue;
-            }
-            let own = self.rank(clause);
-            let is_spared = own < rank || own == rank && left > 0;
-            if own == rank {
-                left = left.saturating_sub(1);
-            }
-            self.set_note(clause, if is_spared { note ^ WEAK } else { DROPPED });
+        self.set_note(clause, uses.saturating_sub(1).wrapping_mul(USE) | glue);
+        if uses == 0 || uses == 1 && glue > 6 {
+            Some(glue.min(63) << 6 | literals.min(63))
+        } else {
+            None
         }
     }
 
     /// Moves the clauses together. In the old arena the new place of each stands in that of its number.
     fn compact(&mut self) {
         let empty = Vec::new(self.alloc);
-        let mut arena = mem::replace(&mut self.arena, empty);
-        self.move_clauses(&mut arena);
+        let mut old = mem::replace(&mut self.arena, empty);
+        self.move_clauses(&mut old);
         for literal in 0..self.watches.len() {
-            self.move_watches(&arena, u32::try_from(literal).unwrap_or(0));
+            if let Some(list) = self.watches.get_mut(literal) {
+                move_watches(list, &old);
+            }
         }
-        self.move_kept(&arena);
     }
 
     fn move_clauses(&mut self, old: &mut [u32]) {
+        self.kept.clear();
         let mut place = 0usize;
         for _ in 0..old.len() {
             let count = at(old, place, 0) as usize;
+            let note = at(old, place.saturating_add(2), DROPPED);
             let end = place.saturating_add(HEAD).saturating_add(count);
-            if at(old, place.saturating_add(2), DROPPED) != DROPPED {
+            if note != DROPPED {
                 let moved = u32::try_from(self.arena.len()).unwrap_or(0);
                 let words = old.get(place..end).unwrap_or(&[]);
-                if self.arena.extend_from_slice(words).is_err() {
-                    self.lacks_memory = true;
-                }
+                extend(&mut self.arena, words, &mut self.lacks_memory);
                 put(old, place.saturating_add(1), moved);
+                if note > 0 && count > 1 {
+                    add(&mut self.kept, moved, &mut self.lacks_memory);
+                }
             }
             if end >= old.len() {
                 return;
@@ -123,60 +94,19 @@ impl Solver {
             place = end;
         }
     }
-
-    fn move_watches(&mut self, old: &[u32], literal: u32) {
-        let mut list = self.take_watches(literal);
-        let mut kept = 0usize;
-        for index in 0..list.len() {
-            let watch = at(&list, index, crate::solver::NO_WATCH);
-            if let Some(clause) = moved(old, watch.clause & !SHORT) {
-                let tag = clause | watch.clause & SHORT;
-                put(
-                    &mut list,
-                    kept,
-                    Watch {
-                        clause: tag,
-                        ..watch
-                    },
-                );
-                kept = kept.saturating_add(1);
-            }
-        }
-        list.truncate(kept);
-        self.give_watches(literal, list);
-    }
-
-    fn move_kept(&mut self, old: &[u32]) {
-        let mut kept = 0usize;
-        for index in 0..self.kept.len() {
-            let clause = at(&self.kept, index, 0);
-            if let Some(clause) = moved(old, clause) {
-                put(&mut self.kept, kept, clause);
-                kept = kept.saturating_add(1);
-            }
-        }
-        self.kept.truncate(kept);
-    }
 }
 
-/// The new place of a clause, unless it is dropped.
-fn moved(old: &[u32], clause: u32) -> Option<u32> {
-    let place = clause as usize;
-    if at(old, place.saturating_add(2), DROPPED) == DROPPED {
-        return None;
-    }
-    Some(at(old, place.saturating_add(1), 0))
-}
-
-/// The rank that the middle one of so many has, and how many of that rank come before it.
-fn rank_above(counts: &[u32], count: u32) -> (usize, u32) {
-    let mut left = count;
-    for rank in 0..counts.len() {
-        let own = at(counts, rank, 0);
-        if own > left {
-            return (rank, left);
+/// Gives the watches of a literal the new places of their clauses, and drops those of dropped clauses.
+fn move_watches(list: &mut Vec<Watch>, old: &[u32]) {
+    let mut kept = 0usize;
+    for index in 0..list.len() {
+        let watch = at(list, index, NO_WATCH);
+        let place = (watch.clause & !SHORT) as usize;
+        if at(old, place.saturating_add(2), DROPPED) != DROPPED {
+            let clause = at(old, place.saturating_add(1), 0) | watch.clause & SHORT;
+            put(list, kept, Watch { clause, ..watch });
+            kept = kept.saturating_add(1);
         }
-        left = left.saturating_sub(own);
     }
-    (counts.len(), 0)
+    list.truncate(kept);
 }

@@ -1,10 +1,18 @@
 //! The search: propagation, learning, decisions and restarts, under assumptions or under none.
+//!
+//! It begins anew by the glue of what it learned lately (G. Audemard and L. Simon, "Predicting learnt clauses quality in modern SAT
+//! solvers", 2009).
 
-use crate::circuit::Circuit;
 use crate::code::{Code, variable_of};
-use crate::solver::{FALSE, Solver};
-use crate::table::{at, put};
+use crate::solver::{FALSE, OPEN, Solver};
+use crate::table::{add, at, put};
 use crate::watcher::Watcher;
+
+/// The most conflicts that the long mean of the glue is taken of.
+const LONG_MEAN: u64 = 8192;
+
+/// The conflicts that the short mean is taken of.
+const SHORT_MEAN: u64 = 32;
 
 /// How a search ends.
 #[derive(Clone, Copy, PartialEq, Eq)]
@@ -17,15 +25,11 @@ pub enum Outcome {
     GaveUp,
 }
 
-/// The most literals of a lemma.
-pub const MOST_ASSUMED: usize = 6;
-
 /// What a search looks for, and how much is left of it.
 #[derive(Clone, Copy)]
-pub struct Goal {
-    /// Literals to be shown not to be true together, and how many there are. With none there is no assumption.
-    pub literals: [Code; MOST_ASSUMED],
-    pub count: usize,
+pub struct Goal<'a> {
+    /// Literals to be shown not to be true together. With none there is no assumption.
+    assumed: &'a [Code],
     /// The conflicts that are left.
     pub conflicts: u64,
     /// The decisions on inputs that are left.
@@ -34,58 +38,50 @@ pub struct Goal {
     has_cone: bool,
 }
 
-impl Goal {
-    /// Values for all variables, or a refutation.
-    pub fn whole(conflicts: u64, decisions: u64) -> Self {
+/// The mean of about so many numbers, with another one.
+fn mean(before: u64, number: u64, count: u64) -> u64 {
+    let many = count.max(1);
+    before
+        .saturating_sub(before / many)
+        .saturating_add(number / many)
+}
+
+impl<'a> Goal<'a> {
+    /// That some literals aren't true together; with none, values for all variables, or a refutation.
+    pub fn new(assumed: &'a [Code], conflicts: u64, decisions: u64) -> Self {
         Goal {
-            literals: [0; MOST_ASSUMED],
-            count: 0,
+            assumed,
             conflicts,
             decisions,
             has_cone: false,
         }
     }
-
-    /// That some literals aren't true together.
-    pub fn lemma(assumed: &[Code], conflicts: u64) -> Self {
-        let mut literals = [0; MOST_ASSUMED];
-        for place in 0..MOST_ASSUMED {
-            put(&mut literals, place, at(assumed, place, 0));
-        }
-        Goal {
-            literals,
-            count: assumed.len().min(MOST_ASSUMED),
-            conflicts,
-            decisions: u64::MAX,
-            has_cone: false,
-        }
-    }
-
-    fn is_lemma(&self) -> bool {
-        self.count > 0
-    }
-
-    /// The level of the last assumption.
-    fn base(&self) -> usize {
-        self.count
-    }
 }
 
 impl Solver {
-    /// Searches until the goal is decided or its effort is used up. What was learned stays.
-    pub fn search<W: Watcher>(
+    /// Searches for a proof that these literals aren't true together, with at most so many conflicts.
+    pub fn exclude<W: Watcher>(
         &mut self,
-        circuit: &Circuit,
-        goal: &mut Goal,
+        assumed: &[Code],
+        limit: u64,
         watcher: &mut W,
     ) -> Outcome {
+        let mut goal = Goal::new(assumed, limit, u64::MAX);
+        self.search(&mut goal, watcher)
+    }
+
+    /// Searches until the goal is decided or its effort is used up. What was learned stays.
+    pub fn search<W: Watcher>(&mut self, goal: &mut Goal<'_>, watcher: &mut W) -> Outcome {
         self.backtrack(0);
         self.since_restart = 0;
         for _ in 0..u64::MAX {
-            if self.is_over() {
-                return self.end();
+            if self.log.is_refuted {
+                return Outcome::Excluded;
             }
-            if let Some(outcome) = self.advance(circuit, goal) {
+            if self.is_over() {
+                break;
+            }
+            if let Some(outcome) = self.advance(goal) {
                 return outcome;
             }
             watcher.searched(self.conflicts, self.kept.len());
@@ -93,38 +89,52 @@ impl Solver {
         Outcome::GaveUp
     }
 
-    fn end(&self) -> Outcome {
-        if self.is_refuted {
-            Outcome::Excluded
-        } else {
-            Outcome::GaveUp
-        }
-    }
-
-    /// Follows unit clauses, and then learns from a conflict, begins anew or decides.
-    fn advance(&mut self, circuit: &Circuit, goal: &mut Goal) -> Option<Outcome> {
+    /// Follows unit clauses, and then learns from a conflict; begins anew, where what was learned lately has more glue than usual; makes
+    /// the next assumption, which is excluded where it is false already; or decides.
+    fn advance(&mut self, goal: &mut Goal<'_>) -> Option<Outcome> {
+        let base = goal.assumed.len();
         if let Some(conflict) = self.propagate() {
             return self.take_conflict(conflict, goal);
         }
-        if self.restarts(goal.base()) {
+        let is_stuck = self.fast_glue.saturating_mul(10) > self.slow_glue.saturating_mul(11);
+        if self.level() > base && self.since_restart >= 2 && is_stuck {
+            self.since_restart = 0;
+            self.fast_glue = self.slow_glue;
+            self.backtrack(0);
+            self.reduce_if_due();
             return None;
         }
-        if !goal.is_lemma() {
-            return self.decide_any(goal);
+        if self.level() < base {
+            let literal = at(goal.assumed, self.level(), 0);
+            if self.value(literal) == FALSE {
+                self.contradict(literal);
+                return Some(Outcome::Excluded);
+            }
+            self.decide(literal);
+            return None;
         }
-        if self.level() < goal.base() {
-            return self.assume_next(*goal);
+        if base > 0 && !goal.has_cone {
+            goal.has_cone = true;
+            self.enter_cone(goal.assumed);
         }
-        self.decide_near(circuit, goal)
+        self.decide_next(goal)
+    }
+
+    /// Counts a conflict that taught a clause of this glue.
+    pub fn count_conflict(&mut self, glue: u32) {
+        let measure = u64::from(glue) << 20;
+        let long = self.conflicts.min(LONG_MEAN);
+        self.slow_glue = mean(self.slow_glue, measure, long);
+        self.fast_glue = mean(self.fast_glue, measure, SHORT_MEAN);
+        self.conflicts = self.conflicts.saturating_add(1);
+        self.since_restart = self.since_restart.saturating_add(1);
+        self.order.decay();
+        self.near.decay();
     }
 
     /// Learns from a conflict. Where it rests on the assumptions alone, or on nothing, the search ends.
-    fn take_conflict(&mut self, conflict: u32, goal: &mut Goal) -> Option<Outcome> {
-        if self.level() == 0 {
-            self.log_empty(conflict);
-            return Some(Outcome::Excluded);
-        }
-        if self.level() <= goal.base() {
+    fn take_conflict(&mut self, conflict: u32, goal: &mut Goal<'_>) -> Option<Outcome> {
+        if self.level() <= goal.assumed.len() {
             self.conclude(conflict);
             return Some(Outcome::Excluded);
         }
@@ -136,69 +146,72 @@ impl Solver {
         None
     }
 
-    /// Begins the level of the next assumption. Where it is false already, they exclude each other.
-    fn assume_next(&mut self, goal: Goal) -> Option<Outcome> {
-        let literal = at(&goal.literals, self.level(), 0);
-        if self.value(literal) == FALSE {
-            self.contradict(literal);
-            return Some(Outcome::Excluded);
-        }
-        self.begin_level();
-        self.assume(literal);
-        None
-    }
-
-    /// Decides an open variable, unless no more may be done than to follow unit clauses.
-    fn decide_any(&mut self, goal: &mut Goal) -> Option<Outcome> {
-        let Some(decision) = self.next_open() else {
+    /// Decides an open variable, of the cone where there are assumptions. Without any, decisions on inputs are counted, and once those
+    /// and the conflicts are used up, no more is done than to follow unit clauses.
+    fn decide_next(&mut self, goal: &mut Goal<'_>) -> Option<Outcome> {
+        let is_lemma = !goal.assumed.is_empty();
+        let Some(decision) = self.next_open(is_lemma) else {
             return Some(Outcome::Assigned);
         };
-        let is_input = variable_of(decision) <= self.inputs;
-        if goal.decisions == 0 && (is_input || goal.conflicts == 0) {
-            self.order.insert(decision >> 1);
-            return Some(Outcome::GaveUp);
-        }
-        if is_input {
-            goal.decisions = goal.decisions.saturating_sub(1);
+        if !is_lemma {
+            let is_input = variable_of(decision) <= self.circuit.inputs;
+            if goal.decisions == 0 && (is_input || goal.conflicts == 0) {
+                self.order.insert(decision >> 1);
+                return Some(Outcome::GaveUp);
+            }
+            let counted = u64::from(is_input);
+            goal.decisions = goal.decisions.saturating_sub(counted);
         }
         self.decide(decision);
         None
     }
 
-    /// Decides an open variable of the cone.
-    fn decide_near(&mut self, circuit: &Circuit, goal: &mut Goal) -> Option<Outcome> {
-        if !goal.has_cone {
-            goal.has_cone = true;
-            self.enter_cone(circuit, &goal.literals);
-        }
-        let Some(decision) = self.next_near() else {
-            return Some(Outcome::Assigned);
-        };
-        self.decide(decision);
-        None
-    }
-
-    /// An open variable, the most active first, with its last value.
-    fn next_open(&mut self) -> Option<Code> {
+    /// An open variable, or one of the cone, the most active first, with its last value.
+    fn next_open(&mut self, is_near: bool) -> Option<Code> {
         for _ in 0..u64::MAX {
-            let variable = self.order.pop()?;
-            let decision = self.open_literal(variable);
-            if decision.is_some() {
-                return decision;
+            let next = if is_near {
+                self.near.pop()
+            } else {
+                self.order.pop()
+            };
+            let variable = next?;
+            let code = variable.wrapping_mul(2);
+            if self.value(code) == OPEN {
+                let phase = at(&self.phases, variable as usize, false);
+                return Some(if phase { code } else { code | 1 });
             }
         }
         None
     }
 
-    /// An open variable of the cone, the most active first, with its last value.
-    fn next_near(&mut self) -> Option<Code> {
-        for _ in 0..u64::MAX {
-            let variable = self.near.pop()?;
-            let decision = self.open_literal(variable);
-            if decision.is_some() {
-                return decision;
+    /// Collects the variables on which literals rest, the nearest first.
+    fn enter_cone(&mut self, literals: &[Code]) {
+        self.cone_stamp = self.cone_stamp.wrapping_add(1);
+        self.cone.clear();
+        self.near.clear();
+        for literal in literals {
+            self.enter(*literal);
+        }
+        for place in 0..usize::MAX {
+            let Some(variable) = self.cone.get(place).copied() else {
+                break;
+            };
+            if let Some(gate) = self.circuit.operands(variable) {
+                self.enter(gate.first);
+                self.enter(gate.second);
             }
         }
-        None
+        self.effort = self.effort.saturating_add(self.cone.len() as u64);
+    }
+
+    /// Enters the variable of a literal into the cone.
+    fn enter(&mut self, literal: Code) {
+        let variable = variable_of(literal);
+        if variable == 0 || at(&self.cone_marks, variable, u32::MAX) == self.cone_stamp {
+            return;
+        }
+        put(&mut self.cone_marks, variable, self.cone_stamp);
+        add(&mut self.cone, variable, &mut self.lacks_memory);
+        self.near.insert(literal >> 1);
     }
 }

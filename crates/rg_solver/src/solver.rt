@@ -1,9 +1,11 @@
 //! The state of the search: values, reasons, the trail, and watched clauses.
 
-use crate::code::{Code, negated, variable_of};
+use crate::circuit::Circuit;
+use crate::code::{Code, code_of, negated, variable_of};
+use crate::given::Given;
 use crate::log::Log;
 use crate::order::Order;
-use crate::table::{add, at, fill, put};
+use crate::table::{add, at, extend, fill, put};
 use std::alloc::Global;
 
 pub const NO_CLAUSE: u32 = u32::MAX;
@@ -42,9 +44,7 @@ pub struct Span {
 #[derive(Drop)]
 pub struct Solver {
     pub alloc: Global,
-    pub inputs: usize,
-    /// Whether the empty clause is logged.
-    pub is_refuted: bool,
+    pub circuit: Circuit,
     /// Whether memory was refused. What is found from then on is worth nothing.
     pub lacks_memory: bool,
     /// By literal.
@@ -59,7 +59,7 @@ pub struct Solver {
     pub watches: Vec<Vec<Watch>>,
     /// All clauses, each after its head. A clause is named by the place where its head stands.
     pub arena: Vec<u32>,
-    /// The learned clauses.
+    /// The learned clauses of two literals and more.
     pub kept: Vec<u32>,
     pub log: Log,
     /// The variables that may be open.
@@ -76,10 +76,11 @@ pub struct Solver {
     pub seen: Vec<bool>,
     pub in_learned: Vec<bool>,
     pub touched: Vec<u32>,
+    /// The clause that is learned or loaded.
     pub learned: Vec<Code>,
     pub stack: Vec<Code>,
     pub hints: Vec<u32>,
-    /// The clauses on which the learned one rests.
+    /// The numbers of the clauses on which the learned one rests.
     pub used: Vec<u32>,
     pub open: usize,
     pub level_marks: Vec<u64>,
@@ -97,12 +98,11 @@ pub struct Solver {
 }
 
 impl Solver {
-    /// A solver with no clauses, and with no room for variables yet.
-    pub fn new(alloc: Global, inputs: usize, given: u32) -> Self {
+    /// A solver with no clauses yet, of which so many will be given.
+    pub fn new(alloc: Global, given: u32) -> Self {
         Solver {
             alloc,
-            inputs,
-            is_refuted: false,
+            circuit: Circuit::new(alloc),
             lacks_memory: false,
             values: Vec::new(alloc),
             levels: Vec::new(alloc),
@@ -143,52 +143,93 @@ impl Solver {
     }
 
     /// Room for so many variables.
-    pub fn make_room(&mut self, variables: usize) {
+    fn make_room(&mut self, variables: usize) {
         let size = variables.saturating_add(1);
         let literals = size.saturating_mul(2);
-        self.make_watches(literals);
-        fill(&mut self.values, OPEN, literals, &mut self.lacks_memory);
-        fill(&mut self.levels, 0, size, &mut self.lacks_memory);
-        fill(&mut self.reasons, NO_CLAUSE, size, &mut self.lacks_memory);
-        fill(&mut self.units, 0, size, &mut self.lacks_memory);
-        self.order.make_room(size, &mut self.lacks_memory);
-        self.near.make_room(size, &mut self.lacks_memory);
-        self.make_marks(size);
+        let lack = &mut self.lacks_memory;
+        for _ in 0..literals {
+            if self.watches.push(Vec::new(self.alloc)).is_err() {
+                *lack = true;
+            }
+        }
+        fill(&mut self.values, OPEN, literals, lack);
+        fill(&mut self.levels, 0, size, lack);
+        fill(&mut self.reasons, NO_CLAUSE, size, lack);
+        fill(&mut self.units, 0, size, lack);
+        self.order.make_room(size, lack);
+        self.near.make_room(size, lack);
+        fill(&mut self.cone_marks, 0, size, lack);
+        fill(&mut self.phases, false, size, lack);
+        fill(&mut self.seen, false, size, lack);
+        fill(&mut self.in_learned, false, size, lack);
+        fill(&mut self.level_marks, 0, size, lack);
     }
 
-    fn make_watches(&mut self, literals: usize) {
-        let alloc = self.alloc;
-        for _ in 0..literals {
-            if self.watches.push(Vec::new(alloc)).is_err() {
-                self.lacks_memory = true;
+    /// Loads the given clauses that are needed, of which none is empty, enters the variables that are needed into the order, and follows
+    /// units.
+    pub fn load(&mut self, given: Given<'_>) {
+        self.circuit.read(given, &mut self.lacks_memory);
+        self.make_room(given.variables as usize);
+        for index in 0..given.len() {
+            if !self.is_over() && self.circuit.needs(index) {
+                self.load_clause(given.clause(index), index);
+            }
+        }
+        for variable in 1..self.circuit.active.len() {
+            if self.circuit.is_active(variable) {
+                self.order.insert(u32::try_from(variable).unwrap_or(0));
+            }
+        }
+        self.settle();
+    }
+
+    /// Loads a given clause. Where it has one literal, that is fixed.
+    fn load_clause(&mut self, literals: &[i32], index: usize) {
+        self.learned.clear();
+        for literal in literals {
+            add(&mut self.learned, code_of(*literal), &mut self.lacks_memory);
+        }
+        let number = u32::try_from(index).unwrap_or(0).saturating_add(1);
+        let clause = self.add_clause(number, 0);
+        if literals.len() == 1 {
+            let literal = at(&self.learned, 0, 0);
+            match self.value(literal) {
+                OPEN => self.enqueue(literal, clause),
+                TRUE => {}
+                _ => self.log_empty(clause),
             }
         }
     }
 
-    fn make_marks(&mut self, size: usize) {
-        fill(&mut self.cone_marks, 0, size, &mut self.lacks_memory);
-        fill(&mut self.phases, false, size, &mut self.lacks_memory);
-        fill(&mut self.seen, false, size, &mut self.lacks_memory);
-        fill(&mut self.in_learned, false, size, &mut self.lacks_memory);
-        fill(&mut self.level_marks, 0, size, &mut self.lacks_memory);
+    /// Follows units at level 0; a conflict there refutes all.
+    pub fn settle(&mut self) {
+        if self.is_over() {
+            return;
+        }
+        if let Some(conflict) = self.propagate() {
+            self.log_empty(conflict);
+        }
     }
 
     /// Whether nothing more is to be done.
     #[inline]
     pub fn is_over(&self) -> bool {
-        self.is_refuted || self.lacks_memory || self.log.is_full()
+        self.log.is_refuted || self.lacks_memory || self.log.is_full()
     }
 
+    /// The value of a literal.
     #[inline]
     pub fn value(&self, literal: Code) -> u8 {
         at(&self.values, literal as usize, OPEN)
     }
 
+    /// The level of a literal's value.
     #[inline]
     pub fn level_of(&self, literal: Code) -> usize {
         at(&self.levels, variable_of(literal), 0) as usize
     }
 
+    /// The level that was begun last, from 1 on; 0 before the first.
     #[inline]
     pub fn level(&self) -> usize {
         self.level_starts.len()
@@ -215,33 +256,36 @@ impl Solver {
         at(&self.arena, (clause as usize).saturating_add(2), 0)
     }
 
+    /// Gives a clause another note.
     #[inline]
     pub fn set_note(&mut self, clause: u32, note: u32) {
         put(&mut self.arena, (clause as usize).saturating_add(2), note);
     }
 
-    /// Adds a clause, of which the first two literals are watched.
-    pub fn add_clause(&mut self, literals: &[Code], number: u32, note: u32) -> u32 {
+    /// Adds the clause at hand under its number, of which the first two literals are watched.
+    pub fn add_clause(&mut self, number: u32, note: u32) -> u32 {
         let clause = u32::try_from(self.arena.len()).unwrap_or(NO_CLAUSE);
-        let count = u32::try_from(literals.len()).unwrap_or(0);
-        add(&mut self.arena, count, &mut self.lacks_memory);
-        add(&mut self.arena, number, &mut self.lacks_memory);
-        add(&mut self.arena, note, &mut self.lacks_memory);
-        if self.arena.extend_from_slice(literals).is_err() {
-            self.lacks_memory = true;
-        }
-        if literals.len() >= 2 {
-            let tag = if literals.len() == 2 {
-                clause | SHORT
-            } else {
-                clause
-            };
-            self.watch(literals[0], tag, literals[1]);
-            self.watch(literals[1], tag, literals[0]);
+        let count = u32::try_from(self.learned.len()).unwrap_or(0);
+        extend(
+            &mut self.arena,
+            &[count, number, note],
+            &mut self.lacks_memory,
+        );
+        extend(&mut self.arena, &self.learned, &mut self.lacks_memory);
+        if count >= 2 {
+            let tag = if count == 2 { clause | SHORT } else { clause };
+            let first = at(&self.learned, 0, 0);
+            let second = at(&self.learned, 1, 0);
+            self.watch(first, tag, second);
+            self.watch(second, tag, first);
+            if note > 0 {
+                add(&mut self.kept, clause, &mut self.lacks_memory);
+            }
         }
         clause
     }
 
+    /// Has a clause watch a literal.
     pub fn watch(&mut self, literal: Code, clause: u32, blocker: Code) {
         if let Some(list) = self.watches.get_mut(literal as usize) {
             add(list, Watch { clause, blocker }, &mut self.lacks_memory);
@@ -262,22 +306,6 @@ impl Solver {
         }
     }
 
-    /// The literal of an open variable that has its last value.
-    pub fn open_literal(&self, variable: u32) -> Option<Code> {
-        let code = variable.wrapping_mul(2);
-        if self.value(code) != OPEN {
-            return None;
-        }
-        let phase = at(&self.phases, variable as usize, false);
-        Some(if phase { code } else { code | 1 })
-    }
-
-    /// Begins a level.
-    pub fn begin_level(&mut self) {
-        let start = self.trail.len();
-        add(&mut self.level_starts, start, &mut self.lacks_memory);
-    }
-
     /// Makes an open literal true without a reason.
     pub fn assume(&mut self, literal: Code) {
         if self.value(literal) == OPEN {
@@ -285,51 +313,37 @@ impl Solver {
         }
     }
 
-    /// Begins a level with a literal that is made true without a reason.
+    /// Begins a level, and makes a literal that is open true without a reason.
     pub fn decide(&mut self, literal: Code) {
-        self.begin_level();
-        self.enqueue(literal, NO_CLAUSE);
+        let start = self.trail.len();
+        add(&mut self.level_starts, start, &mut self.lacks_memory);
+        self.assume(literal);
     }
 
-    /// Logs a clause with the hints at hand, and answers its number. Nothing comes after the empty clause.
-    pub fn log_line(&mut self, literals: &[Code]) -> u32 {
-        if self.is_refuted {
-            return 0;
-        }
-        self.log.add(literals, &self.hints, &mut self.lacks_memory)
-    }
-
-    /// Takes the unit clauses of a clause's other literals as hints, which are fixed false.
-    fn hint_units(&mut self, clause: u32, literal: Code) {
-        let span = self.span(clause);
+    /// Logs the unit clause of a fixed literal, by the unit clauses of its reason's other literals, unless that is one itself.
+    fn log_unit(&mut self, literal: Code, reason: u32) {
+        let mut number = self.number(reason);
+        let Span { start, end } = self.span(reason);
         self.hints.clear();
-        for place in span.start..span.end {
+        for place in start..end {
             let other = at(&self.arena, place, 0);
             if other != literal {
                 let unit = at(&self.units, variable_of(other), 0);
                 add(&mut self.hints, unit, &mut self.lacks_memory);
             }
         }
-    }
-
-    /// Logs the unit clause of a fixed literal, by the unit clauses of its reason's other literals.
-    fn log_unit(&mut self, literal: Code, reason: u32) {
-        self.hint_units(reason, literal);
-        let mut number = self.number(reason);
         if !self.hints.is_empty() {
             add(&mut self.hints, number, &mut self.lacks_memory);
-            number = self.log_line(&[literal]);
+            let lacks_memory = &mut self.lacks_memory;
+            number = self.log.add(&[literal], &self.hints, lacks_memory);
         }
         put(&mut self.units, variable_of(literal), number);
     }
 
     /// Logs the empty clause, from a clause whose literals are all fixed false.
-    pub fn log_empty(&mut self, conflict: u32) {
-        self.hint_units(conflict, 0);
-        let number = self.number(conflict);
-        add(&mut self.hints, number, &mut self.lacks_memory);
-        let _number = self.log_line(&[]);
-        self.is_refuted = true;
+    fn log_empty(&mut self, conflict: u32) {
+        self.learned.clear();
+        let _number = self.log_learned(conflict);
     }
 
     /// Takes back all values above a level.
@@ -339,21 +353,17 @@ impl Solver {
         };
         for place in start..self.trail.len() {
             let literal = at(&self.trail, place, 0);
-            self.release(literal);
+            let variable = variable_of(literal);
+            put(&mut self.values, literal as usize, OPEN);
+            put(&mut self.values, negated(literal) as usize, OPEN);
+            put(&mut self.phases, variable, literal & 1 == 0);
+            self.order.insert(literal >> 1);
+            if at(&self.cone_marks, variable, 0) == self.cone_stamp {
+                self.near.insert(literal >> 1);
+            }
         }
         self.trail.truncate(start);
         self.level_starts.truncate(level);
         self.head = start;
-    }
-
-    fn release(&mut self, literal: Code) {
-        let variable = variable_of(literal);
-        put(&mut self.values, literal as usize, OPEN);
-        put(&mut self.values, negated(literal) as usize, OPEN);
-        put(&mut self.phases, variable, literal & 1 == 0);
-        self.order.insert(literal >> 1);
-        if at(&self.cone_marks, variable, 0) == self.cone_stamp {
-            self.near.insert(literal >> 1);
-        }
     }
 }

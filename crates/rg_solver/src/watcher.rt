@@ -1,12 +1,12 @@
-//! Who is told of a long search.
+//! Reports of a long search.
 
-/// Is told of a search now and then: after conflicts, and between gates.
+/// What a search is reported to now and then: after conflicts, and between gates.
 pub trait Watcher {
     /// So many conflicts were met, and so many learned clauses are kept.
     fn searched(&mut self, conflicts: u64, learned: usize);
 }
 
-/// Nobody.
+/// A watcher that does nothing.
 #[derive(Clone, Copy)]
 pub struct Unwatched;
 

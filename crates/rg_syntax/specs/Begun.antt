@@ -80,7 +80,7 @@ abbrev pub parts_begun : PartsSpelling → ℕ → List ℕ
 parts_begun (one_part p) n = part_begun p n
 parts_begun (and_part ps p) n = parts_begun ps n ++ part_begun p (n - length (parts ps []))
 
--- what the first n tokens of a program begin, all of it in its parts, behind its words and its specification
+-- what the first n tokens of a program begin, all of it in its parts, after its words and its specification
 abbrev pub program_begun : ProgramSpelling → ℕ → List ℕ
 program_begun p n = parts_begun p.parts (n - length (words p.words (specification p.spec [])))
 

@@ -1,4 +1,4 @@
--- The kind of a text, told by its first byte: a word where that is a letter or `_`, a number where it is a digit, else a symbol.
+-- The kind of a text, known by its first byte: a word where that is a letter or `_`, a number where it is a digit, else a symbol.
 use Rattle.std.proofs.Common.{◌≡◌, ℕ, zero, suc, ◌+◌, ◌-◌, ◌<◌, ◌≤◌, min, Bool, true, false, not, ◌&&◌, cond, eqb, List, [], ◌∷◌, length, take, get_or, Option, Some, None, refl, sym, ap, ◌∙◌, arith, length-take}
 use Rattle.std.specs.Prelude.{is_none}
 use Rattle.std.specs.Char.{is_ascii_digit}
@@ -20,7 +20,7 @@ abbrev pub named : Option Terminal → Kind
 named (Some t) = Fixed t
 named None = Name
 
--- a word, or a word that is no keyword with a prime directly behind it
+-- a word, or a word that is no keyword with a prime directly after it
 unfoldable pub word_kind : List ℕ → Option Kind
 word_kind text =
     let n = prefix_len is_word_byte text in
@@ -182,7 +182,7 @@ module _ (b : ℕ) (start : is_word_start b ≡ true) where
           kind_at text true false false None (symbol_of text) (name_is text true false (word_all bs ∙ all) (keyword_test None e)) unprimed (no_number bs) e refl
           ∙ ap (λ o. Some (named o)) (sym e)
 
-  -- and more behind the word: a prime alone counts
+  -- and more after the word: a prime alone counts
   module _ (bs : List ℕ) (more : list_all is_word_byte (b ∷ bs) ≡ false) where
     abbrev text : List ℕ
     text = b ∷ bs
@@ -213,14 +213,14 @@ module _ (b : ℕ) (start : is_word_start b ≡ true) where
         ∙ ap (λ n. eqb n (length (take m text))) (prefix_len-take is_word_byte m text)
         ∙ ne_eqb (min m end) (length (take m text)) (λ e. absurd (omega (arith, length-take m text))))
 
-    prime_behind : (v : Bool) → eqb (end + 1) (length text) ≡ v → is_primed text ≡ (v && (eqb (get_or text end 0) 39 && is_none (keyword_of (take end text))))
-    prime_behind true e =
+    prime_after : (v : Bool) → eqb (end + 1) (length text) ≡ v → is_primed text ≡ (v && (eqb (get_or text end 0) 39 && is_none (keyword_of (take end text))))
+    prime_after true e =
         let ends = eqb-true (end + 1) (length text) e in
         let at : length text - 1 ≡ end = omega arith in
         ap (λ n. is_name (take n text) && eqb (get_or text n 0) 39) at
         ∙ ap (λ v. v && eqb (get_or text end 0) 39) front_name
         ∙ swap (is_none (keyword_of (take end text))) (eqb (get_or text end 0) 39)
-    prime_behind false e =
+    prime_after false e =
         let apart = eqb-false (end + 1) (length text) e in
         let here = shorter in
         not_primed text (longer_no_name (length text - 1) (omega arith) (omega arith))
@@ -229,7 +229,7 @@ module _ (b : ℕ) (start : is_word_start b ≡ true) where
     unfolding word_kind
     word_and_more =
         kind_at text false (is_primed text) false None None (no_name text no_word_there) refl (no_number bs) (no_word_no_keyword text no_word_there) (no_symbol_there b bs (byte_of_start b start))
-        ∙ ap (λ v. cond v (Some Primed) None) (prime_behind (eqb (end + 1) (length text)) refl)
+        ∙ ap (λ v. cond v (Some Primed) None) (prime_after (eqb (end + 1) (length text)) refl)
         ∙ sym (ap (λ v. cond v (Some (named (keyword_of text))) (cond (eqb (end + 1) (length text) && (eqb (get_or text end 0) 39 && is_none (keyword_of (take end text)))) (Some Primed) None)) (all_is_prefix is_word_byte text ∙ more))
 
   whole_is : (bs : List ℕ) → list_all is_word_byte (b ∷ bs) ≡ true → word_kind (b ∷ bs) ≡ Some (named (keyword_of (b ∷ bs)))

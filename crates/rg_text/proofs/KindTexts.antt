@@ -13,28 +13,28 @@ fixed_alone (Some t) s kind other h = other t (cc)
 fixed_alone None (Some t) kind other h = other t (cc)
 fixed_alone None None kind other h = cc
 
-abbrev told : Bool → Bool → Bool → Option Terminal → Option Terminal → Option Kind
-told v w x k s = cond v (Some Name) (cond w (Some Primed) (cond x (Some Number) (fixed_kind k s)))
+abbrev reported : Bool → Bool → Bool → Option Terminal → Option Terminal → Option Kind
+reported v w x k s = cond v (Some Name) (cond w (Some Primed) (cond x (Some Number) (fixed_kind k s)))
 
-told_name : (v w x : Bool) (k s : Option Terminal) → told v w x k s ≡ Some Name → v ≡ true
-told_name true w x k s h = refl
-told_name false true x k s h = cc
-told_name false false true k s h = cc
-told_name false false false k s h = absurd (fixed_alone k s Name (λ t e. cc) h)
+reported_name : (v w x : Bool) (k s : Option Terminal) → reported v w x k s ≡ Some Name → v ≡ true
+reported_name true w x k s h = refl
+reported_name false true x k s h = cc
+reported_name false false true k s h = cc
+reported_name false false false k s h = absurd (fixed_alone k s Name (λ t e. cc) h)
 
-told_primed : (v w x : Bool) (k s : Option Terminal) → told v w x k s ≡ Some Primed → w ≡ true
-told_primed true w x k s h = cc
-told_primed false true x k s h = refl
-told_primed false false true k s h = cc
-told_primed false false false k s h = absurd (fixed_alone k s Primed (λ t e. cc) h)
+reported_primed : (v w x : Bool) (k s : Option Terminal) → reported v w x k s ≡ Some Primed → w ≡ true
+reported_primed true w x k s h = cc
+reported_primed false true x k s h = refl
+reported_primed false false true k s h = cc
+reported_primed false false false k s h = absurd (fixed_alone k s Primed (λ t e. cc) h)
 
 pub name_text : (text : List ℕ) → kind_of_text text ≡ Some Name → IsName text
 unfolding kind_of_text
 name_text text h =
-    told_name (is_name text) (is_primed text) (is_number text) (keyword_of text) (symbol_of text) h
+    reported_name (is_name text) (is_primed text) (is_number text) (keyword_of text) (symbol_of text) h
 
 pub primed_text : (text : List ℕ) → kind_of_text text ≡ Some Primed → IsName (take (length text - 1) text)
 unfolding kind_of_text
 primed_text text h =
     (and_parts (is_name (take (length text - 1) text)) (eqb (get_or text (length text - 1) 0) 39)
-    (told_primed (is_name text) (is_primed text) (is_number text) (keyword_of text) (symbol_of text) h)).0
+    (reported_primed (is_name text) (is_primed text) (is_number text) (keyword_of text) (symbol_of text) h)).0

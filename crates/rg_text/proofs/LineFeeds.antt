@@ -121,8 +121,8 @@ line_on source place n =
     omega (arith, e)
 
 -- a token ends in its line
-pub line_behind : (source : List ℕ) (start n : ℕ) (k : Kind) → kind_of_text (take n (drop start source)) ≡ Some k → line_at source (start + n) ≡ line_at source start
-line_behind source start n k h =
+pub line_after : (source : List ℕ) (start n : ℕ) (k : Kind) → kind_of_text (take n (drop start source)) ≡ Some k → line_at source (start + n) ≡ line_at source start
+line_after source start n k h =
     let e : line_at source (start + n) ≡ line_at source start + feeds (take n (drop start source)) = line_on source start n in
     let none : feeds (take n (drop start source)) ≡ 0 = none_in_token (take n (drop start source)) k h in
     omega (arith, e, none)

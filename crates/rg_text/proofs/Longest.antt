@@ -53,17 +53,17 @@ begins_word : (m : ℕ) (b : ℕ) (bs : List ℕ) → is_word_start b ≡ true �
 begins_word zero b bs l lt = absurd (omega arith)
 begins_word (suc m) b bs l lt = kind_by_first (b ∷ take m bs) ∙ rw l refl
 
--- the kind of a word text, by how far its word goes, its length, the byte behind the word and the word's keyword
-abbrev told : ℕ → ℕ → List ℕ → ℕ → List ℕ → Option Kind
-told n len text next front =
+-- the kind of a word text, by how far its word goes, its length, the byte after the word and the word's keyword
+abbrev reported : ℕ → ℕ → List ℕ → ℕ → List ℕ → Option Kind
+reported n len text next front =
     cond (eqb n len) (Some (named (keyword_of text))) (cond (eqb (n + 1) len && (eqb next 39 && is_none (keyword_of front))) (Some Primed) None)
 
-word_of_take : (m : ℕ) (bytes : List ℕ) → m ≤ length bytes → (let n = min m (prefix_len is_word_byte bytes) in word_kind (take m bytes) ≡ told n m (take m bytes) (get_or (take m bytes) n 0) (take n (take m bytes)))
+word_of_take : (m : ℕ) (bytes : List ℕ) → m ≤ length bytes → (let n = min m (prefix_len is_word_byte bytes) in word_kind (take m bytes) ≡ reported n m (take m bytes) (get_or (take m bytes) n 0) (take n (take m bytes)))
 unfolding word_kind
 word_of_take m bytes le =
     let long : length (take m bytes) ≡ m = omega (arith, length-take m bytes) in
-    ap (λ n. told n (length (take m bytes)) (take m bytes) (get_or (take m bytes) n 0) (take n (take m bytes))) (prefix_len-take is_word_byte m bytes)
-    ∙ ap (λ len. told (min m (prefix_len is_word_byte bytes)) len (take m bytes) (get_or (take m bytes) (min m (prefix_len is_word_byte bytes)) 0) (take (min m (prefix_len is_word_byte bytes)) (take m bytes))) long
+    ap (λ n. reported n (length (take m bytes)) (take m bytes) (get_or (take m bytes) n 0) (take n (take m bytes))) (prefix_len-take is_word_byte m bytes)
+    ∙ ap (λ len. reported (min m (prefix_len is_word_byte bytes)) len (take m bytes) (get_or (take m bytes) (min m (prefix_len is_word_byte bytes)) 0) (take (min m (prefix_len is_word_byte bytes)) (take m bytes))) long
 
 module _ (b : ℕ) (bs : List ℕ) (l : is_word_start b ≡ true) where
   abbrev end : ℕ
@@ -78,7 +78,7 @@ module _ (b : ℕ) (bs : List ℕ) (l : is_word_start b ≡ true) where
       let within : end ≤ length (b ∷ bs) = prefix_len-le-length is_word_byte (b ∷ bs) in
       begins_word end b bs l some_word ∙ word_of_take end (b ∷ bs) within ∙ same end (take end (b ∷ bs))
     where
-      same : (n : ℕ) (text : List ℕ) → told (min n n) n text (get_or text (min n n) 0) (take (min n n) text) ≡ Some (named (keyword_of text))
+      same : (n : ℕ) (text : List ℕ) → reported (min n n) n text (get_or text (min n n) 0) (take (min n n) text) ≡ Some (named (keyword_of text))
       same n text = let e : eqb (min n n) n ≡ true = grind (arith, nat_tests) in rw e refl
 
   -- more than the word
@@ -89,12 +89,12 @@ module _ (b : ℕ) (bs : List ℕ) (l : is_word_start b ≡ true) where
       let low : end ≤ m = omega arith in
       begins_word m b bs l (omega arith)
       ∙ word_of_take m (b ∷ bs) le
-      ∙ ap (λ n. told n m (take m (b ∷ bs)) (get_or (take m (b ∷ bs)) n 0) (take n (take m (b ∷ bs)))) least
+      ∙ ap (λ n. reported n m (take m (b ∷ bs)) (get_or (take m (b ∷ bs)) n 0) (take n (take m (b ∷ bs)))) least
       ∙ ap (λ t. cond t (Some (named (keyword_of (take m (b ∷ bs))))) (cond (eqb (end + 1) m && (eqb (get_or (take m (b ∷ bs)) end 0) 39 && is_none (keyword_of (take end (take m (b ∷ bs)))))) (Some Primed) None)) apart
       ∙ ap (λ c. cond (eqb (end + 1) m && (eqb c 39 && is_none (keyword_of (take end (take m (b ∷ bs)))))) (Some Primed) None) (get_or-take m (b ∷ bs) end 0 lt)
       ∙ ap (λ text. cond (eqb (end + 1) m && (eqb (get_or (b ∷ bs) end 0) 39 && is_none (keyword_of text))) (Some Primed) None) (take-take end m (b ∷ bs) low)
 
-  -- a prime stands behind a word that is no keyword
+  -- a prime stands after a word that is no keyword
   abbrev prime : Bool
   prime = eqb (get_or (b ∷ bs) end 0) 39 && is_none (keyword_of (take end (b ∷ bs)))
 
@@ -102,7 +102,7 @@ module _ (b : ℕ) (bs : List ℕ) (l : is_word_start b ≡ true) where
   no_prime true c h = rw h refl
   no_prime false c h = refl
 
-  -- a word with no prime that counts behind it
+  -- a word with no prime that counts after it
   pub longest_word : (eqb (get_or (b ∷ bs) end 0) 39 && is_none (keyword_of (take end (b ∷ bs)))) ≡ false → IsLongest (b ∷ bs) end (named (keyword_of (take end (b ∷ bs))))
   longest_word h = record {
     some = some_word;

@@ -54,7 +54,7 @@ next_one source place t u h g =
     let there = g.longest.some in
     token_same t u same.1 start (omega (arith, same.0)) (h.line ∙ ap (line_at source) start ∙ sym g.line)
 
--- no token stands behind the gap at a place
+-- no token stands after the gap at a place
 abbrev pub Stops : List ℕ → ℕ → Type 0
 Stops source place = BeginsNoToken (drop (gap_end source place) source)
 

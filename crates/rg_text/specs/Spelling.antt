@@ -101,7 +101,7 @@ keyword_of text = either_keyword (looked_up formula_keywords text) (looked_up se
 unfoldable pub symbol_of : List ℕ → Option Terminal
 symbol_of text = looked_up symbols text
 
--- a name with a prime directly behind it
+-- a name with a prime directly after it
 abbrev pub is_primed : List ℕ → Bool
 is_primed text = is_name (take (length text - 1) text) && slice_index text (length text - 1) == 39
 

@@ -45,7 +45,7 @@ pub record IsLongest (bytes : List ℕ) (n : ℕ) (kind : Kind) : Type 0 where
 abbrev pub BeginsNoToken : List ℕ → Type 0
 BeginsNoToken bytes = (m : ℕ) → m ≤ length bytes → kind_of_text (take m bytes) ≡ None
 
--- the token behind the gap at a place: the longest one, with its line
+-- the token after the gap at a place: the longest one, with its line
 pub record IsNextToken (source : List ℕ) (place : ℕ) (t : Token) : Type 0 where
   pub start : t.start ≡ gap_end source place
   pub longest : IsLongest (drop t.start source) (t.end - t.start) t.kind
@@ -56,11 +56,11 @@ abbrev pub AreTokens : List ℕ → ℕ → List Token → ℕ → Type 0
 AreTokens source from [] to = from ≡ to
 AreTokens source from (t ∷ ts) to = IsNextToken source from t × AreTokens source t.end ts to
 
--- these are the tokens of the source: behind the last is nothing but a gap
+-- these are the tokens of the source: after the last is nothing but a gap
 abbrev pub IsTokenized : List ℕ → List Token → Type 0
 IsTokenized source ts = (to : ℕ) × AreTokens source 0 ts to × (gap_end source to ≡ length source)
 
--- behind some tokens and a gap stands a byte that begins no token
+-- after some tokens and a gap stands a byte that begins no token
 pub record IsBadByte (source : List ℕ) (place : ℕ) : Type 0 where
   pub before : List Token
   pub to : ℕ

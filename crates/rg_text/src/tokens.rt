@@ -112,7 +112,7 @@ fn refusal(number: RefusalNumber, file: SourceFile, line: u32) -> Refusal
     }
 }
 
-/// A source has one list of tokens, or one bad byte behind some tokens, and never both.
+/// A source has one list of tokens, or one bad byte after some tokens, and never both.
 pub fn one_tokenization()
     ensures tokens { (source : List ℕ) (ts us : List Token)
         → IsTokenized source ts → IsTokenized source us → ts ≡ us }

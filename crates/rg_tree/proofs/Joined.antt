@@ -36,21 +36,21 @@ mutual
 
 -- one own step after the environment's
 
-once_in : (next : State → State → List ViewStep → Bool → Type 0) (s : State) (before : List ViewStep) (t : State) (behind : List ViewStep) (ended : Bool) → AllEnv before → next (last s before) t behind ended → Once next s (before ++ Own t ∷ behind) ended
-once_in next s [] t behind ended a n = n
-once_in next s (Env u ∷ before) t behind ended a n = once_in next u before t behind ended a n
-once_in next s (Own u ∷ before) t behind ended a n = absurd a
+once_in : (next : State → State → List ViewStep → Bool → Type 0) (s : State) (before : List ViewStep) (t : State) (after : List ViewStep) (ended : Bool) → AllEnv before → next (last s before) t after ended → Once next s (before ++ Own t ∷ after) ended
+once_in next s [] t after ended a n = n
+once_in next s (Env u ∷ before) t after ended a n = once_in next u before t after ended a n
+once_in next s (Own u ∷ before) t after ended a n = absurd a
 
-once_split : (next : State → State → List ViewStep → Bool → Type 0) (s : State) (ms before : List ViewStep) (t : State) (behind : List ViewStep) (ended : Bool) → IsSplit s ms before t behind → next (last s before) t behind ended → Once next s ms ended
-once_split next s ms before t behind ended w n = subst (λ l. Once next s l ended) (sym w.whole) (once_in next s before t behind ended w.waits n)
+once_split : (next : State → State → List ViewStep → Bool → Type 0) (s : State) (ms before : List ViewStep) (t : State) (after : List ViewStep) (ended : Bool) → IsSplit s ms before t after → next (last s before) t after ended → Once next s ms ended
+once_split next s ms before t after ended w n = subst (λ l. Once next s l ended) (sym w.whole) (once_in next s before t after ended w.waits n)
 
 loop_in : (b : State → Bool) (A : Behavior) (s : State) (before ms : List ViewStep) (ended : Bool) → AllEnv before → Loop b A (last s before) ms ended → Loop b A s (before ++ ms) ended
 loop_in b A s [] ms ended a l = l
 loop_in b A s (Env u ∷ before) ms ended a l = Wait (loop_in b A u before ms ended a l)
 loop_in b A s (Own u ∷ before) ms ended a l = absurd a
 
-loop_split : (b : State → Bool) (A : Behavior) (s : State) (ms before : List ViewStep) (t : State) (behind : List ViewStep) (ended : Bool) → IsSplit s ms before t behind → Loop b A (last s before) (Own t ∷ behind) ended → Loop b A s ms ended
-loop_split b A s ms before t behind ended w l = subst (λ x. Loop b A s x ended) (sym w.whole) (loop_in b A s before (Own t ∷ behind) ended w.waits l)
+loop_split : (b : State → Bool) (A : Behavior) (s : State) (ms before : List ViewStep) (t : State) (after : List ViewStep) (ended : Bool) → IsSplit s ms before t after → Loop b A (last s before) (Own t ∷ after) ended → Loop b A s ms ended
+loop_split b A s ms before t after ended w l = subst (λ x. Loop b A s x ended) (sym w.whole) (loop_in b A s before (Own t ∷ after) ended w.waits l)
 
 inner_any : (b : State → Bool) (A : Behavior) (s : State) (ms : List ViewStep) (ended : Bool) → b s ≡ true → A s ms ended → Loop b A s (Own s ∷ ms) false
 inner_any b A s ms true h a = Again ms [] refl h (sym (append-nil ms)) a Idle
@@ -63,14 +63,14 @@ first_any A items s ms false a = Within a
 mutual
   to : {stmt : Statement} {s : State} {ms : List ViewStep} {ended : Bool} → Run stmt s ms ended → runs stmt s ms ended
   to (Waiting {stmt = stmt} {s = s} {ms = ms} a) = runs_idle stmt s ms a
-  to (Skipped {s = s} {ms = ms} before behind w a) = once_split _ s ms before (last s before) behind true w (record { test = refl; result = refl; rest = a; over = refl })
-  to (Was_set {a = x} {s = s} {ms = ms} before behind w a) = once_split _ s ms before _ behind true w (record { test = refl; result = refl; rest = a; over = refl })
-  to (Awaited {s = s} {ms = ms} before behind w h a) = once_split _ s ms before _ behind true w (record { test = h; result = refl; rest = a; over = refl })
+  to (Skipped {s = s} {ms = ms} before after w a) = once_split _ s ms before (last s before) after true w (record { test = refl; result = refl; rest = a; over = refl })
+  to (Was_set {a = x} {s = s} {ms = ms} before after w a) = once_split _ s ms before _ after true w (record { test = refl; result = refl; rest = a; over = refl })
+  to (Awaited {s = s} {ms = ms} before after w h a) = once_split _ s ms before _ after true w (record { test = h; result = refl; rest = a; over = refl })
   to (In_seq r) = items_to r
-  to (On_yes {s = s} {ms = ms} {ended = ended} before behind w h r) = once_split _ s ms before _ behind ended w (Yes refl h (to r))
-  to (On_no {s = s} {ms = ms} {ended = ended} before behind w h r) = once_split _ s ms before _ behind ended w (No refl h (to r))
-  to (Left {b = b} {body = body} {s = s} {ms = ms} before behind w h a) = loop_split (holds_at b) (runs body) s ms before (last s before) behind true w (Leave refl h a)
-  to (In_body {b = b} {body = body} {s = s} {ms = ms} {ended = ended} before behind w h r) = loop_split (holds_at b) (runs body) s ms before (last s before) behind false w (inner_any (holds_at b) (runs body) (last s before) behind ended h (to r))
+  to (On_yes {s = s} {ms = ms} {ended = ended} before after w h r) = once_split _ s ms before _ after ended w (Yes refl h (to r))
+  to (On_no {s = s} {ms = ms} {ended = ended} before after w h r) = once_split _ s ms before _ after ended w (No refl h (to r))
+  to (Left {b = b} {body = body} {s = s} {ms = ms} before after w h a) = loop_split (holds_at b) (runs body) s ms before (last s before) after true w (Leave refl h a)
+  to (In_body {b = b} {body = body} {s = s} {ms = ms} {ended = ended} before after w h r) = loop_split (holds_at b) (runs body) s ms before (last s before) after false w (inner_any (holds_at b) (runs body) (last s before) after ended h (to r))
   to (Turned {b = b} {body = body} {s = s} {ms = ms} {ended = ended} before turn rest w h r l) = loop_split (holds_at b) (runs body) s ms before (last s before) (turn ++ rest) ended w (Again turn rest refl h refl (to r) (to l))
 
   items_to : {items : Items} {s : State} {ms : List ViewStep} {ended : Bool} → RunItems items s ms ended → runs_of_items items s ms ended
@@ -78,10 +78,10 @@ mutual
   items_to (In_first {stmt = stmt} {items = items} {s = s} {ms = ms} {ended = ended} r) = first_any (runs stmt) items s ms ended (to r)
   items_to (In_later before rest e r l) = Past before rest e (to r) (items_to l)
 
-split_env : {s u t : State} {ms before behind : List ViewStep} → IsSplit u ms before t behind → IsSplit s (Env u ∷ ms) (Env u ∷ before) t behind
+split_env : {s u t : State} {ms before after : List ViewStep} → IsSplit u ms before t after → IsSplit s (Env u ∷ ms) (Env u ∷ before) t after
 split_env {u = u} w = record { whole = ap (λ l. Env u ∷ l) w.whole; waits = w.waits }
 
-once_out : (next : State → State → List ViewStep → Bool → Type 0) (s : State) (ms : List ViewStep) (ended : Bool) → Once next s ms ended → (AllEnv ms × (ended ≡ false)) ⊎ ((before : List ViewStep) × (t : State) × (behind : List ViewStep) × IsSplit s ms before t behind × next (last s before) t behind ended)
+once_out : (next : State → State → List ViewStep → Bool → Type 0) (s : State) (ms : List ViewStep) (ended : Bool) → Once next s ms ended → (AllEnv ms × (ended ≡ false)) ⊎ ((before : List ViewStep) × (t : State) × (after : List ViewStep) × IsSplit s ms before t after × next (last s before) t after ended)
 once_out next s [] ended a = inl (tt, a)
 once_out next s (Own t ∷ ms) ended a = inr ([], t, ms, record { whole = refl; waits = tt }, a)
 once_out next s (Env u ∷ ms) ended a =
@@ -90,14 +90,14 @@ once_out next s (Env u ∷ ms) ended a =
 waiting : (stmt : Statement) (s : State) (ms : List ViewStep) (ended : Bool) → AllEnv ms × (ended ≡ false) → Run stmt s ms ended
 waiting stmt s ms ended h = subst (λ e. Run stmt s ms e) (sym h.1) (Waiting h.0)
 
-split_at : {s t t' : State} {ms before behind : List ViewStep} → t ≡ t' → IsSplit s ms before t behind → IsSplit s ms before t' behind
-split_at {s = s} {ms = ms} {before = before} {behind = behind} e w = subst (λ x. IsSplit s ms before x behind) e w
+split_at : {s t t' : State} {ms before after : List ViewStep} → t ≡ t' → IsSplit s ms before t after → IsSplit s ms before t' after
+split_at {s = s} {ms = ms} {before = before} {after = after} e w = subst (λ x. IsSplit s ms before x after) e w
 
 -- one more step of the environment in front of a loop's run
 loop_wait : {n : ℕ} {b : Proposition} {body : Statement} {s u : State} {ms : List ViewStep} {ended : Bool} → Run (loop n b body) u ms ended → Run (loop n b body) s (Env u ∷ ms) ended
 loop_wait (Waiting a) = Waiting a
-loop_wait {u = u} (Left before behind w h a) = Left (Env u ∷ before) behind (split_env w) h a
-loop_wait {u = u} (In_body before behind w h r) = In_body (Env u ∷ before) behind (split_env w) h r
+loop_wait {u = u} (Left before after w h a) = Left (Env u ∷ before) after (split_env w) h a
+loop_wait {u = u} (In_body before after w h r) = In_body (Env u ∷ before) after (split_env w) h r
 loop_wait {u = u} (Turned before turn rest w h r l) = Turned (Env u ∷ before) turn rest (split_env w) h r l
 
 first_step : (s t : State) (ms : List ViewStep) → t ≡ s → IsSplit s (Own t ∷ ms) [] s ms
@@ -112,11 +112,11 @@ loop_from n b body f s ms ended (Inner {t = t} {ms = inner} e h a) =
 loop_from n b body f s ms ended (Again {t = t} {ms = inner} before rest e h q a run) =
     Turned [] before rest (subst (λ l. IsSplit s (Own t ∷ inner) [] s l) q (first_step s t inner e)) h (f s before true (subst (λ x. runs body x before true) e a)) (subst (λ x. Run (loop n b body) (last x before) rest ended) e (loop_from n b body f (last t before) rest ended run))
 
-choice_from : (n : ℕ) (b : Proposition) (x y : Statement) (s : State) (ms : List ViewStep) (ended : Bool) (before : List ViewStep) (t : State) (behind : List ViewStep) → IsSplit s ms before t behind → Tests (holds_at b) (runs x) (runs y) (last s before) t behind ended → ((s : State) (ms : List ViewStep) (ended : Bool) → runs x s ms ended → Run x s ms ended) → ((s : State) (ms : List ViewStep) (ended : Bool) → runs y s ms ended → Run y s ms ended) → Run (branch n b x y) s ms ended
-choice_from n b x y s ms ended before t behind w (Yes e h a) fx fy =
-    On_yes before behind (split_at e w) h (fx (last s before) behind ended (subst (λ z. runs x z behind ended) e a))
-choice_from n b x y s ms ended before t behind w (No e h a) fx fy =
-    On_no before behind (split_at e w) h (fy (last s before) behind ended (subst (λ z. runs y z behind ended) e a))
+choice_from : (n : ℕ) (b : Proposition) (x y : Statement) (s : State) (ms : List ViewStep) (ended : Bool) (before : List ViewStep) (t : State) (after : List ViewStep) → IsSplit s ms before t after → Tests (holds_at b) (runs x) (runs y) (last s before) t after ended → ((s : State) (ms : List ViewStep) (ended : Bool) → runs x s ms ended → Run x s ms ended) → ((s : State) (ms : List ViewStep) (ended : Bool) → runs y s ms ended → Run y s ms ended) → Run (branch n b x y) s ms ended
+choice_from n b x y s ms ended before t after w (Yes e h a) fx fy =
+    On_yes before after (split_at e w) h (fx (last s before) after ended (subst (λ z. runs x z after ended) e a))
+choice_from n b x y s ms ended before t after w (No e h a) fx fy =
+    On_no before after (split_at e w) h (fy (last s before) after ended (subst (λ z. runs y z after ended) e a))
 
 mutual
   from : (stmt : Statement) (s : State) (ms : List ViewStep) (ended : Bool) → runs stmt s ms ended → Run stmt s ms ended

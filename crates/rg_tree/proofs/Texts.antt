@@ -14,7 +14,7 @@ then_more : (text a b : List ℕ) → text ++ (a ++ b) ≡ text ++ a ++ b
 then_more text a b = sym (append_assoc text a b)
 
 mutual
-  -- what stands behind an expression's text stands there unchanged
+  -- what stands after an expression's text stands there unchanged
   pub expression_then : (words : List Word) (e : Expression) (a b : List ℕ) → expression_text words e (a ++ b) ≡ expression_text words e a ++ b
   expression_then words (number w n) a b = then_more (decimal n) a b
   expression_then words (word k) a b = then_more (name_text words k) a b
@@ -36,7 +36,7 @@ mutual
       ∙ ap (λ t. formula_text words f (between (codes "then") t)) (expression_then words e (between (codes "else") (expression_text words g (41 ∷ a))) b)
       ∙ formula_then words f (between (codes "then") (expression_text words e (between (codes "else") (expression_text words g (41 ∷ a))))) b)
 
-  -- what stands behind a formula's text stands there unchanged
+  -- what stands after a formula's text stands there unchanged
   pub formula_then : (words : List Word) (f : Proposition) (a b : List ℕ) → formula_text words f (a ++ b) ≡ formula_text words f a ++ b
   formula_then words (truth t) a b = then_more (truth_text t) a b
   formula_then words (negation f) a b = ap (λ t. codes "not " ++ t) (formula_then words f a b)

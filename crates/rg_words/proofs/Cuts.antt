@@ -33,9 +33,9 @@ pub cut_by_writer : (old new : Option (List ℕ)) (m n : ℕ) (text : List ℕ) 
 cut_by_writer old new m n text e stopped why = record { went = stopped.0; why = inl (why, stopped.1) }
 
 -- a text went out, and then a call that writes the rest is refused, or isn't
-pub cut_behind : {A : Type 0} (old middle new : Option (List ℕ)) (m k n : ℕ) (before rest : List ℕ) (r : Result A Refusal) → Appends old middle before → k ≡ m → IfErr r (IsCut middle new k n rest) → IfErr r (IsCut old new m n (before ++ rest))
-cut_behind old middle new m k n before rest (Ok x) went same h = tt
-cut_behind old middle new m k n before rest (Err e) went same h =
+pub cut_after : {A : Type 0} (old middle new : Option (List ℕ)) (m k n : ℕ) (before rest : List ℕ) (r : Result A Refusal) → Appends old middle before → k ≡ m → IfErr r (IsCut middle new k n rest) → IfErr r (IsCut old new m n (before ++ rest))
+cut_after old middle new m k n before rest (Ok x) went same h = tt
+cut_after old middle new m k n before rest (Err e) went same h =
     cut_within old m (before ++ rest) e middle k before went same new n rest [] (ap (λ t. before ++ t) (sym (append-nil rest))) h
 
 -- files that are refused: nothing went out
@@ -62,9 +62,9 @@ pub failure_by_writer : (m n : ℕ) (e : Refusal) → e ≡ refused Write → n 
 failure_by_writer m n e why more = inl (why, more)
 
 -- what came before didn't fail
-pub failure_behind : {A : Type 0} (m k n : ℕ) (r : Result A Refusal) → k ≡ m → IfErr r (IsFailure k n) → IfErr r (IsFailure m n)
-failure_behind m k n (Ok x) same h = tt
-failure_behind m k n (Err e) same h = rw (← same) h
+pub failure_after : {A : Type 0} (m k n : ℕ) (r : Result A Refusal) → k ≡ m → IfErr r (IsFailure k n) → IfErr r (IsFailure m n)
+failure_after m k n (Ok x) same h = tt
+failure_after m k n (Err e) same h = rw (← same) h
 
 -- a text that was cut was cut by a failure
 pub failure_of_cut : {A : Type 0} (old new : Option (List ℕ)) (m n : ℕ) (text : List ℕ) (r : Result A Refusal) → IfErr r (IsCut old new m n text) → IfErr r (IsFailure m n)

@@ -46,7 +46,7 @@ pub record IsLayout (words : List Word) : Type 0 where
   pub names : All (λ w. IsName w.name) words
   pub distinct : AllPairs (λ v w. v.name ≢ w.name) words
 
--- why a word can't be declared behind these words, if it can't: the first of these three that holds
+-- why a word can't be declared after these words, if it can't: the first of these three that holds
 abbrev pub declaration_fault : List Word → List ℕ → ℕ → Option RefusalNumber
 declaration_fault words name width =
     if is_some (index_of words name) then Some NameTwice

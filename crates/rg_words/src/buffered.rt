@@ -11,7 +11,7 @@ use std::alloc::{AllocError, Global};
 /// A writer that gathers bytes and passes them on in larger pieces.
 ///
 /// What it took is out only after a `flush` that is Ok: call it once the last text is written. Nothing is passed on when
-/// it is dropped. A failure of the writer below is told by the call in which it came; the bytes that aren't out then wait.
+/// it is dropped. A failure of the writer below is reported by the call in which it came; the bytes that aren't out then wait.
 #[derive(Drop)]
 pub struct Buffered<W> {
     inner: W,

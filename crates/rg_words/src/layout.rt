@@ -109,7 +109,7 @@ impl Layout {
         self.word(word).1.fixed
     }
 
-    /// Puts a word behind the others.
+    /// Puts a word after the others.
     fn push(&mut self, name: &str, width: u32, fixed: bool) -> Result<(), AllocError>
         requires name { IsName name.now }
         requires absent { index_of self.old name.now ≡ None }
@@ -143,7 +143,7 @@ impl Layout {
         Ok(())
     }
 
-    /// Declares a word that steps may change, behind the others.
+    /// Declares a word that steps may change, after the others.
     ///
     /// Refused, and then unchanged: `NameTwice` where the name is declared already, else `Width` where the width isn't
     /// from 1 to 64, else `Limit` where there are 64 words already; `Memory` where memory was refused.
@@ -156,7 +156,7 @@ impl Layout {
         self.declare(name, width, false)
     }
 
-    /// Declares a word that no step changes, behind the others. Refused as `add` is.
+    /// Declares a word that no step changes, after the others. Refused as `add` is.
     pub fn add_fixed(&mut self, name: &str, width: u32) -> Result<(), Refusal>
         requires { IsName name.now }
         ensures ok { OnOk result (self.new ≡ self.old ++ record { name = name.now; width = width; fixed = true } ∷ []) }

@@ -23,7 +23,7 @@ use Rattle.rg_find.specs.declared.judgement.Judged.TheVariants.{Holds, Fails, Ga
 use Rattle.rgc.specs.declared.proofs_found.Unproved.{Unproved}
 use Rattle.rgc.specs.declared.proofs_found.Sought.{Sought}
 use Rattle.rg_pool.specs.Parts.{ArePartProved, IsPartRefusal}
-use Rattle.rgc.specs.Proofs.{IsUnproved, HoldFrom, AreToldOrHold, AreUnproved, IsRange, in_range, outside, KeepLimit, IsFirstUnjudged, IsSearchRefusal, IsPartSearchRefusal}
+use Rattle.rgc.specs.Proofs.{IsUnproved, HoldFrom, AreReportedOrHold, AreUnproved, IsRange, in_range, outside, KeepLimit, IsFirstUnjudged, IsSearchRefusal, IsPartSearchRefusal}
 use Rattle.rgc.specs.Inner.Search.{IsKept, IsHolding, Takes, IsJudgedAt, IsSoughtAt, IsUnsoughtAt, IsAnswerAt, AreSought}
 
 -- what is kept of a condition is true of the condition of its number
@@ -34,7 +34,7 @@ kept_true cs number c judged old new is true_ kept = record {
   judged = kept.true_of c true_;
 }
 
--- what was told stays true
+-- what was reported stays true
 pub taken : (cs : List ConditionTree) (number : ℕ) (c : ConditionTree) (judged : Judged) (old new : List Unproved) → nth cs number ≡ Some c → IsJudged c judged → All (IsUnproved cs) old → Takes number judged old new → All (IsUnproved cs) new
 taken cs number c judged old new is true_ before took =
     ⊎_elim
@@ -84,7 +84,7 @@ element_at [] i small = absurd (omega (arith, small))
 element_at (x ∷ xs) zero small = (x, refl)
 element_at (x ∷ xs) (suc i) small = let rest = element_at xs i (omega (arith, small)) in (rest.0, rest.1)
 
--- what was told stays true, where what is said of a condition is true of it
+-- what was reported stays true, where what is said of a condition is true of it
 pub taken_there : (xs : List Condition) (place : ℕ) (judged : Judged) (old new : List Unproved) → place < length xs → IsJudgedAt (map condition_tree xs) (place + 1) judged → All (IsUnproved (map condition_tree xs)) old → Takes (place + 1) judged old new → All (IsUnproved (map condition_tree xs)) new
 taken_there xs place judged old new small true_ before took =
     let e = element_at xs place small in
@@ -98,19 +98,19 @@ holds_of c (Fails first second) found is = absurd found
 holds_of c GaveUp found is = absurd found
 holds_of c TooLarge found is = absurd found
 
--- of one condition more nothing is told, as it holds
-one_holds : (cs : List ConditionTree) (first number : ℕ) (told : List Unproved) → ((c : ConditionTree) → nth cs number ≡ Some c → ConditionHolds c) → AreToldOrHold cs first number told → AreToldOrHold cs first (number + 1) told
+-- of one condition more nothing is reported, as it holds
+one_holds : (cs : List ConditionTree) (first number : ℕ) (reported : List Unproved) → ((c : ConditionTree) → nth cs number ≡ Some c → ConditionHolds c) → AreReportedOrHold cs first number reported → AreReportedOrHold cs first (number + 1) reported
 one_holds cs first number [] holds all = λ k c low high is.
     ⊎_elim
     (λ less. all k c low less is)
     (λ past. holds c (subst (λ (n : ℕ). nth cs n ≡ Some c) (same_number k number past high) is))
     (cases_lt k number)
-one_holds cs first number (u ∷ told) holds all =
-    (record { low = all.0.low; high = omega (arith, all.0.high); before = all.0.before }, one_holds cs (u.number + 1) number told holds all.1)
+one_holds cs first number (u ∷ reported) holds all =
+    (record { low = all.0.low; high = omega (arith, all.0.high); before = all.0.before }, one_holds cs (u.number + 1) number reported holds all.1)
 
--- of one condition more something is told
-one_told : (cs : List ConditionTree) (first number : ℕ) (told : List Unproved) (one : Unproved) → first ≤ number → one.number ≡ number → AreToldOrHold cs first number told → AreToldOrHold cs first (number + 1) (told ++ one ∷ [])
-one_told cs first number [] one low is all = (
+-- of one condition more something is reported
+one_reported : (cs : List ConditionTree) (first number : ℕ) (reported : List Unproved) (one : Unproved) → first ≤ number → one.number ≡ number → AreReportedOrHold cs first number reported → AreReportedOrHold cs first (number + 1) (reported ++ one ∷ [])
+one_reported cs first number [] one low is all = (
   record {
     low = omega (arith, low, is);
     high = omega (arith, is);
@@ -118,15 +118,15 @@ one_told cs first number [] one low is all = (
   },
   λ k c from to there. absurd (omega (arith, from, to, is)),
 )
-one_told cs first number (u ∷ told) one low is all =
-    (record { low = all.0.low; high = omega (arith, all.0.high); before = all.0.before }, one_told cs (u.number + 1) number told one (omega (arith, all.0.high)) is all.1)
+one_reported cs first number (u ∷ reported) one low is all =
+    (record { low = all.0.low; high = omega (arith, all.0.high); before = all.0.before }, one_reported cs (u.number + 1) number reported one (omega (arith, all.0.high)) is all.1)
 
--- something is told of the conditions so far and of one more, or they hold
-pub taken_or_holds : (cs : List ConditionTree) (first number : ℕ) (judged : Judged) (old new : List Unproved) → first ≤ number → IsJudgedAt cs number judged → AreToldOrHold cs first number old → Takes number judged old new → AreToldOrHold cs first (number + 1) new
+-- something is reported of the conditions so far and of one more, or they hold
+pub taken_or_holds : (cs : List ConditionTree) (first number : ℕ) (judged : Judged) (old new : List Unproved) → first ≤ number → IsJudgedAt cs number judged → AreReportedOrHold cs first number old → Takes number judged old new → AreReportedOrHold cs first (number + 1) new
 taken_or_holds cs first number judged old new low true_ all took =
     ⊎_elim
-    (λ same. subst (λ (l : List Unproved). AreToldOrHold cs first (number + 1) l) (sym same.1) (one_holds cs first number old (λ c is. holds_of c judged same.0 (true_ c is)) all))
-    (λ kept. subst (λ (l : List Unproved). AreToldOrHold cs first (number + 1) l) (sym kept.added) (one_told cs first number old kept.one low kept.number_is all))
+    (λ same. subst (λ (l : List Unproved). AreReportedOrHold cs first (number + 1) l) (sym same.1) (one_holds cs first number old (λ c is. holds_of c judged same.0 (true_ c is)) all))
+    (λ kept. subst (λ (l : List Unproved). AreReportedOrHold cs first (number + 1) l) (sym kept.added) (one_reported cs first number old kept.one low kept.number_is all))
     took
 
 -- how many conditions there are
@@ -163,14 +163,14 @@ module _ (all items : List Condition) (cs : List ConditionTree) (first last coun
       subst (λ (n : ℕ). IsPartRefusal n (first - 1) (in_range first last cs) bytes e) (count_same all cs count same is_count)
       (subst (λ (xs : List ConditionTree). IsPartRefusal count (first - 1) xs bytes e) part_same why)
 
--- what was told of conditions without a proof, of one at least
-pub unproved_of : (xs : List Condition) (cs : List ConditionTree) (first end : ℕ) (told : List Unproved) → map condition_tree xs ≡ cs → 0 < length told → All (IsUnproved (map condition_tree xs)) told → AreToldOrHold (map condition_tree xs) first end told → AreUnproved cs first end told
-unproved_of xs cs first end told same some are all = subst (λ (ds : List ConditionTree). AreUnproved ds first end told) same (record { some = some; all = all; are = are })
+-- what was reported of conditions without a proof, of one at least
+pub unproved_of : (xs : List Condition) (cs : List ConditionTree) (first end : ℕ) (reported : List Unproved) → map condition_tree xs ≡ cs → 0 < length reported → All (IsUnproved (map condition_tree xs)) reported → AreReportedOrHold (map condition_tree xs) first end reported → AreUnproved cs first end reported
+unproved_of xs cs first end reported same some are all = subst (λ (ds : List ConditionTree). AreUnproved ds first end reported) same (record { some = some; all = all; are = are })
 
 -- the same of all conditions
-pub all_unproved : (xs : List Condition) (cs : List ConditionTree) (told : List Unproved) → map condition_tree xs ≡ cs → 0 < length told → All (IsUnproved (map condition_tree xs)) told → AreToldOrHold (map condition_tree xs) 1 (length xs + 1) told → AreUnproved cs 1 (length cs + 1) told
-all_unproved xs cs told same some are all =
-    subst (λ (n : ℕ). AreUnproved cs 1 (n + 1) told) (count_same xs cs (length xs) same refl) (unproved_of xs cs 1 (length xs + 1) told same some are all)
+pub all_unproved : (xs : List Condition) (cs : List ConditionTree) (reported : List Unproved) → map condition_tree xs ≡ cs → 0 < length reported → All (IsUnproved (map condition_tree xs)) reported → AreReportedOrHold (map condition_tree xs) 1 (length xs + 1) reported → AreUnproved cs 1 (length cs + 1) reported
+all_unproved xs cs reported same some are all =
+    subst (λ (n : ℕ). AreUnproved cs 1 (n + 1) reported) (count_same xs cs (length xs) same refl) (unproved_of xs cs 1 (length xs + 1) reported same some are all)
 
 -- a search of all conditions is refused
 pub all_refused : (xs : List Condition) (cs : List ConditionTree) (steps : ℕ) (e : Refusal) → map condition_tree xs ≡ cs → ((e ≡ no_memory) ⊎ IsFirstUnjudged (map condition_tree xs) 1 steps e) → IsSearchRefusal cs steps e

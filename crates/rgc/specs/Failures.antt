@@ -30,7 +30,7 @@ failure_text words first second =
     ++ (state_line (codes "before") words first.values
     ++ option_map_or (λ (s : Valuation). state_line (codes "after") words s.values) second [])
 
--- what is told of a condition without a proof, behind its name
+-- what is reported of a condition without a proof, after its name
 abbrev pub judged_text : List Word → Judged → List ℕ
 judged_text words (Fails first second) = codes " " ++ failure_text words first second
 judged_text words GaveUp = codes " gave up\n"
@@ -41,7 +41,7 @@ judged_text words (Holds lines) = codes ": its proof is too large\n"
 abbrev pub name_at : List (List ℕ) → ℕ → List ℕ
 name_at names k = unwrap_or (nth names k) []
 
--- a condition without a proof: its number, its name, and what is told of it
+-- a condition without a proof: its number, its name, and what is reported of it
 abbrev pub unproved_text : List Word → List (List ℕ) → Unproved → List ℕ
 unproved_text words names u = codes "condition " ++ (decimal u.number ++ (codes " " ++ (name_at names u.number ++ judged_text words u.judged)))
 

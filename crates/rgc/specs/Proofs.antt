@@ -21,7 +21,7 @@ use Rattle.rgc.specs.declared.proofs_found.Unproved.{Unproved}
 use Rattle.rgc.specs.declared.proofs_found.ProofsFound.{ProofsFound}
 use Rattle.rgc.specs.declared.proofs_found.ProofsFound.TheVariants.{Proofs, Failures}
 
--- what is told of the condition of this number, from 1, is true of it: where it fails, it fails at the states
+-- what is reported of the condition of this number, from 1, is true of it: where it fails, it fails at the states
 pub record IsUnproved (conditions : List ConditionTree) (u : Unproved) : Type 0 where
   pub condition : ConditionTree
   pub is : nth conditions u.number ≡ Some condition
@@ -31,28 +31,28 @@ pub record IsUnproved (conditions : List ConditionTree) (u : Unproved) : Type 0 
 abbrev pub HoldFrom : List ConditionTree → ℕ → ℕ → Type 0
 HoldFrom conditions first end = (k : ℕ) (c : ConditionTree) → first ≤ k → k < end → nth conditions k ≡ Some c → ConditionHolds c
 
--- of the conditions with numbers from one on and before another this is the first of which something is told, as those before it hold
-pub record IsNextTold (conditions : List ConditionTree) (first end : ℕ) (u : Unproved) : Type 0 where
+-- of the conditions with numbers from one on and before another this is the first of which something is reported, as those before it hold
+pub record IsNextReported (conditions : List ConditionTree) (first end : ℕ) (u : Unproved) : Type 0 where
   pub low : first ≤ u.number
   pub high : u.number < end
   pub before : HoldFrom conditions first u.number
 
--- in the order of their numbers, something is told of each condition from one number on and before another, or it holds
-abbrev pub AreToldOrHold : List ConditionTree → ℕ → ℕ → List Unproved → Type 0
-AreToldOrHold conditions first end [] = HoldFrom conditions first end
-AreToldOrHold conditions first end (u ∷ told) = IsNextTold conditions first end u × AreToldOrHold conditions (u.number + 1) end told
+-- in the order of their numbers, something is reported of each condition from one number on and before another, or it holds
+abbrev pub AreReportedOrHold : List ConditionTree → ℕ → ℕ → List Unproved → Type 0
+AreReportedOrHold conditions first end [] = HoldFrom conditions first end
+AreReportedOrHold conditions first end (u ∷ reported) = IsNextReported conditions first end u × AreReportedOrHold conditions (u.number + 1) end reported
 
--- some of the conditions with numbers from one on and before another have no proof: what is told of these is true, and all others hold
-pub record AreUnproved (conditions : List ConditionTree) (first end : ℕ) (told : List Unproved) : Type 0 where
-  pub some : 0 < length told
-  pub all : AreToldOrHold conditions first end told
-  pub are : All (IsUnproved conditions) told
+-- some of the conditions with numbers from one on and before another have no proof: what is reported of these is true, and all others hold
+pub record AreUnproved (conditions : List ConditionTree) (first end : ℕ) (reported : List Unproved) : Type 0 where
+  pub some : 0 < length reported
+  pub all : AreReportedOrHold conditions first end reported
+  pub are : All (IsUnproved conditions) reported
 
--- a text that is given as proofs proves all conditions of the program and the lines of its derivation; else what is told of those without a proof, of one
+-- a text that is given as proofs proves all conditions of the program and the lines of its derivation; else what is reported of those without a proof, of one
 -- at least, is true of them
 abbrev pub AreFoundFor : ProgramTree → List LineTree → ProofsFound → Type 0
 AreFoundFor p lines (Proofs text) = AreProved (conditions_of p lines) (string_bytes text)
-AreFoundFor p lines (Failures told) = AreUnproved (conditions_of p lines) 1 (length (conditions_of p lines) + 1) told.items
+AreFoundFor p lines (Failures reported) = AreUnproved (conditions_of p lines) 1 (length (conditions_of p lines) + 1) reported.items
 
 -- these are the numbers of the first and the last of some of so many conditions
 pub record IsRange (first last count : ℕ) : Type 0 where
@@ -65,12 +65,12 @@ abbrev pub in_range : {A : Type 0} → ℕ → ℕ → List A → List A
 in_range first last conditions = take (last + 1 - first) (drop (first - 1) conditions)
 
 -- a text that is given as proofs has a section for each of these conditions of the program and the lines of its derivation, that proves it, or none where
--- one of its clauses is empty; else what is told of those without a proof, of one at least, is true of them
+-- one of its clauses is empty; else what is reported of those without a proof, of one at least, is true of them
 abbrev pub ArePartFoundFor : ProgramTree → List LineTree → ℕ → ℕ → ProofsFound → Type 0
 ArePartFoundFor p lines first last (Proofs text) =
     IsRange first last (length (conditions_of p lines))
     × ArePartProved (length (conditions_of p lines)) (first - 1) (in_range first last (conditions_of p lines)) (string_bytes text)
-ArePartFoundFor p lines first last (Failures told) = IsRange first last (length (conditions_of p lines)) × AreUnproved (conditions_of p lines) first (last + 1) told.items
+ArePartFoundFor p lines first last (Failures reported) = IsRange first last (length (conditions_of p lines)) × AreUnproved (conditions_of p lines) first (last + 1) reported.items
 
 -- the conditions with numbers from one on and before another keep the limit of variables
 abbrev pub KeepLimit : List ConditionTree → ℕ → ℕ → Type 0

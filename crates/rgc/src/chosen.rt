@@ -24,7 +24,7 @@ use std::alloc::Global;
 ///
 /// # Errors
 ///
-/// The first fault: of the text, then of the derivation, as `Derived::read` tells it. `Memory` where memory is refused.
+/// The first fault: of the text, then of the derivation, as `Derived::read` reports it. `Memory` where memory is refused.
 pub fn derive_program(alloc: Global, text: &[u8], derivation: &[u8]) -> Result<Derived, Refusal>
     ensures derived { IfOk result (λ d. AreDerived text.now derivation.now (derived_program d) (derived_lines d)) }
     ensures refused { IfErr result (IsDeriveRefusal text.now derivation.now) }
@@ -108,7 +108,7 @@ pub fn condition_clauses(
 }
 
 /// What a search says of the condition of this number, from 1, of the text's program with this derivation, with the condition: lines that prove it,
-/// or the states at which it fails, or nothing after so many decisions. The watcher is told of a long search.
+/// or the states at which it fails, or nothing after so many decisions. The watcher hears of a long search.
 ///
 /// # Errors
 ///

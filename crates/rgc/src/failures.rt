@@ -31,7 +31,7 @@ fn push_state(
     text.push_str("\n")
 }
 
-/// The text that tells the states at which a formula or a condition fails: each word with its value before, and after where there is a second
+/// The text that gives the states at which a formula or a condition fails: each word with its value before, and after where there is a second
 /// state.
 ///
 /// # Errors

@@ -13,7 +13,7 @@ use std::alloc::Global;
 ///
 /// # Errors
 ///
-/// The first fault: of the text, then of the pieces, as `Derived::of_pieces` tells it. `Memory` where memory is refused.
+/// The first fault: of the text, then of the pieces, as `Derived::of_pieces` reports it. `Memory` where memory is refused.
 pub fn derive_in_pieces(alloc: Global, text: &[u8], pieces: &[&[u8]]) -> Result<Derived, Refusal>
     ensures derived { IfOk result (λ d. AreDerivedInPieces text.now (map (λ piece. piece.now) pieces.now) (derived_program d) (derived_lines d)) }
     ensures refused { IfErr result (IsDeriveInPiecesRefusal text.now (map (λ piece. piece.now) pieces.now)) }

@@ -6,7 +6,7 @@ ghost use Rattle.rg_words.specs.declared.refusal.SourceFile.TheVariants.{Derivat
 ghost use Rattle.rg_words.specs.declared.refusal.Place.TheVariants.{Condition as the_condition};
 ghost use Rattle.rg_words.specs.Refusals.{no_memory, refused_in};
 ghost use Rattle.rg_tree.specs.Conditions.{condition_tree};
-ghost use Rattle.rgc.specs.Proofs.{AreFoundFor, ArePartFoundFor, AreToldOrHold, IsRange, IsUnproved, IsFirstUnjudged, IsSearchRefusal, IsPartSearchRefusal, outside};
+ghost use Rattle.rgc.specs.Proofs.{AreFoundFor, ArePartFoundFor, AreReportedOrHold, IsRange, IsUnproved, IsFirstUnjudged, IsSearchRefusal, IsPartSearchRefusal, outside};
 ghost use Rattle.rgc.specs.Failures.{judged_text, name_at, unproved_text, failures_text};
 ghost use Rattle.rgc.specs.Inner.Search.{Takes, IsAnswerAt, AreSought};
 ghost use Rattle.rg_accept.specs.Accepted.{conditions_of};
@@ -16,7 +16,7 @@ ghost use Rattle.rg_accept.specs.Stages.{derived_program, derived_lines};
 use crate::failures::failure_text;
 use rg_accept::Derived;
 use rg_find::{Judged, Watcher, judge};
-use rg_hints::{Lines, prove};
+use rg_hints::Lines;
 use rg_pool::{deal, prove_all, prove_part};
 use rg_tree::condition::Condition;
 use rg_words::limits::MOST_PROOF_BYTES;
@@ -45,7 +45,7 @@ fn section_of(alloc: Global, number: usize, lines: &Lines) -> Result<String, Ref
     Ok(section)
 }
 
-/// Adds a section, if it fits into a proofs file behind those before; whether it does.
+/// Adds a section, if it fits into a proofs file after those before; whether it does.
 fn add_section(sections: &mut String, section: &str) -> Result<bool, AllocError> {
     let room = MOST_PROOF_BYTES.saturating_sub(sections.len());
     if section.len() > room {
@@ -147,34 +147,6 @@ impl Search {
     }
 }
 
-/// Searches for lines for each condition, with at most so many decisions each.
-fn search_all<P: Watcher>(
-    alloc: Global,
-    conditions: &[Condition],
-    steps: u64,
-    watcher: &mut P,
-) -> Result<Search, Refusal>
-    // What is told of a condition for which no lines were found is true of it.
-    ensures told { IfOk result (λ s. All (IsUnproved (map condition_tree conditions.now)) s.unproved.items) }
-    // All others hold.
-    ensures others { IfOk result (λ s. AreToldOrHold (map condition_tree conditions.now) 1 (length conditions.now + 1) s.unproved.items) }
-    ensures refused { IfErr result (λ e. (e ≡ no_memory) ⊎ IsFirstUnjudged (map condition_tree conditions.now) 1 steps e) }
-{
-    let mut found = Search {
-        sections: String::new(alloc),
-        unproved: Vec::new(alloc),
-    };
-    for place in 0..conditions.len() {
-        let sought = match seek(alloc, conditions, place, steps, watcher) {
-            Ok(sought) => sought,
-            Err(refusal) => return Err(refusal),
-        };
-        let number = place + 1;
-        found.take(number, sought)?;
-    }
-    Ok(found)
-}
-
 /// What a search says of the condition at this place, from 0; nothing, where another condition was refused before.
 fn judge_one<P: Watcher + Copy>(
     alloc: Global,
@@ -217,7 +189,7 @@ fn judge_some<R: Threads + Sync, P: Watcher + Copy + Sync>(
         return Ok(Vec::new(alloc));
     }
     let refused = AtomicBool::new(false);
-    let told = &refused;
+    let reported = &refused;
     deal(
         rt,
         alloc,
@@ -226,7 +198,7 @@ fn judge_some<R: Threads + Sync, P: Watcher + Copy + Sync>(
         &|index: usize| -> Option<Result<Sought, Refusal>>
             requires { (from + index < length conditions.now) × (length conditions.now < 2 ^ 64) }
             ensures { IfSome result (IsAnswerAt (map condition_tree conditions.entry.now) (from + index + 1) steps) }
-        { judge_one(alloc, conditions, from + index, steps, watcher, told) },
+        { judge_one(alloc, conditions, from + index, steps, watcher, reported) },
     )
 }
 
@@ -269,10 +241,10 @@ fn search_in<R: Threads + Sync, P: Watcher + Copy + Sync>(
 ) -> Result<Search, Refusal>
     requires order { from ≤ to }
     requires bound { to ≤ length conditions.now }
-    // What is told of a condition for which no lines were found is true of it.
-    ensures told { IfOk result (λ s. All (IsUnproved (map condition_tree conditions.now)) s.unproved.items) }
+    // What is reported of a condition for which no lines were found is true of it.
+    ensures reported { IfOk result (λ s. All (IsUnproved (map condition_tree conditions.now)) s.unproved.items) }
     // All others hold.
-    ensures others { IfOk result (λ s. AreToldOrHold (map condition_tree conditions.now) (from + 1) (to + 1) s.unproved.items) }
+    ensures others { IfOk result (λ s. AreReportedOrHold (map condition_tree conditions.now) (from + 1) (to + 1) s.unproved.items) }
     ensures refused { IfErr result (λ e. (e ≡ no_memory) ⊎ IsFirstUnjudged (map condition_tree conditions.now) (from + 1) steps e) }
 {
     let mut known = judge_some(
@@ -289,9 +261,9 @@ fn search_in<R: Threads + Sync, P: Watcher + Copy + Sync>(
         sections: String::new(alloc),
         unproved: Vec::new(alloc),
     };
-    let told = known.as_mut_slice();
+    let reported = known.as_mut_slice();
     for place in from..to {
-        let sought = match judged_at(alloc, conditions, told, from, place, steps, watcher) {
+        let sought = match judged_at(alloc, conditions, reported, from, place, steps, watcher) {
             Ok(sought) => sought,
             Err(refusal) => return Err(refusal),
         };
@@ -309,45 +281,15 @@ pub enum ProofsFound {
     Failures(Vec<Unproved>),
 }
 
-/// Looks for proofs of all conditions of a program's derivation, with at most so many decisions for each.
+/// Looks for proofs of all conditions of a program's derivation, with at most so many decisions for each. The conditions are looked
+/// at side by side in at most so many threads; with fewer than two threads, in their order in the thread that asks. Each search has a
+/// copy of the watcher. What is found is the same for any count of threads.
 ///
 /// # Errors
 ///
 /// `Limit` at the first condition with too many variables; `Limit`, without a file and a place, where more than `MOST_DECISIONS` are
 /// asked for. `Memory` where memory is refused.
-pub fn find_proofs<P: Watcher>(
-    alloc: Global,
-    derived: &Derived,
-    steps: u64,
-    watcher: &mut P,
-) -> Result<ProofsFound, Refusal>
-    // What is given proves all conditions: it is checked before it is given. Else what is told of conditions without a proof is true, and all others hold.
-    ensures found { IfOk result (AreFoundFor (derived_program derived.now) (derived_lines derived.now)) }
-    ensures refused { IfErr result (IsSearchRefusal (conditions_of (derived_program derived.now) (derived_lines derived.now)) steps) }
-{
-    let conditions = derived.conditions(alloc)?;
-    let found = match search_all(alloc, conditions.as_slice(), steps, watcher) {
-        Ok(found) => found,
-        Err(refusal) => return Err(refusal),
-    };
-    let Search { sections, unproved } = found;
-    if !unproved.is_empty() {
-        return Ok(ProofsFound::Failures(unproved));
-    }
-    match prove(alloc, conditions.as_slice(), sections.as_bytes()) {
-        Ok(()) => Ok(ProofsFound::Proofs(sections)),
-        Err(refusal) => Err(refusal),
-    }
-}
-
-/// The same, where the conditions are looked at side by side in at most so many threads; with fewer than two threads, in
-/// their order in the thread that asks. Each search has a copy of the watcher. What is found is the same for any count of
-/// threads.
-///
-/// # Errors
-///
-/// As `find_proofs`.
-pub fn find_proofs_all<R: Threads + Wait + Sync, P: Watcher + Copy + Sync>(
+pub fn find_proofs<R: Threads + Wait + Sync, P: Watcher + Copy + Sync>(
     rt: &R,
     alloc: Global,
     threads: usize,
@@ -355,7 +297,7 @@ pub fn find_proofs_all<R: Threads + Wait + Sync, P: Watcher + Copy + Sync>(
     steps: u64,
     watcher: &P,
 ) -> Result<ProofsFound, Refusal>
-    // What is given proves all conditions: it is checked before it is given. Else what is told of conditions without a proof is true, and all others hold.
+    // What is given proves all conditions: it is checked before it is given. Else what is reported of conditions without a proof is true, and all others hold.
     ensures found { IfOk result (AreFoundFor (derived_program derived.now) (derived_lines derived.now)) }
     ensures refused { IfErr result (IsSearchRefusal (conditions_of (derived_program derived.now) (derived_lines derived.now)) steps) }
 {
@@ -398,8 +340,7 @@ fn check_range(first: u64, last: u64, count: usize) -> Result<(), Refusal>
     ))
 }
 
-/// Looks for proofs of the conditions with these numbers, from 1, the last of them included, as `find_proofs_all` does for
-/// all. The sections that ranges give, put one after another in the order of their ranges, are a proofs file for all of
+/// Looks for proofs of the conditions with these numbers, from 1, the last of them included, as `find_proofs` does for all. The sections that ranges give, put one after another in the order of their ranges, are a proofs file for all of
 /// their conditions.
 ///
 /// # Errors
@@ -416,7 +357,7 @@ pub fn find_part<R: Threads + Wait + Sync, P: Watcher + Copy + Sync>(
     steps: u64,
     watcher: &P,
 ) -> Result<ProofsFound, Refusal>
-    // What is given proves these conditions: it is checked before it is given. Else what is told of those without a proof is true, and all others hold.
+    // What is given proves these conditions: it is checked before it is given. Else what is reported of those without a proof is true, and all others hold.
     ensures found { IfOk result (ArePartFoundFor (derived_program derived.now) (derived_lines derived.now) first last) }
     ensures refused { IfErr result (IsPartSearchRefusal (conditions_of (derived_program derived.now) (derived_lines derived.now)) first last steps) }
 {
@@ -444,8 +385,8 @@ pub fn find_part<R: Threads + Wait + Sync, P: Watcher + Copy + Sync>(
     }
 }
 
-/// What is told of a condition that isn't proved, behind its name.
-fn told_of(alloc: Global, words: &Layout, judged: &Judged) -> Result<String, AllocError>
+/// What is reported of a condition that isn't proved, after its name.
+fn reported_of(alloc: Global, words: &Layout, judged: &Judged) -> Result<String, AllocError>
     ensures { IfOk result (λ t. string_bytes t ≡ judged_text words.now judged.now) }
 {
     match judged {
@@ -468,7 +409,7 @@ pub fn name_at(names: &[String], number: usize) -> &str
     names[number - 1].as_str()
 }
 
-/// A condition without a proof, of those with these names: its number, its name, and what is told of it.
+/// A condition without a proof, of those with these names: its number, its name, and what is reported of it.
 fn unproved_text(
     alloc: Global,
     words: &Layout,
@@ -479,8 +420,8 @@ fn unproved_text(
 {
     let number = unproved.number;
     let name = name_at(names, number);
-    let told = told_of(alloc, words, &unproved.judged)?;
-    format!(in alloc; "condition {number} {name}{told}")
+    let reported = reported_of(alloc, words, &unproved.judged)?;
+    format!(in alloc; "condition {number} {name}{reported}")
 }
 
 /// Conditions without a proof, of those with these names, one after another.
@@ -494,13 +435,13 @@ fn unproved_texts(
 {
     let mut text = String::new(alloc);
     for one in unproved {
-        let told = unproved_text(alloc, words, names, one)?;
-        text.push_str(&told)?;
+        let reported = unproved_text(alloc, words, names, one)?;
+        text.push_str(&reported)?;
     }
     Ok(text)
 }
 
-/// What is told of conditions without a proof: those that fail, at which states, those for which the search gave up, and those whose
+/// What is reported of conditions without a proof: those that fail, at which states, those for which the search gave up, and those whose
 /// proofs are too large, a line or more each.
 ///
 /// # Errors

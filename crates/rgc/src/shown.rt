@@ -16,20 +16,17 @@ use rg_clauses::Clauses;
 use rg_find::{Judged, Watcher, judge};
 use rg_hints::{Checker, Lines, OneThread};
 use rg_parse::{one_meaning, show};
-use rg_pool::InThreads;
 use rg_tree::condition::Condition;
 use rg_words::limits::MOST_PROOF_BYTES;
 use rg_words::{Place, Refusal, RefusalNumber, SourceFile};
 use std::alloc::Global;
-use std::sync::Wait;
-use std::thread::Threads;
 
 /// The clauses of the formula that a text `words .. show ..` spells: they can be satisfied exactly where it fails for some pair
 /// of states that agree on the fixed words.
 ///
 /// # Errors
 ///
-/// The first fault of the text, as `rg_parse::show` tells it; then `Limit` at condition 1 where the formula has too many
+/// The first fault of the text, as `rg_parse::show` reports it; then `Limit` at condition 1 where the formula has too many
 /// variables. `Memory` where memory is refused.
 pub fn clauses(alloc: Global, text: &[u8]) -> Result<Clauses, Refusal>
     ensures clauses { IfOk result (λ c. HasClauses text.now c) }
@@ -52,7 +49,7 @@ pub fn clauses(alloc: Global, text: &[u8]) -> Result<Clauses, Refusal>
 }
 
 /// What a search says of the formula that the text spells, with the condition that it is: lines that prove it, or the states at which it
-/// fails, or nothing after so many decisions. The watcher is told of a long search.
+/// fails, or nothing after so many decisions. The watcher hears of a long search.
 ///
 /// # Errors
 ///
@@ -86,8 +83,13 @@ pub fn find<W: Watcher>(
     }
 }
 
-/// The same as `valid`, where this checker decides of the lines.
-fn valid_by<C: Checker>(
+/// As `valid`, where this checker decides of the lines: `OneThread`, or `InThreads`, which checks many lines in four threads and refuses
+/// `Memory` also where a thread can't be had for a piece of them.
+///
+/// # Errors
+///
+/// As `valid`.
+pub fn valid_by<C: Checker>(
     checker: &C,
     alloc: Global,
     text: &[u8],
@@ -123,7 +125,7 @@ fn valid_by<C: Checker>(
 ///
 /// # Errors
 ///
-/// The first fault: of the text and its condition, as `clauses` tells it; then in file `proofs` `Limit` at line 1 (too many
+/// The first fault: of the text and its condition, as `clauses` reports it; then in file `proofs` `Limit` at line 1 (too many
 /// bytes), then `Unreadable` or `IdOrder` at the first faulty line, then `HintNotEarlier`, `HintNotUnit` or `NoConflict` at the
 /// least line that doesn't follow, then `NoEmptyClause` at condition 1. `Memory` where memory is refused.
 pub fn valid(alloc: Global, text: &[u8], proofs: &[u8]) -> Result<(), Refusal>
@@ -133,25 +135,4 @@ pub fn valid(alloc: Global, text: &[u8], proofs: &[u8]) -> Result<(), Refusal>
     ensures accepts { IsProved text.now proofs.now → IfErr result (λ e. e ≡ no_memory) }
 {
     valid_by(&OneThread, alloc, text, proofs)
-}
-
-/// The same, where many lines are checked in four threads, as `rg_pool::check_all` tells it, unless fewer than two threads
-/// may be used.
-///
-/// # Errors
-///
-/// As `valid`; `Memory` also where a thread can't be had for a piece of the lines.
-pub fn valid_all<R: Threads + Wait + Sync>(
-    rt: &R,
-    alloc: Global,
-    threads: usize,
-    text: &[u8],
-    proofs: &[u8],
-) -> Result<(), Refusal>
-    ensures proved { OnOk result (IsProved text.now proofs.now) }
-    ensures holds { OnOk result (ShownHolds text.now) }
-    ensures refused { IfErr result (IsValidRefusal text.now proofs.now) }
-    ensures accepts { IsProved text.now proofs.now → IfErr result (λ e. e ≡ no_memory) }
-{
-    valid_by(&InThreads { rt, threads }, alloc, text, proofs)
 }

@@ -1,1 +1,3 @@
 pub mod Stopping
+pub mod PerformStopping
+pub mod Telling

@@ -9,20 +9,19 @@ use Rattle.rgc_line.specs.declared.command.Command.{Command}
 use Rattle.rgc_line.specs.declared.command.Command.TheVariants.{Number, Check, Conditions, Prove, Emit, Run, RunOutline, Valid, Clauses, Find, Outline as the_outline, Verify, Challenge, Explain}
 use Rattle.rgc_line.specs.declared.command.Chosen.{Chosen}
 use Rattle.rgc_line.specs.declared.command.Format.{Format}
-use Rattle.rgc_line.specs.declared.command.Format.TheVariants.{Plain, Json}
 use Rattle.rgc.specs.Proofs.{IsProvePartRefusal}
-use Rattle.rgc_running.specs.Refused.{IsRunRefusal, IsRunStopped}
-use Rattle.rgc_running.specs.Running.{IsRead}
+use Rattle.rgc_answers.specs.Refused.{IsRunRefusal, IsRunStopped}
+use Rattle.rgc_answers.specs.Running.{IsRead}
 use Rattle.rgc_commands.specs.declared.files.Files.{Files}
 use Rattle.rgc_commands.specs.declared.stops.Stop.{Stop}
-use Rattle.rgc_commands.specs.declared.stops.Stop.TheVariants.{Device, Refused, Outline, Usage, Told, GaveUp}
+use Rattle.rgc_commands.specs.declared.stops.Stop.TheVariants.{Device, Refused, Outline, Usage, Reported, GaveUp}
 use Rattle.rgc_commands.specs.Done.{SpellsRange}
-use Rattle.rgc_commands.specs.Stopped.{IsOverTexts, unread_line, unless_read, TellsOf, TellsWhy, IsOverRun, IsRunUnlike, IsMisfit, IsUntouched, RefusesProofs, RefusesRun}
-use Rattle.rgc_commands.specs.Stops.{IsDevice, Stops}
+use Rattle.rgc_commands.specs.Stopped.{IsOverTexts, unread_line, unless_read, TellsWhy, IsOverRun, IsRunUnlike, IsMisfit, IsUntouched, RefusesProofs, RefusesRun}
+use Rattle.rgc_commands.specs.Inner.TextStops.{IsDevice, Stops}
 use Rattle.rgc_commands.specs.Inner.Answers.{IsStopOf}
-use Rattle.rgc_print.specs.Answered.{AnswersCondition, AnswersFormula}
-use Rattle.rgc_print.specs.declared.judged.Answer.{Answer}
-use Rattle.rgc_print.specs.declared.judged.Answer.TheVariants.{Proved, Failed, Unknown}
+use Rattle.rgc_answers.specs.Answered.{AnswersCondition, AnswersFormula}
+use Rattle.rgc_answers.specs.declared.judged.Answer.{Answer}
+use Rattle.rgc_answers.specs.declared.judged.Answer.TheVariants.{Proved, Failed, Unknown}
 
 -- a file can't be read, before anything went out
 pub device_stops : (format : Format) (command : Command) (files : Files) (old : Option (List ℕ)) (m : ℕ) (stop : Stop) → IsDevice (unread_line command files) stop → Stops format command files old old m m stop
@@ -30,27 +29,27 @@ device_stops format command files old m (Device line) h = (h, (appends_none old,
 device_stops format command files old m (Refused e) h = absurd h
 device_stops format command files old m (Outline lines) h = absurd h
 device_stops format command files old m (Usage line) h = absurd h
-device_stops format command files old m Told h = absurd h
+device_stops format command files old m Reported h = absurd h
 device_stops format command files old m (GaveUp why) h = absurd h
 
 -- no proof was found, and the output tells why
-pub told_stops : (format : Format) (command : Command) (files : Files) (old new : Option (List ℕ)) (m n : ℕ) (is_found : Bool) (r : Result (Unit {0}) Stop) → IfErr r (λ stop. (stop ≡ Told) × (is_found ≡ false)) → n ≡ m → (is_found ≡ false → TellsWhy format command files old new) → IfErr r (Stops format command files old new m n)
-told_stops format command files old new m n is_found (Ok x) h same why = tt
-told_stops format command files old new m n is_found (Err stop) h same why = rw h.0 (why h.1, same)
+pub reported_stops : (format : Format) (command : Command) (files : Files) (old new : Option (List ℕ)) (m n : ℕ) (is_found : Bool) (r : Result (Unit {0}) Stop) → IfErr r (λ stop. (stop ≡ Reported) × (is_found ≡ false)) → n ≡ m → (is_found ≡ false → TellsWhy format command files old new) → IfErr r (Stops format command files old new m n)
+reported_stops format command files old new m n is_found (Ok x) h same why = tt
+reported_stops format command files old new m n is_found (Err stop) h same why = rw h.0 (why h.1, same)
 
 -- the formula isn't proved, and the output tells that
-pub formula_stops : (t : Bor (List ℕ)) (steps : ℕ) (files : Files) (text : Bor (List ℕ)) (old new : Option (List ℕ)) (m n : ℕ) (answer : Answer) (r : Result (Unit {0}) Stop) → files.text ≡ Some text → AnswersFormula text.now old new answer → n ≡ m → IfErr r (IsStopOf answer) → IfErr r (Stops Plain (Find t steps None) files old new m n)
-formula_stops t steps files text old new m n answer (Ok x) is answers same h = tt
-formula_stops t steps files text old new m n Proved (Err stop) is answers same h = absurd h
-formula_stops t steps files text old new m n Failed (Err stop) is answers same h = rw (h, is) (answers, same)
-formula_stops t steps files text old new m n (Unknown why) (Err stop) is answers same h = rw (h, is) (answers, same)
+pub formula_stops : (f : Format) (t : Bor (List ℕ)) (steps : ℕ) (files : Files) (text : Bor (List ℕ)) (old new : Option (List ℕ)) (m n : ℕ) (answer : Answer) (r : Result (Unit {0}) Stop) → files.text ≡ Some text → AnswersFormula text.now old new answer → n ≡ m → IfErr r (IsStopOf answer) → IfErr r (Stops f (Find t steps None) files old new m n)
+formula_stops f t steps files text old new m n answer (Ok x) is answers same h = tt
+formula_stops f t steps files text old new m n Proved (Err stop) is answers same h = absurd h
+formula_stops f t steps files text old new m n Failed (Err stop) is answers same h = rw (h, is) (answers, same)
+formula_stops f t steps files text old new m n (Unknown why) (Err stop) is answers same h = rw (h, is) (answers, same)
 
 -- the same of a condition
-pub condition_stops : (t : Bor (List ℕ)) (steps : ℕ) (chosen : Chosen) (files : Files) (text derivation : Bor (List ℕ)) (old new : Option (List ℕ)) (m n : ℕ) (answer : Answer) (r : Result (Unit {0}) Stop) → files.text ≡ Some text → files.derivation ≡ Some derivation → AnswersCondition text.now derivation.now chosen.condition old new answer → n ≡ m → IfErr r (IsStopOf answer) → IfErr r (Stops Plain (Find t steps (Some chosen)) files old new m n)
-condition_stops t steps chosen files text derivation old new m n answer (Ok x) is from answers same h = tt
-condition_stops t steps chosen files text derivation old new m n Proved (Err stop) is from answers same h = absurd h
-condition_stops t steps chosen files text derivation old new m n Failed (Err stop) is from answers same h = rw (h, is, from) (answers, same)
-condition_stops t steps chosen files text derivation old new m n (Unknown why) (Err stop) is from answers same h = rw (h, is, from) (answers, same)
+pub condition_stops : (f : Format) (t : Bor (List ℕ)) (steps : ℕ) (chosen : Chosen) (files : Files) (text derivation : Bor (List ℕ)) (old new : Option (List ℕ)) (m n : ℕ) (answer : Answer) (r : Result (Unit {0}) Stop) → files.text ≡ Some text → files.derivation ≡ Some derivation → AnswersCondition text.now derivation.now chosen.condition old new answer → n ≡ m → IfErr r (IsStopOf answer) → IfErr r (Stops f (Find t steps (Some chosen)) files old new m n)
+condition_stops f t steps chosen files text derivation old new m n answer (Ok x) is from answers same h = tt
+condition_stops f t steps chosen files text derivation old new m n Proved (Err stop) is from answers same h = absurd h
+condition_stops f t steps chosen files text derivation old new m n Failed (Err stop) is from answers same h = rw (h, is, from) (answers, same)
+condition_stops f t steps chosen files text derivation old new m n (Unknown why) (Err stop) is from answers same h = rw (h, is, from) (answers, same)
 
 -- the words don't fit
 pub usage_stops : (format : Format) (command : Command) (files : Files) (old : Option (List ℕ)) (m : ℕ) → IsMisfit format command → IsMisfit format command × IsUntouched old old m m
@@ -73,57 +72,6 @@ named_run_stops command text derivation proofs start moves limit start_bytes mov
 -- the next file can't be read, where this one can
 pub read_past : (file : Option (Bor (List ℕ))) (bytes : Bor (List ℕ)) (line : List ℕ) (rest : Option (List ℕ)) (stop : Stop) → file ≡ Some bytes → IsDevice rest stop → IsDevice (unless_read file line rest) stop
 read_past file bytes line rest stop is h = rw is h
-
--- words that don't fit with lines don't fit with JSON
-plain_misfit : (command : Command) → IsMisfit Plain command → IsMisfit Json command
-plain_misfit (Conditions a b false) h = absurd h
-plain_misfit (Conditions a b true) h = refl
-plain_misfit (Prove a b d None) h = absurd h
-plain_misfit (Prove a b d (Some range)) h = h
-plain_misfit (Explain a) h = h
-plain_misfit (Run a b d e f i None) h = absurd h
-plain_misfit (Run a b d e f i (Some picture)) h = refl
-plain_misfit (Number a) h = absurd h
-plain_misfit (Check a b d) h = absurd h
-plain_misfit (Emit a b d) h = absurd h
-plain_misfit (Valid a b) h = absurd h
-plain_misfit (Clauses a b) h = absurd h
-plain_misfit (Find a b d) h = absurd h
-plain_misfit (RunOutline a b d e f) h = absurd h
-plain_misfit (the_outline a b d e f) h = absurd h
-plain_misfit (Verify a b d) h = absurd h
-plain_misfit (Challenge a b) h = absurd h
-
--- what is told, of other commands than `prove`
-plain_tells : (command : Command) (text derivation : Option (Bor (List ℕ))) (old new : Option (List ℕ)) → ((a b : Bor (List ℕ)) (d : ℕ) (e : Option (Bor (List ℕ))) → command ≡ Prove a b d e → ⊥) → TellsOf Plain command text derivation old new → TellsOf Json command text derivation old new
-plain_tells (Prove a b d e) text derivation old new other h = absurd (other a b d e refl)
-plain_tells (Find a b None) (Some t) derivation old new other h = h
-plain_tells (Find a b None) None derivation old new other h = absurd h
-plain_tells (Find a b (Some chosen)) (Some t) (Some u) old new other h = h
-plain_tells (Find a b (Some chosen)) (Some t) None old new other h = absurd h
-plain_tells (Find a b (Some chosen)) None derivation old new other h = absurd h
-plain_tells (Verify a b d) text derivation old new other h = absurd h
-plain_tells (RunOutline a b d e f) text derivation old new other h = absurd h
-plain_tells (the_outline a b d e f) text derivation old new other h = absurd h
-plain_tells (Number a) text derivation old new other h = absurd h
-plain_tells (Check a b d) text derivation old new other h = absurd h
-plain_tells (Conditions a b d) text derivation old new other h = absurd h
-plain_tells (Emit a b d) text derivation old new other h = absurd h
-plain_tells (Valid a b) text derivation old new other h = absurd h
-plain_tells (Clauses a b) text derivation old new other h = absurd h
-plain_tells (Explain a) text derivation old new other h = absurd h
-plain_tells (Run a b d e f i j) text derivation old new other h = absurd h
-plain_tells (Challenge a b) text derivation old new other h = absurd h
-
--- a command that has no JSON of its own isn't done with it as it isn't done with lines
-pub plain_stops : (command : Command) (files : Files) (old new : Option (List ℕ)) (m n : ℕ) (r : Result (Unit {0}) Stop) → ((a b : Bor (List ℕ)) (d : ℕ) (e : Option (Bor (List ℕ))) → command ≡ Prove a b d e → ⊥) → IfErr r (Stops Plain command files old new m n) → IfErr r (Stops Json command files old new m n)
-plain_stops command files old new m n (Ok x) other h = tt
-plain_stops command files old new m n (Err (Device line)) other h = h
-plain_stops command files old new m n (Err (Refused e)) other h = h
-plain_stops command files old new m n (Err (Outline lines)) other h = absurd h
-plain_stops command files old new m n (Err (Usage line)) other h = (plain_misfit command h.0, h.1)
-plain_stops command files old new m n (Err Told) other h = (plain_tells command files.text files.derivation old new other h.0, h.1)
-plain_stops command files old new m n (Err (GaveUp why)) other h = h
 
 -- a command that none of these matches isn't over texts
 pub no_other : (command : Command) → ((a : Bor (List ℕ)) → command ≡ Number a → ⊥) → ((a b c : Bor (List ℕ)) → command ≡ Check a b c → ⊥) → ((a b : Bor (List ℕ)) (c : Bool) → command ≡ Conditions a b c → ⊥) → ((a b : Bor (List ℕ)) (d : ℕ) (e : Option (Bor (List ℕ))) → command ≡ Prove a b d e → ⊥)

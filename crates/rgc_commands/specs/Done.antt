@@ -1,17 +1,20 @@
--- What a command over texts has done.
-use Rattle.std.specs.Prelude.{◌≡◌, ℕ, List, ◌++◌, Option, Some, None, Ok, true, false, codes}
+-- What a command over texts has done, in a format.
+use Rattle.std.specs.Prelude.{◌≡◌, ℕ, List, ◌++◌, Option, Some, None, Ok, Bool, true, false, codes}
 use Rattle.std.specs.Str.Parse.{ParsesUnsigned}
 use Rattle.std.specs.Borrow.{Bor}
 use Rattle.std.specs.Io.KnownBytes.{Appends}
 use Rattle.rgc_line.specs.declared.command.Chosen.{Chosen}
 use Rattle.rgc_line.specs.declared.command.Command.{Command}
 use Rattle.rgc_line.specs.declared.command.Command.TheVariants.{Number, Check, Conditions, Prove, Emit, Run, Valid, Clauses, Find, Explain}
-use Rattle.rgc_explain.specs.Explanation.{explanation_text}
-use Rattle.rgc_explain.specs.declared.entries.Entry.{Entry}
+use Rattle.rgc_line.specs.declared.command.Format.{Format}
+use Rattle.rgc_line.specs.declared.command.Format.TheVariants.{Plain, Json}
+use Rattle.rgc_commands.specs.Explanation.{explanation_text}
+use Rattle.rgc_commands.specs.declared.entries.Entry.{Entry}
 use Rattle.rgc_commands.specs.declared.files.Files.{Files}
-use Rattle.rgc_print.specs.Printed.{HasPrintedNumbers, HasPrintedAccepted, HasPrintedConditions, HasPrintedPart, HasPrintedProofs, HasPrintedListing, HasPrintedHolds, HasPrintedClauses, HasPrintedConditionClauses, HasPrintedLines, HasPrintedConditionLines}
-use Rattle.rgc_formulas.specs.Printed.{HasPrintedFormulas}
-use Rattle.rgc_running.specs.Running.{HasPrintedNamedRun}
+use Rattle.rgc_answers.specs.Printed.{HasPrintedNumbers, HasPrintedAccepted, HasPrintedConditions, HasPrintedPart, HasPrintedProofs, HasPrintedListing, HasPrintedHolds, HasPrintedClauses, HasPrintedConditionClauses, HasPrintedLines, HasPrintedConditionLines}
+use Rattle.rgc_answers.specs.FormulasPrinted.{HasPrintedFormulas}
+use Rattle.rgc_answers.specs.Running.{IsRead, HasPrintedRun}
+use Rattle.rgc_answers.specs.RunJson.{HasPrintedRunJson}
 
 -- what a refusal of this number means went out
 pub record HasPrintedExplanation (number : ℕ) (old new : Option (List ℕ)) : Type 0 where
@@ -39,27 +42,45 @@ pub record SpellsRange (word : List ℕ) (first last : ℕ) : Type 0 where
   pub high_is : ParsesUnsigned {E = Unit {0}} 64 10 high (Ok last)
 
 -- proofs of all conditions went out, or those of the range that the word names
-abbrev pub AreProofsDone : Option (Bor (List ℕ)) → List ℕ → List ℕ → Option (List ℕ) → Option (List ℕ) → Type 0
-AreProofsDone None text derivation old new = HasPrintedProofs text derivation old new
-AreProofsDone (Some range) text derivation old new =
-    (first last : ℕ) × SpellsRange range.now first last × HasPrintedPart text derivation first last old new
+abbrev pub AreProofsDone : Format → Option (Bor (List ℕ)) → List ℕ → List ℕ → Option (List ℕ) → Option (List ℕ) → Type 0
+AreProofsDone format None text derivation old new = HasPrintedProofs format text derivation old new
+AreProofsDone format (Some range) text derivation old new =
+    (first last : ℕ) × SpellsRange range.now first last × HasPrintedPart format text derivation first last old new
+
+-- the names of the conditions went out, or the conditions as formulas too, which have no JSON
+abbrev pub AreConditionsDone : Format → Bool → List ℕ → List ℕ → Option (List ℕ) → Option (List ℕ) → Type 0
+AreConditionsDone format false text derivation old new = HasPrintedConditions format text derivation old new
+AreConditionsDone Plain true text derivation old new = HasPrintedFormulas text derivation old new
+AreConditionsDone Json true text derivation old new = ⊥
+
+-- the files are accepted and were run, and what the run did went out
+abbrev pub IsRunDone : Format → List ℕ → List ℕ → List ℕ → Option (Bor (List ℕ)) → Option (Bor (List ℕ)) → ℕ → Option (List ℕ) → Option (List ℕ) → Type 0
+IsRunDone Plain text derivation proofs first moving limit old new = HasPrintedRun text derivation proofs first moving limit old new
+IsRunDone Json text derivation proofs first moving limit old new = HasPrintedRunJson text derivation proofs first moving limit old new
+
+-- the files are accepted and were run, with a start and with moves where the command names such files
+pub record HasPrintedNamedRun {A : Type 0} (format : Format) (text derivation proofs : List ℕ) (start moves : Option A) (limit : ℕ) (start_bytes moves_bytes : Option (Bor (List ℕ))) (old new : Option (List ℕ)) : Type 0 where
+  pub first : Option (Bor (List ℕ))
+  pub first_read : IsRead start start_bytes first
+  pub moving : Option (Bor (List ℕ))
+  pub moving_read : IsRead moves moves_bytes moving
+  pub run : IsRunDone format text derivation proofs first moving limit old new
 
 -- the command over a text, a derivation, proofs, a start and moves is done; one over an outline never is
-abbrev pub Does : Command → Option (Bor (List ℕ)) → Option (Bor (List ℕ)) → Option (Bor (List ℕ)) → Option (Bor (List ℕ)) → Option (Bor (List ℕ)) → Option (List ℕ) → Option (List ℕ) → Type 0
-Does (Number _) (Some text) _ _ _ _ old new = HasPrintedNumbers text.now old new
-Does (Check _ _ _) (Some text) (Some derivation) (Some proofs) _ _ old new = HasPrintedAccepted text.now derivation.now proofs.now old new
-Does (Conditions _ _ false) (Some text) (Some derivation) _ _ _ old new = HasPrintedConditions text.now derivation.now old new
-Does (Conditions _ _ true) (Some text) (Some derivation) _ _ _ old new = HasPrintedFormulas text.now derivation.now old new
-Does (Prove _ _ _ range) (Some text) (Some derivation) _ _ _ old new = AreProofsDone range text.now derivation.now old new
-Does (Run _ _ _ start moves limit _) (Some text) (Some derivation) (Some proofs) first moving old new =
-    HasPrintedNamedRun text.now derivation.now proofs.now start moves limit first moving old new
-Does (Emit _ _ _) (Some text) (Some derivation) (Some proofs) _ _ old new = HasPrintedListing text.now derivation.now proofs.now old new
-Does (Valid _ _) (Some text) _ (Some proofs) _ _ old new = HasPrintedHolds text.now proofs.now old new
-Does (Clauses _ chosen) (Some text) derivation _ _ _ old new = AreClausesDone chosen text.now derivation old new
-Does (Find _ _ chosen) (Some text) derivation _ _ _ old new = AreLinesDone chosen text.now derivation old new
-Does (Explain number) _ _ _ _ _ old new = HasPrintedExplanation number old new
-Does _ _ _ _ _ _ _ _ = ⊥
+abbrev pub Does : Format → Command → Option (Bor (List ℕ)) → Option (Bor (List ℕ)) → Option (Bor (List ℕ)) → Option (Bor (List ℕ)) → Option (Bor (List ℕ)) → Option (List ℕ) → Option (List ℕ) → Type 0
+Does format (Number _) (Some text) _ _ _ _ old new = HasPrintedNumbers format text.now old new
+Does format (Check _ _ _) (Some text) (Some derivation) (Some proofs) _ _ old new = HasPrintedAccepted format text.now derivation.now proofs.now old new
+Does format (Conditions _ _ has_formulas) (Some text) (Some derivation) _ _ _ old new = AreConditionsDone format has_formulas text.now derivation.now old new
+Does format (Prove _ _ _ range) (Some text) (Some derivation) _ _ _ old new = AreProofsDone format range text.now derivation.now old new
+Does format (Run _ _ _ start moves limit _) (Some text) (Some derivation) (Some proofs) first moving old new =
+    HasPrintedNamedRun format text.now derivation.now proofs.now start moves limit first moving old new
+Does format (Emit _ _ _) (Some text) (Some derivation) (Some proofs) _ _ old new = HasPrintedListing text.now derivation.now proofs.now old new
+Does format (Valid _ _) (Some text) _ (Some proofs) _ _ old new = HasPrintedHolds text.now proofs.now old new
+Does format (Clauses _ chosen) (Some text) derivation _ _ _ old new = AreClausesDone chosen text.now derivation old new
+Does format (Find _ _ chosen) (Some text) derivation _ _ _ old new = AreLinesDone chosen text.now derivation old new
+Does format (Explain number) _ _ _ _ _ old new = HasPrintedExplanation number old new
+Does format _ _ _ _ _ _ _ _ = ⊥
 
 -- the command is done: its output went out, and what it says holds of the files
-abbrev pub IsDone : Command → Files → Option (List ℕ) → Option (List ℕ) → Type 0
-IsDone command files old new = Does command files.text files.derivation files.proofs files.start files.moves old new
+abbrev pub IsDone : Format → Command → Files → Option (List ℕ) → Option (List ℕ) → Type 0
+IsDone format command files old new = Does format command files.text files.derivation files.proofs files.start files.moves old new

@@ -1,2 +1,4 @@
 -- What only contracts of private functions and proofs speak of: no public contract reaches it.
 pub mod Answers
+pub mod Stops
+pub mod TextStops

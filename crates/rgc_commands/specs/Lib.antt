@@ -1,5 +1,6 @@
+pub mod Explanation
 pub mod Done
-pub mod DoneAsJson
 pub mod Stopped
-pub mod Stops
 pub mod Inner
+pub mod PerformDone
+pub mod PerformStopped

@@ -13,11 +13,10 @@ use Rattle.rgc_line.specs.declared.command.Command.{Command}
 use Rattle.rgc_line.specs.declared.command.Command.TheVariants.{Number, Check, Conditions, Prove, Emit, Run, RunOutline, Valid, Clauses, Find, Outline, Verify, Challenge, Explain}
 use Rattle.rgc_line.specs.declared.command.Format.{Format}
 use Rattle.rgc_line.specs.declared.command.Format.TheVariants.{Plain, Json}
-use Rattle.rgc_json.specs.Printed.{HasToldUnprovedJson, HasToldUnprovedPartJson}
-use Rattle.rgc_running.specs.Refused.{IsUnlike, IsRunRefusal}
-use Rattle.rgc_running.specs.Running.{IsRead}
-use Rattle.rgc_print.specs.Answered.{HasToldFormula, HasToldCondition, HasGivenUpFormula, HasGivenUpCondition}
-use Rattle.rgc_print.specs.Told.{HasToldUnproved, HasToldUnprovedPart}
+use Rattle.rgc_answers.specs.Refused.{IsUnlike, IsRunRefusal}
+use Rattle.rgc_answers.specs.Running.{IsRead}
+use Rattle.rgc_answers.specs.Answered.{HasReportedFormula, HasReportedCondition, HasGivenUpFormula, HasGivenUpCondition}
+use Rattle.rgc_answers.specs.Reported.{HasReportedUnproved, HasReportedUnprovedPart}
 use Rattle.rgc_commands.specs.declared.files.Files.{Files}
 use Rattle.rgc_commands.specs.Done.{SpellsRange}
 
@@ -33,7 +32,7 @@ IsOverTexts _ = Unit {0}
 abbrev pub IsUntouched : Option (List ℕ) → Option (List ℕ) → ℕ → ℕ → Type 0
 IsUntouched old new failed after = Appends old new [] × (after ≡ failed)
 
--- the line that tells that there are no bytes of a file, where there are none; else what is told of the rest
+-- the line that tells that there are no bytes of a file, where there are none; else what is reported of the rest
 abbrev pub unless_read : Option (Bor (List ℕ)) → List ℕ → Option (List ℕ) → Option (List ℕ)
 unless_read None line rest = Some line
 unless_read (Some bytes) line rest = rest
@@ -131,20 +130,15 @@ is_plain Plain = true
 is_plain Json = false
 
 -- which conditions, or which of a range, have no proof went out, in the format, and what it tells is so
-abbrev pub HasToldRange : Format → List ℕ → List ℕ → ℕ → ℕ → Option (List ℕ) → Option (List ℕ) → Type 0
-HasToldRange Plain text derivation first last old new = HasToldUnprovedPart text derivation first last old new
-HasToldRange Json text derivation first last old new = HasToldUnprovedPartJson text derivation first last old new
-
-abbrev pub HasToldProofs : Format → Option (Bor (List ℕ)) → List ℕ → List ℕ → Option (List ℕ) → Option (List ℕ) → Type 0
-HasToldProofs Plain None text derivation old new = HasToldUnproved text derivation old new
-HasToldProofs Json None text derivation old new = HasToldUnprovedJson text derivation old new
-HasToldProofs format (Some range) text derivation old new = (first last : ℕ) × SpellsRange range.now first last × HasToldRange format text derivation first last old new
+abbrev pub HasReportedProofs : Format → Option (Bor (List ℕ)) → List ℕ → List ℕ → Option (List ℕ) → Option (List ℕ) → Type 0
+HasReportedProofs format None text derivation old new = HasReportedUnproved format text derivation old new
+HasReportedProofs format (Some range) text derivation old new = (first last : ℕ) × SpellsRange range.now first last × HasReportedUnprovedPart format text derivation first last old new
 
 -- of a text and a derivation: what went out tells why there are no proofs, and is so
 abbrev pub TellsOf : Format → Command → Option (Bor (List ℕ)) → Option (Bor (List ℕ)) → Option (List ℕ) → Option (List ℕ) → Type 0
-TellsOf format (Prove _ _ _ range) (Some text) (Some derivation) old new = HasToldProofs format range text.now derivation.now old new
-TellsOf format (Find _ _ None) (Some text) _ old new = HasToldFormula text.now old new
-TellsOf format (Find _ _ (Some chosen)) (Some text) (Some derivation) old new = HasToldCondition text.now derivation.now chosen.condition old new
+TellsOf format (Prove _ _ _ range) (Some text) (Some derivation) old new = HasReportedProofs format range text.now derivation.now old new
+TellsOf format (Find _ _ None) (Some text) _ old new = HasReportedFormula text.now old new
+TellsOf format (Find _ _ (Some chosen)) (Some text) (Some derivation) old new = HasReportedCondition text.now derivation.now chosen.condition old new
 TellsOf format _ _ _ old new = ⊥
 
 -- the output tells why there is no proof, and what it tells is so

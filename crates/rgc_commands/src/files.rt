@@ -1,9 +1,9 @@
 //! The bytes of the files that a command names.
 
 ghost use Rattle.std.specs.Prelude.{◌≡◌, ℕ, List, Option, Some, IfOk, IfErr, OnOk};
-ghost use Rattle.rgc_running.specs.Running.{IsRead};
+ghost use Rattle.rgc_answers.specs.Running.{IsRead};
 ghost use Rattle.rgc_commands.specs.Stopped.{unless_read, where_named, text_line, derivation_line, proofs_line, input_lines};
-ghost use Rattle.rgc_commands.specs.Stops.{IsDevice};
+ghost use Rattle.rgc_commands.specs.Inner.TextStops.{IsDevice};
 
 use crate::stops::Stop;
 
@@ -106,7 +106,7 @@ fn read_where_named<'a>(
 /// # Errors
 ///
 /// `Stop::Device` for the first of them that is named and has no bytes.
-pub fn inputs<'a>(
+pub(crate) fn inputs<'a>(
     start: Option<&str>,
     moves: Option<&str>,
     files: &Files<'a>,

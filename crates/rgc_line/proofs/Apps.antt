@@ -1,34 +1,23 @@
 use Rattle.std.proofs.Common.{◌≡◌, ◌∙◌, ℕ, ap, ap₂, sym, refl, List, Option, Some, None, option_map, is_some, true, subst, [], Ok, Err}
-use Rattle.std.specs.Prelude.{Result}
+use Rattle.std.specs.Prelude.{Result, Box}
 use Rattle.std.specs.Str.Parse.{ParsesUnsigned}
-use Rattle.std.specs.Prelude.{Box}
 use Rattle.std.specs.Box.{box_value}
 use Rattle.std.specs.Borrow.{Bor}
-use Rattle.clap.specs.Words.{App, Text, Row, subcommand_rows, subcommand_rows_of, subcommand_of, fault_of, HasKind, HasMatchesOf, is_simple, is_simple_and_free, ReadsOne, found_of, rows_of}
+use Rattle.std.proofs.lemmas.Option.{same_Some}
+use Rattle.clap.specs.Words.{App, Text, Row, subcommand_rows, subcommand_rows_of, subcommand_of, fault_of, HasMatchesOf, is_simple, is_simple_and_free, ReadsOne, found_of, rows_of}
 use Rattle.clap.proofs.OnLiterals.{clap_on_literals}
 use Rattle.clap.specs.declared.parser.matches.ArgMatches.TheViews.{out-SubCommand}
 use Rattle.clap.specs.declared.parser.matches.SubCommand.{SubCommand}
 use Rattle.clap.specs.declared.parser.matches.ArgMatches.{ArgMatches}
-use Rattle.clap.specs.declared.error.Error.{Error}
 use Rattle.rgc_line.specs.App.{rgc_app}
-use Rattle.rgc_line.specs.App.{row_of}
-use Rattle.rgc_line.specs.Line.{AreRefused}
-use Rattle.rgc_line.specs.Inner.Table.{IsListed, IsNumberText, IsRefused, IsWhole}
-use Rattle.rgc_line.specs.declared.fields.FieldFault.{FieldFault}
-use Rattle.rgc_line.proofs.Whole.{IsFaultless}
+use Rattle.rgc_line.specs.Inner.Table.{IsNumberText}
+use Rattle.rgc_line.proofs.Whole.{IsListedAt, faultless}
 
 -- a number's text is read as its number
 pub number_read : {E : Type 0} (gives : Text → Result ℕ E → Type 0) (text : Text) (r : Option ℕ) → ReadsOne gives text r → IsNumberText text → ((x : Result ℕ E) → gives text x → ParsesUnsigned 64 10 text x)
     → (n : ℕ) × (r ≡ Some n) × ParsesUnsigned {E = Unit {0}} 64 10 text (Ok n)
 number_read gives text None reads is parses = absurd (parses (Err reads.0) reads.1 is)
 number_read gives text (Some n) reads is parses = (n, refl, parses (Ok n) reads)
-
-pub some_is : {A : Type 0} (o : Option A) (a : A) → o ≡ Some a → is_some o ≡ true
-some_is None a e = cc e
-some_is (Some b) a e = refl
-
-some_same : {A : Type 0} {x y : A} → Some x ≡ Some y → x ≡ y
-some_same e = cc
 
 -- a subcommand's name and rows, from two readings of it
 pub rows_read : {Z : Type 0} (o : Option (Box SubCommand Z)) (read : Option (Bor Text × Bor ArgMatches)) (given : Bor Text × Bor ArgMatches)
@@ -38,40 +27,29 @@ pub rows_read : {Z : Type 0} (o : Option (Box SubCommand Z)) (read : Option (Bor
 rows_read o None given e h is = cc is
 rows_read None (Some p) given e h is = cc e
 rows_read (Some b) (Some p) given e h is =
-    ap₂ (λ (n : Text) (r : List Row). Some (n, r)) (sym (some_same e)) (sym (some_same h)) ∙ ap (λ (q : Bor Text × Bor ArgMatches). Some (q.0.now, rows_of (found_of q.1.now))) (some_same is)
+    ap₂ (λ (n : Text) (r : List Row). Some (n, r)) (sym (same_Some _ _ e)) (sym (same_Some _ _ h)) ∙ ap (λ (q : Bor Text × Bor ArgMatches). Some (q.0.now, rows_of (found_of q.1.now))) (same_Some _ _ is)
 
 -- what the walk of the words needs of the command, which is computed
-pub rgc_is_simple : is_simple rgc_app ≡ true
-unfolding clap_on_literals rgc_app
-rgc_is_simple = refl
-
 pub rgc_is_free : is_simple_and_free rgc_app ≡ true
 unfolding clap_on_literals rgc_app
 rgc_is_free = refl
 
--- what a parse says of a command that is known
-pub kinds_at : (a b : App) (words : List Text) (e : Error) → a ≡ b → is_simple_and_free b ≡ true → (is_simple_and_free a ≡ true → HasKind (fault_of a words) e) → HasKind (fault_of b words) e
-kinds_at a b words e is free h =
-    let P : App → Type 0 = λ x. is_simple_and_free x ≡ true → HasKind (fault_of x words) e in subst P is h free
+rgc_is_simple : is_simple rgc_app ≡ true
+unfolding clap_on_literals rgc_app
+rgc_is_simple = refl
 
-pub no_fault_at : (a b : App) (words : List Text) → a ≡ b → is_simple_and_free b ≡ true → (is_simple_and_free a ≡ true → fault_of a words ≡ []) → fault_of b words ≡ []
-no_fault_at a b words is free h =
-    let P : App → Type 0 = λ x. is_simple_and_free x ≡ true → fault_of x words ≡ [] in subst P is h free
+-- what a parse says where it finds matches: there is no fault in the words, and their subcommand is one of the table
+pub record IsParsedAt (words : List Text) (given : Option (Text × List Row)) : Type 0 where
+  pub clean : fault_of rgc_app words ≡ []
+  pub at : subcommand_of rgc_app words ≡ given
+  pub listed : IsListedAt given
 
-pub subcommand_at : (a b : App) (words : List Text) (m : ArgMatches) → a ≡ b → is_simple b ≡ true → HasMatchesOf a words m → subcommand_rows_of m ≡ subcommand_of b words
-subcommand_at a b words m is simple h =
-    let P : App → Type 0 = λ x. HasMatchesOf x words m in (subst P is h simple).1
+pub parsed : (a : App) (words : List Text) (m : ArgMatches) → a ≡ rgc_app → HasMatchesOf a words m → (is_simple_and_free a ≡ true → fault_of a words ≡ []) → IsParsedAt words (subcommand_rows_of m)
+parsed a words m is matches kinds =
+    let clean = subst (λ (a : App). is_simple_and_free a ≡ true → fault_of a words ≡ []) is kinds rgc_is_free in
+    let at = sym (subst (λ (a : App). HasMatchesOf a words m) is matches rgc_is_simple).1 in
+    record { clean = clean; at = at; listed = subst IsListedAt at (faultless words clean) }
 
--- the matches of words in which clap finds no fault are those of a subcommand of the table
-pub listed : (words : List Text) (given : Option (Text × List Row)) (name : Text) (rows : List Row) → given ≡ Some (name, rows) → given ≡ subcommand_of rgc_app words → IsFaultless words → IsListed name rows
-listed words given name rows read at less =
-    let same : (name, rows) ≡ ((row_of less.kind).name, less.rows) = some_same (sym read ∙ at ∙ less.is) in
-    record {
-      kind = less.kind;
-      named = ap (λ (p : Text × List Row). p.0) same;
-      whole = subst (IsWhole less.kind) (sym (ap (λ (p : Text × List Row). p.1) same)) less.whole;
-    }
-
--- a fault of a subcommand's matches is a fault of the words
-pub refused : (words : List Text) (name : Text) (rows : List Row) (place : ℕ) (fault : FieldFault) → subcommand_of rgc_app words ≡ Some (name, rows) → IsRefused name rows place fault → AreRefused words place fault
-refused words name rows place fault is why = record { kind = why.kind; rows = rows; is = is ∙ ap (λ n. Some (n, rows)) why.named; why = why.why }
+pub listed_some : {Z : Type 0} (o : Option (Box SubCommand Z)) → IsListedAt (subcommand_rows o) → is_some o ≡ true
+listed_some None h = absurd h
+listed_some (Some b) h = refl

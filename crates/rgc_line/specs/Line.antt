@@ -3,7 +3,7 @@ use Rattle.std.specs.Prelude.{◌≡◌, ◌⊎◌, ◌↔◌, ℕ, Bool, true, 
 use Rattle.std.specs.Str.Parse.{ParsesUnsigned}
 use Rattle.std.specs.Borrow.{Bor}
 use Rattle.clap.specs.Words.{Row, Rule, Text, all_of, first_of, one_of, HasKind, fault_of, subcommand_of}
-use Rattle.rgc_line.specs.App.{rgc_app, row_of, chosen_derivation, chosen_condition, output, format, explained, threads, run_outline, run_text, run_derivation, run_proofs, outlines}
+use Rattle.rgc_line.specs.App.{rgc_app, row_of, chosen_derivation, chosen_condition, output, format, explained, threads}
 use Rattle.rgc_line.specs.declared.line.LineFault.{LineFault}
 use Rattle.rgc_line.specs.declared.line.LineFault.TheVariants.{Usage, Fields}
 use Rattle.rgc_line.specs.declared.fields.FieldFault.{FieldFault}
@@ -19,25 +19,13 @@ use Rattle.rgc_line.specs.declared.command.Command.TheVariants.{Number, Check, C
 use Rattle.rgc_line.specs.declared.commands.Kind.{Kind}
 use Rattle.rgc_line.specs.declared.commands.Kind.TheVariants as kind
 
--- the file of this id is the one that the words name
-abbrev pub HasFile : List Row → Text → Bor Text → Type 0
-HasFile rows id file = first_of id rows ≡ Some file.now
+-- the words have something at the id
+abbrev pub IsThere : List Row → Text → Type 0
+IsThere rows id = (text : Text) × (first_of id rows ≡ Some text)
 
--- the text of the option is the number in decimal digits
-abbrev pub HasNumber : List Row → Text → ℕ → Type 0
-HasNumber rows id n = (text : Text) × (one_of id rows ≡ Some text) × ParsesUnsigned {E = Unit {0}} 64 10 text (Ok n)
-
--- the words don't have this option
+-- the words have nothing at the id
 abbrev pub HasNo : List Row → Text → Type 0
 HasNo rows id = first_of id rows ≡ None
-
--- of the files of this id, which the words name, this is the one at its place
-abbrev pub HasFileOf : List Row → Text → Outlines → Type 0
-HasFileOf rows id one = (names : List Text) × (all_of id rows ≡ Some names) × (length names ≡ one.count) × (slice_get names one.place ≡ Some one.outline.now)
-
--- the words have this option, which takes none, or not
-abbrev pub HasFlag : List Row → Text → Bool → Type 0
-HasFlag rows id is_given = (is_given ≡ true) ↔ (first_of id rows ≡ Some (codes "true"))
 
 -- what the words have at a file or an option of a command: the name of a file or a word, one of several files, a number, that it is there or
 -- not, or nothing
@@ -48,22 +36,18 @@ pub data Value : Type 0 where
   flag : Bool → Value
   absent : Value
 
--- a file that may be left out
-abbrev pub optional : Option (Bor Text) → Value
-optional None = absent
-optional (Some name) = file name
+-- what may be left out
+abbrev pub optional : {A : Type 0} → (A → Value) → Option A → Value
+optional make None = absent
+optional make (Some it) = make it
 
--- a number that may be left out
-abbrev pub optional_number : Option ℕ → Value
-optional_number None = absent
-optional_number (Some n) = number n
-
--- the words have this value at the id
+-- the words have this value at the id: this name; at its place, this one of several names; this number in decimal digits; the flag or not; nothing
 abbrev pub HasValue : List Row → Text → Value → Type 0
-HasValue rows id (file name) = HasFile rows id name
-HasValue rows id (file_of one) = HasFileOf rows id one
-HasValue rows id (number n) = HasNumber rows id n
-HasValue rows id (flag is_given) = HasFlag rows id is_given
+HasValue rows id (file name) = first_of id rows ≡ Some name.now
+HasValue rows id (file_of one) =
+    (names : List Text) × (all_of id rows ≡ Some names) × (length names ≡ one.count) × (slice_get names one.place ≡ Some one.outline.now)
+HasValue rows id (number n) = (text : Text) × (one_of id rows ≡ Some text) × ParsesUnsigned {E = Unit {0}} 64 10 text (Ok n)
+HasValue rows id (flag is_given) = (is_given ≡ true) ↔ (first_of id rows ≡ Some (codes "true"))
 HasValue rows id absent = HasNo rows id
 
 -- the words have these values at the first of the arguments, one at each
@@ -72,45 +56,32 @@ HasValues rows rules [] = Unit {0}
 HasValues rows [] (value ∷ values) = ⊥
 HasValues rows (rule ∷ rules) (value ∷ values) = HasValue rows rule.id value × HasValues rows rules values
 
--- a row of the table, with values for its own files and options, in the row's order: what several commands have comes behind them
-pub record Contents : Type 0 where
-  pub kind : Kind
-  pub values : List Value
-
--- the row of a command and these values
-abbrev pub contents : Kind → List Value → Contents
-contents kind values = record { kind = kind; values = values }
-
 -- before others, the values of the two options that choose a condition: a condition is chosen by both, and none by neither
 abbrev pub chosen_values : Option Chosen → List Value → List Value
 chosen_values None rest = absent ∷ absent ∷ rest
 chosen_values (Some chosen) rest = file chosen.derivation ∷ number chosen.condition ∷ rest
 
--- The commands by the table: what the row of each has for its own files and options, in the row's order.
-abbrev pub contents_of : Command → Contents
-contents_of (Number text) = contents kind.Number (file text ∷ [])
-contents_of (Check text derivation proofs) = contents kind.Check (file text ∷ file derivation ∷ file proofs ∷ [])
-contents_of (Conditions text derivation has_formulas) = contents kind.Conditions (file text ∷ file derivation ∷ flag has_formulas ∷ [])
-contents_of (Prove text derivation steps conditions) =
-    contents kind.Prove (file text ∷ file derivation ∷ number steps ∷ optional conditions ∷ [])
-contents_of (Emit text derivation proofs) = contents kind.Emit (file text ∷ file derivation ∷ file proofs ∷ [])
-contents_of (Run text derivation proofs start moves limit draw) = contents kind.Run
-    (optional start ∷ optional moves ∷ number limit ∷ optional draw ∷ absent ∷ file text ∷ file derivation ∷ file proofs ∷ [])
-contents_of (RunOutline outline start moves limit draw) = contents kind.Run
-    (optional start ∷ optional moves ∷ number limit ∷ optional draw ∷ file outline ∷ absent ∷ [])
-contents_of (Valid text proofs) = contents kind.Valid (file text ∷ file proofs ∷ [])
-contents_of (Clauses text chosen) = contents kind.Clauses (file text ∷ chosen_values chosen [])
-contents_of (Find text steps chosen) = contents kind.Find (file text ∷ chosen_values chosen (number steps ∷ []))
-contents_of (Outline outline text derivation proofs map) =
-    contents kind.Outline (file outline ∷ optional text ∷ optional derivation ∷ optional proofs ∷ optional map ∷ [])
-contents_of (Verify outlines steps is_runs_only) =
-    contents kind.Verify (file_of outlines ∷ number steps ∷ flag is_runs_only ∷ [])
-contents_of (Challenge outline has_refused) = contents kind.Challenge (file outline ∷ flag has_refused ∷ [])
-contents_of (Explain n) = contents kind.Explain (number n ∷ [])
+-- The commands by the table: the row of each, and the values of the row's own files and options in their order. What several commands have comes after
+-- them, and has no values here.
+abbrev pub contents_of : Command → Kind × List Value
+contents_of (Number text) = (kind.Number, file text ∷ [])
+contents_of (Check text derivation proofs) = (kind.Check, file text ∷ file derivation ∷ file proofs ∷ [])
+contents_of (Conditions text derivation has_formulas) = (kind.Conditions, file text ∷ file derivation ∷ flag has_formulas ∷ [])
+contents_of (Prove text derivation steps conditions) = (kind.Prove, file text ∷ file derivation ∷ number steps ∷ optional file conditions ∷ [])
+contents_of (Emit text derivation proofs) = (kind.Emit, file text ∷ file derivation ∷ file proofs ∷ [])
+contents_of (Run text derivation proofs start moves limit draw) = (kind.Run, optional file start ∷ optional file moves ∷ number limit ∷ optional file draw ∷ absent ∷ file text ∷ file derivation ∷ file proofs ∷ [])
+contents_of (RunOutline outline start moves limit draw) = (kind.Run, optional file start ∷ optional file moves ∷ number limit ∷ optional file draw ∷ file outline ∷ absent ∷ [])
+contents_of (Valid text proofs) = (kind.Valid, file text ∷ file proofs ∷ [])
+contents_of (Clauses text chosen) = (kind.Clauses, file text ∷ chosen_values chosen [])
+contents_of (Find text steps chosen) = (kind.Find, file text ∷ chosen_values chosen (number steps ∷ []))
+contents_of (Outline outline text derivation proofs map) = (kind.Outline, file outline ∷ optional file text ∷ optional file derivation ∷ optional file proofs ∷ optional file map ∷ [])
+contents_of (Verify outlines steps is_runs_only) = (kind.Verify, file_of outlines ∷ number steps ∷ flag is_runs_only ∷ [])
+contents_of (Challenge outline has_refused) = (kind.Challenge, file outline ∷ flag has_refused ∷ [])
+contents_of (Explain n) = (kind.Explain, number n ∷ [])
 
--- the subcommand is the row's, and its matches have the values of the row's own files and options
-abbrev pub HasContents : Text → List Row → Contents → Type 0
-HasContents name rows it = let row = row_of it.kind in (name ≡ row.name) × HasValues rows row.rules it.values
+-- the subcommand is the row's, and its matches have the values
+abbrev pub HasContents : Text → List Row → Kind × List Value → Type 0
+HasContents name rows it = let row = row_of it.0 in (name ≡ row.name) × HasValues rows row.rules it.1
 
 -- the words ask for this format: one JSON value a line where they say so
 abbrev pub HasFormat : List Row → Format → Type 0
@@ -119,10 +90,10 @@ HasFormat rows Json = first_of format.id rows ≡ Some (codes "json")
 
 -- what is asked of several commands, by the words
 pub record HasSettings (rows : List Row) (settings : Settings) : Type 0 where
-  pub output : HasValue rows output.id (optional settings.output)
+  pub output : HasValue rows output.id (optional file settings.output)
   pub format : HasFormat rows settings.format
-  pub explained : HasFlag rows explained.id settings.is_explained
-  pub threads : HasValue rows threads.id (optional_number settings.threads)
+  pub explained : HasValue rows explained.id (flag settings.is_explained)
+  pub threads : HasValue rows threads.id (optional number settings.threads)
 
 -- a command over several files is the one over the file at this place
 abbrev pub IsAt : ℕ → Command → Type 0
@@ -141,8 +112,7 @@ pub record Says (subcommand : Option (Text × List Row)) (place : ℕ) (line : L
 -- of the two options that choose a condition, the words have one alone
 abbrev pub AreApart : List Row → Type 0
 AreApart rows =
-    (((file : Text) × (first_of chosen_derivation.id rows ≡ Some file)) × HasNo rows chosen_condition.id)
-    ⊎ (HasNo rows chosen_derivation.id × (number : Text) × (first_of chosen_condition.id rows ≡ Some number))
+    (IsThere rows chosen_derivation.id × HasNo rows chosen_condition.id) ⊎ (HasNo rows chosen_derivation.id × IsThere rows chosen_condition.id)
 
 -- the word for the format is none of the two
 abbrev pub IsUnknownFormat : List Row → Type 0
@@ -151,20 +121,16 @@ IsUnknownFormat rows = (word : Text) × (first_of format.id rows ≡ Some word) 
 -- a run is asked for of an outline and of files, or of no outline and of some of the three files alone
 abbrev pub AreRunFilesApart : List Row → Type 0
 AreRunFilesApart rows =
-    (((outline : Text) × (first_of run_outline.id rows ≡ Some outline)) × (text : Text) × (first_of run_text.id rows ≡ Some text))
-    ⊎ (HasNo rows run_outline.id × (HasNo rows run_text.id ⊎ (HasNo rows run_derivation.id ⊎ HasNo rows run_proofs.id)))
+    (IsThere rows (codes "outline") × IsThere rows (codes "TEXT"))
+    ⊎ (HasNo rows (codes "outline") × (HasNo rows (codes "TEXT") ⊎ (HasNo rows (codes "DERIVATION") ⊎ HasNo rows (codes "PROOFS"))))
 
 -- no file stands at the place: the words name so many files or fewer
 abbrev pub IsBeyond : List Row → ℕ → Type 0
-IsBeyond rows place = (names : List Text) × (all_of outlines.id rows ≡ Some names) × (length names ≤ place)
+IsBeyond rows place = (names : List Text) × (all_of (codes "OUTLINE") rows ≡ Some names) × (length names ≤ place)
 
--- the commands about a condition that two options choose
-abbrev pub Chooses : Kind → Type 0
-Chooses of = (of ≡ kind.Clauses) ⊎ (of ≡ kind.Find)
-
--- why the matches of a subcommand give no command: of each fault, at which commands it can be told and what the words have then
+-- why the matches of a subcommand give no command: of each fault, at which commands it can be reported and what the words have then
 abbrev pub IsFieldFault : Kind → List Row → ℕ → FieldFault → Type 0
-IsFieldFault of rows place Apart = Chooses of × AreApart rows
+IsFieldFault of rows place Apart = ((of ≡ kind.Clauses) ⊎ (of ≡ kind.Find)) × AreApart rows
 IsFieldFault of rows place UnknownFormat = IsUnknownFormat rows
 IsFieldFault of rows place RunFiles = (of ≡ kind.Run) × AreRunFilesApart rows
 IsFieldFault of rows place NoFile = (of ≡ kind.Verify) × IsBeyond rows place

@@ -73,6 +73,7 @@ fn with_rows<'a>(alloc: Global, rows: &[Row]) -> Result<Command<'a>, AllocError>
 }
 
 /// The whole command.
+#[tactic(auto, unfolding(crate::specs::App::rgc_app))]
 pub fn rgc_command<'a>(alloc: Global) -> Result<Command<'a>, AllocError>
     ensures { IfOk result (λ c. app_of c ≡ rgc_app) }
 {

@@ -97,7 +97,7 @@ pub enum Command<'a> {
         limit: u64,
         draw: Option<&'a str>,
     },
-    /// The same of an outline, which is verified first.
+    /// A run of an outline, which is verified first.
     RunOutline {
         outline: &'a str,
         start: Option<&'a str>,

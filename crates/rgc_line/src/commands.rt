@@ -59,198 +59,104 @@ pub struct Row {
     pub fields: &'static [Field],
 }
 
-pub const PROGRAM: Field = Field {
-    form: Form::File,
-    id: "TEXT",
-    help: "a program",
-};
+/// A field, from its form, its id and its help.
+macro_rules! field {
+    ($form:ident $id:literal: $help:literal) => {
+        Field {
+            form: Form::$form,
+            id: $id,
+            help: $help,
+        }
+    };
+}
 
-pub const FORMULA: Field = Field {
-    form: Form::File,
-    id: "TEXT",
-    help: "a text `words .. show ..`",
-};
+pub const PROGRAM: Field = field!(File "TEXT": "a program");
 
-pub const FORMULA_OR_PROGRAM: Field = Field {
-    form: Form::File,
-    id: "TEXT",
-    help: "a text `words .. show ..`; with the two options, a program",
-};
+pub const FORMULA: Field = field!(File "TEXT": "a text `words .. show ..`");
 
-pub const DERIVATION: Field = Field {
-    form: Form::File,
-    id: "DERIVATION",
-    help: "lines that derive the parts of the program",
-};
+pub const FORMULA_OR_PROGRAM: Field =
+    field!(File "TEXT": "a text `words .. show ..`; with the two options, a program");
 
-pub const PROOFS: Field = Field {
-    form: Form::File,
-    id: "PROOFS",
-    help: "hint lines in sections, one for each condition that needs one",
-};
+pub const DERIVATION: Field =
+    field!(File "DERIVATION": "lines that derive the parts of the program");
 
-pub const HINTS: Field = Field {
-    form: Form::File,
-    id: "PROOFS",
-    help: "hint lines: id, literals, 0, hints, 0",
-};
+pub const PROOFS: Field =
+    field!(File "PROOFS": "hint lines in sections, one for each condition that needs one");
 
-pub const CHOSEN_DERIVATION: Field = Field {
-    form: Form::OptionalFile,
-    id: "derivation",
-    help: "the derivation of a program",
-};
+pub const HINTS: Field = field!(File "PROOFS": "hint lines: id, literals, 0, hints, 0");
 
-pub const CHOSEN_CONDITION: Field = Field {
-    form: Form::OptionalNumber,
-    id: "condition",
-    help: "the number of one of its conditions, from 1",
-};
+pub const CHOSEN_DERIVATION: Field =
+    field!(OptionalFile "derivation": "the derivation of a program");
 
-pub const STEPS: Field = Field {
-    form: Form::NumberOrMillion,
-    id: "steps",
-    help: "the most decisions, of each search",
-};
+pub const CHOSEN_CONDITION: Field =
+    field!(OptionalNumber "condition": "the number of one of its conditions, from 1");
 
-pub const START: Field = Field {
-    form: Form::OptionalFile,
-    id: "start",
-    help: "the values of the words at the start; without it each is 0",
-};
+pub const STEPS: Field = field!(NumberOrMillion "steps": "the most decisions, of each search");
 
-pub const MOVES: Field = Field {
-    form: Form::OptionalFile,
-    id: "moves",
-    help: "the moves of the environment, each with its place among the records",
-};
+pub const START: Field =
+    field!(OptionalFile "start": "the values of the words at the start; without it each is 0");
 
-pub const LIMIT: Field = Field {
-    form: Form::NumberOrMillion,
-    id: "limit",
-    help: "the most steps of the parts",
-};
+pub const MOVES: Field =
+    field!(OptionalFile "moves": "the moves of the environment, each with its place among the records");
 
-pub const OUTLINE: Field = Field {
-    form: Form::File,
-    id: "OUTLINE",
-    help: "a program with assertions between its statements",
-};
+pub const LIMIT: Field = field!(NumberOrMillion "limit": "the most steps of the parts");
 
-pub const WRITTEN_DERIVATION: Field = Field {
-    form: Form::OptionalFile,
-    id: "derivation",
-    help: "a file to write the derivation to",
-};
+pub const OUTLINE: Field =
+    field!(File "OUTLINE": "a program with assertions between its statements");
 
+pub const WRITTEN_DERIVATION: Field =
+    field!(OptionalFile "derivation": "a file to write the derivation to");
 /// The files of a run, which an outline stands for too.
-pub const RUN_PROGRAM: Field = Field {
-    form: Form::Place,
-    id: "TEXT",
-    help: "a program",
-};
+pub const RUN_PROGRAM: Field = field!(Place "TEXT": "a program");
 
-pub const RUN_DERIVATION: Field = Field {
-    form: Form::Place,
-    id: "DERIVATION",
-    help: "lines that derive the parts of the program",
-};
+pub const RUN_DERIVATION: Field =
+    field!(Place "DERIVATION": "lines that derive the parts of the program");
 
-pub const RUN_PROOFS: Field = Field {
-    form: Form::Place,
-    id: "PROOFS",
-    help: "hint lines in sections, one for each condition that needs one",
-};
+pub const RUN_PROOFS: Field =
+    field!(Place "PROOFS": "hint lines in sections, one for each condition that needs one");
 
-pub const RUN_OUTLINE: Field = Field {
-    form: Form::OptionalFile,
-    id: "outline",
-    help: "an outline in the place of the three files; it is verified first",
-};
+pub const RUN_OUTLINE: Field =
+    field!(OptionalFile "outline": "an outline in the place of the three files; it is verified first");
 
-pub const WRITTEN_TEXT: Field = Field {
-    form: Form::OptionalFile,
-    id: "text",
-    help: "a file to write the program to, in the place of the output",
-};
+pub const WRITTEN_TEXT: Field =
+    field!(OptionalFile "text": "a file to write the program to, in the place of the output");
 
-pub const WRITTEN_PROOFS: Field = Field {
-    form: Form::OptionalFile,
-    id: "proofs",
-    help: "a file to write proofs of all conditions to, which are looked for",
-};
+pub const WRITTEN_PROOFS: Field =
+    field!(OptionalFile "proofs": "a file to write proofs of all conditions to, which are looked for");
 
-pub const REFUSED: Field = Field {
-    form: Form::Flag,
-    id: "refused",
-    help: "tell the changes that are refused too, each with why",
-};
+pub const REFUSED: Field =
+    field!(Flag "refused": "tell the changes that are refused too, each with why");
 
-pub const OUTLINES: Field = Field {
-    form: Form::Files,
-    id: "OUTLINE",
-    help: "programs with assertions between their statements",
-};
+pub const OUTLINES: Field =
+    field!(Files "OUTLINE": "programs with assertions between their statements");
 
-pub const MAP: Field = Field {
-    form: Form::OptionalFile,
-    id: "map",
-    help: "a file to write to from which place of the outline each line and each condition comes",
-};
+pub const MAP: Field =
+    field!(OptionalFile "map": "a file to write to from which place of the outline each line and each condition comes");
 
-pub const CONDITIONS: Field = Field {
-    form: Form::OptionalText,
-    id: "conditions",
-    help: "the numbers A-B of the first and the last condition to prove; without it all",
-};
+pub const CONDITIONS: Field =
+    field!(OptionalText "conditions": "the numbers A-B of the first and the last condition to prove; without it all");
 
-pub const FORMULAS: Field = Field {
-    form: Form::Flag,
-    id: "formulas",
-    help: "behind each name the condition as a text for find, valid and clauses",
-};
+pub const FORMULAS: Field =
+    field!(Flag "formulas": "behind each name the condition as a text for find, valid and clauses");
 
-pub const RUNS_ONLY: Field = Field {
-    form: Form::Flag,
-    id: "runs-only",
-    help: "follow the runs of the program alone, without its assertions",
-};
+pub const RUNS_ONLY: Field =
+    field!(Flag "runs-only": "follow the runs of the program alone, without its assertions");
 
-pub const THREADS: Field = Field {
-    form: Form::OptionalNumber,
-    id: "threads",
-    help: "the most threads; without it one for each processor",
-};
+pub const THREADS: Field =
+    field!(OptionalNumber "threads": "the most threads; without it one for each processor");
 
-pub const OUTPUT: Field = Field {
-    form: Form::OptionalFile,
-    id: "output",
-    help: "a file for the output, written whole or not at all",
-};
+pub const OUTPUT: Field =
+    field!(OptionalFile "output": "a file for the output, written whole or not at all");
 
-pub const FORMAT: Field = Field {
-    form: Form::OptionalText,
-    id: "format",
-    help: "plain for lines to be read, or json for one JSON value a line",
-};
+pub const FORMAT: Field =
+    field!(OptionalText "format": "plain for lines to be read, or json for one JSON value a line");
 
-pub const EXPLAINED: Field = Field {
-    form: Form::Flag,
-    id: "explain",
-    help: "show below a refusal the line that it is about, and what could stand there",
-};
+pub const EXPLAINED: Field =
+    field!(Flag "explain": "show below a refusal the line that it is about, and what could stand there");
 
-pub const REFUSAL: Field = Field {
-    form: Form::NeededNumber,
-    id: "NUMBER",
-    help: "the number of a refusal",
-};
+pub const REFUSAL: Field = field!(NeededNumber "NUMBER": "the number of a refusal");
 
-pub const DRAW: Field = Field {
-    form: Form::OptionalFile,
-    id: "draw",
-    help: "a file to draw the run to",
-};
+pub const DRAW: Field = field!(OptionalFile "draw": "a file to draw the run to");
 
 /// The commands, in the order in which the help lists them.
 pub static COMMANDS: [Row; 13] = [

@@ -1,10 +1,11 @@
 //! One file or option, from the matches of a subcommand.
 
-ghost use Rattle.std.specs.Prelude.{◌≡◌, IfOk, IfErr};
+ghost use Rattle.std.specs.Prelude.{◌≡◌, IfOk, IfErr, codes};
 ghost use Rattle.clap.specs.Words.{found_of, rows_of};
-ghost use Rattle.rgc_line.specs.App.{outlines, chosen_condition};
-ghost use Rattle.rgc_line.specs.Line.{HasFile, HasFileOf, HasFlag, HasNumber, HasValue, optional, optional_number, AreApart, IsBeyond};
-ghost use Rattle.rgc_line.specs.Inner.Table.{HasOption, HasChosen, IsThere, IsNumber, IsNumberIf};
+ghost use Rattle.rgc_line.specs.App.{chosen_condition};
+ghost use Rattle.rgc_line.specs.Line.{HasValue, optional, AreApart, IsBeyond, IsThere};
+ghost use Rattle.rgc_line.specs.Line as value;
+ghost use Rattle.rgc_line.specs.Inner.Table.{HasOption, HasChosen, IsNumber, IsNumberIf};
 ghost use Rattle.rgc_line.specs.declared.fields.FieldFault.TheVariants.{Apart, NoFile};
 
 use crate::command::{Chosen, Outlines};
@@ -24,14 +25,14 @@ pub enum FieldFault {
     /// A run of an outline and of files, or of some files alone.
     #[error("run takes TEXT DERIVATION PROOFS, or --outline FILE")]
     RunFiles,
-    /// The place is behind the last of the files.
+    /// The place is after the last of the files.
     #[error("there is no file at the place")]
     NoFile,
 }
 
 pub fn option<'a>(matches: &ArgMatches<'a>, id: &str) -> Option<&'a str>
     ensures has { HasOption (rows_of (found_of matches.now)) id.now result }
-    ensures value { HasValue (rows_of (found_of matches.now)) id.now (optional result) }
+    ensures value { HasValue (rows_of (found_of matches.now)) id.now (optional value.file result) }
 {
     matches.get_str(id)
 }
@@ -39,15 +40,15 @@ pub fn option<'a>(matches: &ArgMatches<'a>, id: &str) -> Option<&'a str>
 /// A file that has to be named.
 pub fn file<'a>(matches: &ArgMatches<'a>, id: &str) -> &'a str
     requires { IsThere (rows_of (found_of matches.now)) id.now }
-    ensures { HasFile (rows_of (found_of matches.now)) id.now result }
+    ensures { HasValue (rows_of (found_of matches.now)) id.now (value.file result) }
 {
     option(matches, id).unwrap()
 }
 
 /// The file at a place among the outlines.
 pub fn outline_at<'a>(matches: &ArgMatches<'a>, place: usize) -> Result<Outlines<'a>, FieldFault>
-    requires { IsThere (rows_of (found_of matches.now)) outlines.id }
-    ensures file { IfOk result (HasFileOf (rows_of (found_of matches.now)) outlines.id) }
+    requires { IsThere (rows_of (found_of matches.now)) (codes "OUTLINE") }
+    ensures file { IfOk result (λ o. HasValue (rows_of (found_of matches.now)) (codes "OUTLINE") (value.file_of o)) }
     ensures place { IfOk result (λ o. o.place ≡ place) }
     ensures fault { IfErr result (λ f. (f ≡ NoFile) × IsBeyond (rows_of (found_of matches.now)) place) }
 {
@@ -65,7 +66,7 @@ pub fn outline_at<'a>(matches: &ArgMatches<'a>, place: usize) -> Result<Outlines
 /// A number that has to be given, or is given by default.
 pub fn given_number(matches: &ArgMatches<'_>, id: &str) -> u64
     requires { IsNumber (rows_of (found_of matches.now)) id.now }
-    ensures { HasNumber (rows_of (found_of matches.now)) id.now result }
+    ensures { HasValue (rows_of (found_of matches.now)) id.now (value.number result) }
 {
     matches.get_one::<u64>(id).unwrap()
 }
@@ -73,7 +74,7 @@ pub fn given_number(matches: &ArgMatches<'_>, id: &str) -> u64
 /// A number that may be left out.
 pub fn number_or_none(matches: &ArgMatches<'_>, id: &str) -> Option<u64>
     requires { IsNumberIf (rows_of (found_of matches.now)) id.now }
-    ensures { HasValue (rows_of (found_of matches.now)) id.now (optional_number result) }
+    ensures { HasValue (rows_of (found_of matches.now)) id.now (optional value.number result) }
 {
     match option(matches, id) {
         Some(_) => Some(given_number(matches, id)),
@@ -83,7 +84,7 @@ pub fn number_or_none(matches: &ArgMatches<'_>, id: &str) -> Option<u64>
 
 /// Whether the option is there.
 pub fn is_given(matches: &ArgMatches<'_>, id: &str) -> bool
-    ensures { HasFlag (rows_of (found_of matches.now)) id.now result }
+    ensures { HasValue (rows_of (found_of matches.now)) id.now (value.flag result) }
 {
     match option(matches, id) {
         Some(text) => text == "true",

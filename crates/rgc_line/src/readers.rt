@@ -1,13 +1,13 @@
 //! Each command, from the matches of its subcommand.
 
-ghost use Rattle.std.specs.Prelude.{◌≡◌, IfOk, IfErr, find, option_map};
+ghost use Rattle.std.specs.Prelude.{◌≡◌, IfOk, IfErr, find};
 ghost use Rattle.std.specs.Str.{bytes_eq};
 ghost use Rattle.clap.specs.Words.{found_of, rows_of};
-ghost use Rattle.rgc_line.specs.Line.{AreApart, AreRunFilesApart, HasContents, HasFile, HasNo, HasSettings, IsAt, IsBeyond, IsFieldFault, contents_of};
-ghost use Rattle.rgc_line.specs.App.{kinds, row_of, run_outline};
+ghost use Rattle.rgc_line.specs.Line.{AreRunFilesApart, HasContents, HasSettings, IsAt, IsFieldFault, contents_of};
+ghost use Rattle.rgc_line.specs.App.{kinds, row_of};
 ghost use Rattle.rgc_line.specs.Inner.Table.{IsListed, IsRefused, IsTable, IsWhole, Reads};
 ghost use Rattle.rgc_line.specs.declared.commands.Kind.TheVariants as kind;
-ghost use Rattle.rgc_line.specs.declared.fields.FieldFault.TheVariants.{Apart, NoFile, RunFiles};
+ghost use Rattle.rgc_line.specs.declared.fields.FieldFault.TheVariants.{RunFiles};
 
 use crate::command::Command;
 use crate::commands::{
@@ -21,67 +21,28 @@ use crate::line::Line;
 use crate::settings::settings_of;
 use clap::ArgMatches;
 
-fn number<'a>(matches: &ArgMatches<'a>) -> Command<'a>
-    requires { IsWhole kind.Number (rows_of (found_of matches.now)) }
-    ensures { Reads kind.Number (rows_of (found_of matches.now)) result }
-{
-    let text = file(matches, PROGRAM.id);
-    Command::Number { text }
-}
-
-fn check<'a>(matches: &ArgMatches<'a>) -> Command<'a>
-    requires { IsWhole kind.Check (rows_of (found_of matches.now)) }
-    ensures { Reads kind.Check (rows_of (found_of matches.now)) result }
-{
-    Command::Check {
-        text: file(matches, PROGRAM.id),
-        derivation: file(matches, DERIVATION.id),
-        proofs: file(matches, PROOFS.id),
-    }
-}
-
-fn conditions<'a>(matches: &ArgMatches<'a>) -> Command<'a>
-    requires { IsWhole kind.Conditions (rows_of (found_of matches.now)) }
-    ensures { Reads kind.Conditions (rows_of (found_of matches.now)) result }
-{
-    Command::Conditions {
-        text: file(matches, PROGRAM.id),
-        derivation: file(matches, DERIVATION.id),
-        has_formulas: is_given(matches, FORMULAS.id),
-    }
-}
-
-fn prove<'a>(matches: &ArgMatches<'a>) -> Command<'a>
-    requires { IsWhole kind.Prove (rows_of (found_of matches.now)) }
-    ensures { Reads kind.Prove (rows_of (found_of matches.now)) result }
-{
-    Command::Prove {
-        text: file(matches, PROGRAM.id),
-        derivation: file(matches, DERIVATION.id),
-        steps: given_number(matches, STEPS.id),
-        conditions: option(matches, CONDITIONS.id),
-    }
-}
-
-fn emit<'a>(matches: &ArgMatches<'a>) -> Command<'a>
-    requires { IsWhole kind.Emit (rows_of (found_of matches.now)) }
-    ensures { Reads kind.Emit (rows_of (found_of matches.now)) result }
-{
-    Command::Emit {
-        text: file(matches, PROGRAM.id),
-        derivation: file(matches, DERIVATION.id),
-        proofs: file(matches, PROOFS.id),
-    }
-}
-
-/// A run of three files.
-fn run_files<'a>(matches: &ArgMatches<'a>) -> Result<Command<'a>, FieldFault>
-    requires whole { IsWhole kind.Run (rows_of (found_of matches.now)) }
-    requires no_outline { HasNo (rows_of (found_of matches.now)) run_outline.id }
+/// A run of three files, or of an outline.
+fn run<'a>(matches: &ArgMatches<'a>) -> Result<Command<'a>, FieldFault>
+    requires { IsWhole kind.Run (rows_of (found_of matches.now)) }
     ensures reads { IfOk result (Reads kind.Run (rows_of (found_of matches.now))) }
     ensures fault { IfErr result (λ f. (f ≡ RunFiles) × AreRunFilesApart (rows_of (found_of matches.now))) }
 {
+    let start = option(matches, START.id);
+    let moves = option(matches, MOVES.id);
     let limit = given_number(matches, LIMIT.id);
+    let draw = option(matches, DRAW.id);
+    if let Some(outline) = option(matches, RUN_OUTLINE.id) {
+        if let Some(_) = option(matches, RUN_PROGRAM.id) {
+            return Err(FieldFault::RunFiles);
+        }
+        return Ok(Command::RunOutline {
+            outline,
+            start,
+            moves,
+            limit,
+            draw,
+        });
+    }
     let Some(text) = option(matches, RUN_PROGRAM.id) else {
         return Err(FieldFault::RunFiles);
     };
@@ -95,120 +56,11 @@ fn run_files<'a>(matches: &ArgMatches<'a>) -> Result<Command<'a>, FieldFault>
         text,
         derivation,
         proofs,
-        start: option(matches, START.id),
-        moves: option(matches, MOVES.id),
+        start,
+        moves,
         limit,
-        draw: option(matches, DRAW.id),
+        draw,
     })
-}
-
-/// A run of an outline.
-fn run_outline<'a>(matches: &ArgMatches<'a>, outline: &'a str) -> Result<Command<'a>, FieldFault>
-    requires whole { IsWhole kind.Run (rows_of (found_of matches.now)) }
-    requires outline { HasFile (rows_of (found_of matches.now)) run_outline.id outline }
-    ensures reads { IfOk result (Reads kind.Run (rows_of (found_of matches.now))) }
-    ensures fault { IfErr result (λ f. (f ≡ RunFiles) × AreRunFilesApart (rows_of (found_of matches.now))) }
-{
-    if let Some(_) = option(matches, RUN_PROGRAM.id) {
-        return Err(FieldFault::RunFiles);
-    }
-    Ok(Command::RunOutline {
-        outline,
-        start: option(matches, START.id),
-        moves: option(matches, MOVES.id),
-        limit: given_number(matches, LIMIT.id),
-        draw: option(matches, DRAW.id),
-    })
-}
-
-fn run<'a>(matches: &ArgMatches<'a>) -> Result<Command<'a>, FieldFault>
-    requires { IsWhole kind.Run (rows_of (found_of matches.now)) }
-    ensures reads { IfOk result (Reads kind.Run (rows_of (found_of matches.now))) }
-    ensures fault { IfErr result (λ f. (f ≡ RunFiles) × AreRunFilesApart (rows_of (found_of matches.now))) }
-{
-    match option(matches, RUN_OUTLINE.id) {
-        Some(outline) => run_outline(matches, outline),
-        None => run_files(matches),
-    }
-}
-
-fn valid<'a>(matches: &ArgMatches<'a>) -> Command<'a>
-    requires { IsWhole kind.Valid (rows_of (found_of matches.now)) }
-    ensures { Reads kind.Valid (rows_of (found_of matches.now)) result }
-{
-    Command::Valid {
-        text: file(matches, FORMULA.id),
-        proofs: file(matches, HINTS.id),
-    }
-}
-
-fn clauses<'a>(matches: &ArgMatches<'a>) -> Result<Command<'a>, FieldFault>
-    requires { IsWhole kind.Clauses (rows_of (found_of matches.now)) }
-    ensures reads { IfOk result (Reads kind.Clauses (rows_of (found_of matches.now))) }
-    ensures fault { IfErr result (λ f. (f ≡ Apart) × AreApart (rows_of (found_of matches.now))) }
-{
-    let text = file(matches, FORMULA_OR_PROGRAM.id);
-    let chosen = chosen(matches)?;
-    Ok(Command::Clauses { text, chosen })
-}
-
-fn find<'a>(matches: &ArgMatches<'a>) -> Result<Command<'a>, FieldFault>
-    requires { IsWhole kind.Find (rows_of (found_of matches.now)) }
-    ensures reads { IfOk result (Reads kind.Find (rows_of (found_of matches.now))) }
-    ensures fault { IfErr result (λ f. (f ≡ Apart) × AreApart (rows_of (found_of matches.now))) }
-{
-    let text = file(matches, FORMULA_OR_PROGRAM.id);
-    let chosen = chosen(matches)?;
-    let steps = given_number(matches, STEPS.id);
-    Ok(Command::Find {
-        text,
-        steps,
-        chosen,
-    })
-}
-
-fn outline<'a>(matches: &ArgMatches<'a>) -> Command<'a>
-    requires { IsWhole kind.Outline (rows_of (found_of matches.now)) }
-    ensures { Reads kind.Outline (rows_of (found_of matches.now)) result }
-{
-    Command::Outline {
-        outline: file(matches, OUTLINE.id),
-        text: option(matches, WRITTEN_TEXT.id),
-        derivation: option(matches, WRITTEN_DERIVATION.id),
-        proofs: option(matches, WRITTEN_PROOFS.id),
-        map: option(matches, MAP.id),
-    }
-}
-
-fn verify<'a>(matches: &ArgMatches<'a>, place: usize) -> Result<Command<'a>, FieldFault>
-    requires { IsWhole kind.Verify (rows_of (found_of matches.now)) }
-    ensures reads { IfOk result (Reads kind.Verify (rows_of (found_of matches.now))) }
-    ensures at { IfOk result (IsAt place) }
-    ensures fault { IfErr result (λ f. (f ≡ NoFile) × IsBeyond (rows_of (found_of matches.now)) place) }
-{
-    Ok(Command::Verify {
-        outlines: outline_at(matches, place)?,
-        steps: given_number(matches, STEPS.id),
-        is_runs_only: is_given(matches, RUNS_ONLY.id),
-    })
-}
-
-fn challenge<'a>(matches: &ArgMatches<'a>) -> Command<'a>
-    requires { IsWhole kind.Challenge (rows_of (found_of matches.now)) }
-    ensures { Reads kind.Challenge (rows_of (found_of matches.now)) result }
-{
-    Command::Challenge {
-        outline: file(matches, OUTLINE.id),
-        has_refused: is_given(matches, REFUSED.id),
-    }
-}
-
-fn explain<'a>(matches: &ArgMatches<'a>) -> Command<'a>
-    requires { IsWhole kind.Explain (rows_of (found_of matches.now)) }
-    ensures { Reads kind.Explain (rows_of (found_of matches.now)) result }
-{
-    let number = given_number(matches, REFUSAL.id);
-    Command::Explain { number }
 }
 
 /// The command of this kind; of one over several files, the one over the file at this place.
@@ -223,30 +75,74 @@ fn command_of<'a>(
     ensures fault { IfErr result (IsFieldFault kind (rows_of (found_of matches.now)) place) }
 {
     match kind {
-        Kind::Number => Ok(number(matches)),
-        Kind::Check => Ok(check(matches)),
-        Kind::Conditions => Ok(conditions(matches)),
-        Kind::Prove => Ok(prove(matches)),
-        Kind::Emit => Ok(emit(matches)),
+        Kind::Number => Ok(Command::Number {
+            text: file(matches, PROGRAM.id),
+        }),
+        Kind::Check => Ok(Command::Check {
+            text: file(matches, PROGRAM.id),
+            derivation: file(matches, DERIVATION.id),
+            proofs: file(matches, PROOFS.id),
+        }),
+        Kind::Conditions => Ok(Command::Conditions {
+            text: file(matches, PROGRAM.id),
+            derivation: file(matches, DERIVATION.id),
+            has_formulas: is_given(matches, FORMULAS.id),
+        }),
+        Kind::Prove => Ok(Command::Prove {
+            text: file(matches, PROGRAM.id),
+            derivation: file(matches, DERIVATION.id),
+            steps: given_number(matches, STEPS.id),
+            conditions: option(matches, CONDITIONS.id),
+        }),
+        Kind::Emit => Ok(Command::Emit {
+            text: file(matches, PROGRAM.id),
+            derivation: file(matches, DERIVATION.id),
+            proofs: file(matches, PROOFS.id),
+        }),
         Kind::Run => run(matches),
-        Kind::Valid => Ok(valid(matches)),
-        Kind::Clauses => clauses(matches),
-        Kind::Find => find(matches),
-        Kind::Outline => Ok(outline(matches)),
-        Kind::Verify => verify(matches, place),
-        Kind::Challenge => Ok(challenge(matches)),
-        Kind::Explain => Ok(explain(matches)),
+        Kind::Valid => Ok(Command::Valid {
+            text: file(matches, FORMULA.id),
+            proofs: file(matches, HINTS.id),
+        }),
+        Kind::Clauses => Ok(Command::Clauses {
+            text: file(matches, FORMULA_OR_PROGRAM.id),
+            chosen: chosen(matches)?,
+        }),
+        Kind::Find => Ok(Command::Find {
+            text: file(matches, FORMULA_OR_PROGRAM.id),
+            steps: given_number(matches, STEPS.id),
+            chosen: chosen(matches)?,
+        }),
+        Kind::Outline => Ok(Command::Outline {
+            outline: file(matches, OUTLINE.id),
+            text: option(matches, WRITTEN_TEXT.id),
+            derivation: option(matches, WRITTEN_DERIVATION.id),
+            proofs: option(matches, WRITTEN_PROOFS.id),
+            map: option(matches, MAP.id),
+        }),
+        Kind::Verify => Ok(Command::Verify {
+            outlines: outline_at(matches, place)?,
+            steps: given_number(matches, STEPS.id),
+            is_runs_only: is_given(matches, RUNS_ONLY.id),
+        }),
+        Kind::Challenge => Ok(Command::Challenge {
+            outline: file(matches, OUTLINE.id),
+            has_refused: is_given(matches, REFUSED.id),
+        }),
+        Kind::Explain => Ok(Command::Explain {
+            number: given_number(matches, REFUSAL.id),
+        }),
     }
 }
 
-/// The row of a name.
-fn row_named<'r>(rows: &'r [Row], name: &str) -> Option<&'r Row>
+/// The kind of the row of a name.
+fn kind_named(rows: &[Row], name: &str) -> Option<Kind>
     requires { IsTable rows.now }
-    ensures { option_map (λ row. row.now.kind) result ≡ find (λ kind. bytes_eq (row_of kind).name name.now) kinds }
+    ensures { result ≡ find (λ kind. bytes_eq (row_of kind).name name.now) kinds }
 {
     for row in rows {
         if row.name == name {
-            return Some(row);
+            return Some(row.kind);
         }
     }
     None
@@ -264,9 +160,9 @@ pub fn line_of<'a>(
     ensures at { IfOk result (λ l. IsAt place l.command) }
     ensures fault { IfErr result (IsRefused name.now (rows_of (found_of matches.now)) place) }
 {
-    let row = row_named(&COMMANDS, name).unwrap();
+    let kind = kind_named(&COMMANDS, name).unwrap();
     let settings = settings_of(matches)?;
-    match command_of(row.kind, matches, place) {
+    match command_of(kind, matches, place) {
         Ok(command) => Ok(Line { command, settings }),
         Err(fault) => Err(fault),
     }

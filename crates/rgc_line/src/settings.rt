@@ -35,13 +35,9 @@ pub fn settings_of<'a>(matches: &ArgMatches<'a>) -> Result<Settings<'a>, FieldFa
     ensures settings { IfOk result (HasSettings (rows_of (found_of matches.now))) }
     ensures fault { IfErr result (λ f. (f ≡ UnknownFormat) × IsUnknownFormat (rows_of (found_of matches.now))) }
 {
-    let format = match format(matches) {
-        Ok(format) => format,
-        Err(fault) => return Err(fault),
-    };
     Ok(Settings {
         output: option(matches, OUTPUT.id),
-        format,
+        format: format(matches)?,
         is_explained: is_given(matches, EXPLAINED.id),
         threads: number_or_none(matches, THREADS.id),
     })

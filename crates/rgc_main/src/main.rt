@@ -2,6 +2,7 @@
 #![tactic(auto)]
 
 mod memory;
+mod paint;
 mod version;
 
 ghost use Rattle.std.specs.Prelude.{◌≡◌};
@@ -9,12 +10,12 @@ ghost use Rattle.rg_words.specs.Written.{CanCount};
 
 use clap::error::ErrorKind;
 use memory::Memory;
+use paint::painted;
 use rg_find::Watcher;
-use rg_outline_paint::painted;
 use rg_words::limits::{MOST_PROOF_BYTES, MOST_TEXT_BYTES};
 use rg_words::{Buffered, Device, Out, write_all};
+use rgc_commands::{Context, Files, Sides, perform};
 use rgc_line::{Command, Line, LineFault, Named};
-use rgc_perform::{Files, Sides, perform};
 use std::alloc::AllocError;
 use std::env::VarError;
 use std::fs::{self, File};
@@ -82,7 +83,7 @@ fn usage(rt: &HostRuntime, fault: &LineFault) -> u8 {
     }
 }
 
-/// Prints the version, and behind it at which commit the program was proved, where a file says so; the status.
+/// Prints the version, and after it at which commit the program was proved, where a file says so; the status.
 fn print_version(rt: &HostRuntime, error: &clap::Error) -> u8 {
     match error.print(rt) {
         Ok(()) => shown(rt, &proved_at(rt), 0),
@@ -97,14 +98,14 @@ fn tell(rt: &HostRuntime, text: &str) -> u8 {
 }
 
 /// The conflicts between two lines that tell of a search.
-const CONFLICTS_TOLD: u64 = 1_000;
+const CONFLICTS_REPORTED: u64 = 1_000;
 
-/// Standard error, where a long search is told of if it is a terminal.
+/// Standard error, where a long search is reported of if it is a terminal.
 #[derive(Clone, Copy)]
 struct Terminal<'a> {
     rt: &'a HostRuntime,
     is_terminal: bool,
-    /// The conflicts from which on it is told of again.
+    /// The conflicts from which on it is reported of again.
     next: u64,
 }
 
@@ -113,7 +114,7 @@ impl Watcher for Terminal<'_> {
         if !self.is_terminal || conflicts < self.next {
             return;
         }
-        self.next = conflicts.saturating_add(CONFLICTS_TOLD);
+        self.next = conflicts.saturating_add(CONFLICTS_REPORTED);
         let _ = eprintln!(self.rt; "{conflicts} conflicts, {learned} learned clauses");
     }
 }
@@ -179,19 +180,15 @@ fn performed<R: Threads + Wait + Sync, W: Out, F: Out>(
     let watcher = Terminal {
         rt,
         is_terminal: rt.stderr().is_terminal(),
-        next: CONFLICTS_TOLD,
+        next: CONFLICTS_REPORTED,
     };
-    perform(
-        means.threads,
-        rt.alloc(),
-        means.most,
-        line,
-        files,
-        out,
-        faults,
-        &watcher,
-        sides,
-    )
+    let context = Context {
+        rt: means.threads,
+        alloc: rt.alloc(),
+        threads: means.most,
+        watcher: &watcher,
+    };
+    perform(&context, line, files, out, faults, sides)
 }
 
 /// Does the command through a buffer; the status.
@@ -221,7 +218,7 @@ fn shown(rt: &HostRuntime, bytes: &[u8], status: u8) -> u8 {
 }
 
 /// Writes bytes to standard error, where they can be written.
-fn told(rt: &HostRuntime, bytes: &[u8]) {
+fn reported(rt: &HostRuntime, bytes: &[u8]) {
     let mut faults = Device::new(rt.stderr());
     let _ = write_all(&mut faults, bytes);
 }
@@ -233,7 +230,7 @@ fn written(rt: &HostRuntime, line: &Line<'_>, bytes: &[u8], status: u8) -> Resul
         (Some(name), _) if status == 0 => write_whole(rt, name, bytes),
         (Some(_), Command::Find { .. }) => Ok(shown(rt, bytes, status)),
         (Some(_), _) => {
-            told(rt, bytes);
+            reported(rt, bytes);
             Ok(status)
         }
         (None, Command::Verify { .. }) => {
@@ -242,7 +239,7 @@ fn written(rt: &HostRuntime, line: &Line<'_>, bytes: &[u8], status: u8) -> Resul
         }
         (None, _) => {
             if status == 1 {
-                told(rt, bytes);
+                reported(rt, bytes);
             }
             Ok(shown(rt, bytes, status))
         }
@@ -264,7 +261,7 @@ fn whole<R: Threads + Wait + Sync>(
         return Err(AllocError);
     }
     let status = written(rt, line, out.bytes(), status)?;
-    told(rt, faults.bytes());
+    reported(rt, faults.bytes());
     Ok(status)
 }
 

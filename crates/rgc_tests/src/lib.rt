@@ -8,4 +8,12 @@ mod line;
 #[cfg(test)]
 mod memory;
 #[cfg(test)]
+mod program;
+#[cfg(test)]
+mod programs;
+#[cfg(test)]
+mod runs;
+#[cfg(test)]
+mod threads;
+#[cfg(test)]
 mod writers;

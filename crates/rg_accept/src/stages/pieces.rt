@@ -37,13 +37,13 @@ impl Parsed {
 }
 
 impl Derived {
-    /// The program with the lines that the pieces of a derivation spell, one behind another, which derive its parts. Each piece is read as a
+    /// The program with the lines that the pieces of a derivation spell, one after another, which derive its parts. Each piece is read as a
     /// derivation of its own, of at most `MOST_TEXT_BYTES` bytes; the lines of all pieces are numbered from 1 on.
     ///
     /// # Errors
     ///
-    /// The first fault of the first piece that has one, as `rg_parse::derivation` tells it of the piece alone; then of all lines, as
-    /// `rg_rules::Derivation::of_lines` tells it, at the line of its own piece where a line begins. `Memory` where memory is refused.
+    /// The first fault of the first piece that has one, as `rg_parse::derivation` reports it of the piece alone; then of all lines, as
+    /// `rg_rules::Derivation::of_lines` reports it, at the line of its own piece where a line begins. `Memory` where memory is refused.
     pub fn of_pieces(alloc: Global, program: Program, pieces: &[&[u8]]) -> Result<Derived, Refusal>
         ensures program { IfOk result (λ d. derived_program d ≡ program_tree program) }
         // What is taken are the lines of all pieces, in the order of the pieces, and they derive the program's parts.

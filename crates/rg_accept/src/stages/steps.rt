@@ -22,21 +22,18 @@ use rg_hints::{OneThread, Prover};
 use rg_par::conditions::add_conditions;
 use rg_par::names::add_names;
 use rg_parse::program;
-use rg_pool::InThreads;
 use rg_rules::Derivation;
 use rg_tree::condition::Condition;
 use rg_tree::program::Program;
 use rg_words::Refusal;
 use std::alloc::{AllocError, Global};
-use std::sync::Wait;
-use std::thread::Threads;
 
 impl Parsed {
     /// The program that a text spells.
     ///
     /// # Errors
     ///
-    /// The first fault of the text, as `rg_parse::program` tells it.
+    /// The first fault of the text, as `rg_parse::program` reports it.
     pub fn read(alloc: Global, text: &[u8]) -> Result<Parsed, Refusal>
         // Ok exactly where the text spells a program, unless memory runs out; that program is kept.
         ensures spells { IfOk result (λ p. SpellsProgram text.now (parsed_program p)) }
@@ -80,7 +77,7 @@ impl Derived {
     ///
     /// # Errors
     ///
-    /// The first fault of the derivation, as `rg_rules::Derivation::read` tells it.
+    /// The first fault of the derivation, as `rg_rules::Derivation::read` reports it.
     pub fn read(alloc: Global, program: Program, derivation: &[u8]) -> Result<Derived, Refusal>
         ensures program { IfOk result (λ d. derived_program d ≡ program_tree program) }
         ensures fits { IfOk result (λ d. FitsProgram (program_tree program) derivation.now (derived_lines d)) }
@@ -136,7 +133,7 @@ impl Derived {
     ///
     /// # Errors
     ///
-    /// The first fault of the proofs, as `rg_hints::prove` tells it.
+    /// The first fault of the proofs, as `rg_hints::prove` reports it.
     pub fn prove_by<P: Prover>(
         self,
         prover: &P,
@@ -163,7 +160,7 @@ impl Derived {
     ///
     /// # Errors
     ///
-    /// The first fault of the proofs, as `rg_hints::prove` tells it.
+    /// The first fault of the proofs, as `rg_hints::prove` reports it.
     pub fn prove(self, alloc: Global, proofs: &[u8]) -> Result<Accepted, Refusal>
         ensures program { IfOk result (λ a. accepted_program a ≡ derived_program self) }
         ensures proved { OnOk result (AreProved (conditions_of (derived_program self) (derived_lines self)) proofs.now) }
@@ -172,27 +169,6 @@ impl Derived {
         ensures accepts { AreProved (conditions_of (derived_program self) (derived_lines self)) proofs.now → IfErr result (λ e. e ≡ no_memory) }
     {
         self.prove_by(&OneThread, alloc, proofs)
-    }
-
-    /// The same, in at most so many threads, as `rg_pool::prove_all` tells it.
-    ///
-    /// # Errors
-    ///
-    /// As `prove`.
-    pub fn prove_all<R: Threads + Wait + Sync>(
-        self,
-        rt: &R,
-        alloc: Global,
-        threads: usize,
-        proofs: &[u8],
-    ) -> Result<Accepted, Refusal>
-        ensures program { IfOk result (λ a. accepted_program a ≡ derived_program self) }
-        ensures proved { OnOk result (AreProved (conditions_of (derived_program self) (derived_lines self)) proofs.now) }
-        ensures satisfied { IfOk result (λ a. IsSatisfied (accepted_program a)) }
-        ensures refused { IfErr result (IsProofsRefusal (conditions_of (derived_program self) (derived_lines self)) proofs.now) }
-        ensures accepts { AreProved (conditions_of (derived_program self) (derived_lines self)) proofs.now → IfErr result (λ e. e ≡ no_memory) }
-    {
-        self.prove_by(&InThreads { rt, threads }, alloc, proofs)
     }
 }
 

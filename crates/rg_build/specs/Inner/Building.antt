@@ -2,8 +2,8 @@
 use Rattle.std.specs.Prelude.{List, [], ◌∷◌, ◌++◌, Option, Some, None}
 use Rattle.rg_syntax.specs.Grammar.{Lexeme}
 use Rattle.rg_syntax.specs.Written.{Claim, ShownClaim, SettingTree, WrittenMove}
-use Rattle.rg_frames.specs.Frames.{Open, finished, finished_show, SetFor, for_start, for_move, setting_words, moving}
-use Rattle.rg_frames.specs.Steps.{step}
+use Rattle.rg_build.specs.Frames.{Open, finished, finished_show, SetFor, for_start, for_move, setting_words, moving}
+use Rattle.rg_build.specs.Steps.{step}
 
 abbrev pub steps : List Open → List Lexeme → List Open
 steps os [] = os

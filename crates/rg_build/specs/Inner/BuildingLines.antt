@@ -7,8 +7,8 @@ use Rattle.rg_tree.specs.declared.line.Rule.{Rule}
 use Rattle.rg_tree.specs.declared.line.Rule.TheVariants as rules
 use Rattle.rg_syntax.specs.Grammar.{Lexeme, fixed, opening, number, an_if, a_line}
 use Rattle.rg_syntax.specs.Written.{Claim, WrittenLine, claim, line_text}
-use Rattle.rg_frames.specs.Frames.{Open, whole, open_of}
-use Rattle.rg_frames.specs.Steps.{step}
+use Rattle.rg_build.specs.Frames.{Open, whole, open_of}
+use Rattle.rg_build.specs.Steps.{step}
 use Rattle.rg_build.specs.Inner.Building.{whole_of}
 use Rattle.rg_build.specs.declared.derivations.LineSign.{LineSign}
 use Rattle.rg_build.specs.declared.derivations.LineSign.TheVariants as signs
@@ -154,7 +154,7 @@ next_claim h (a_pre f) (Some g) = in_claim h (a_rely f g) (whole ∷ [])
 next_claim h (a_rely f g) (Some k) = in_claim h (a_guar f g k) (whole ∷ [])
 next_claim h c f = in_head unread
 
--- the whole lines with one that ends behind this formula
+-- the whole lines with one that ends after this formula
 abbrev pub end_line : List WrittenLine → LineStart → Earlier → Option Claim → List WrittenLine
 end_line ls h (a_guar f g k) (Some x) =
     ls ++ record { begin = h.begin; number = h.number; rule = h.rule; statement = h.statement; premises = h.premises; spec = record { pre = f; rely = g; guar = k; post = x } } ∷ []

@@ -1,6 +1,6 @@
 -- How many changes one made.
 use Rattle.std.specs.Prelude.{ℕ, ◌+◌, ◌==◌, List, [], ◌∷◌, if◌then◌else◌}
-use Rattle.rg_stepping.specs.Changes.{Changing}
+use Rattle.rg_floor.specs.Changes.{Changing}
 
 abbrev pub made_by : ℕ → List Changing → ℕ
 made_by who [] = 0

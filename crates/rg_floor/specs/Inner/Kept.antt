@@ -9,7 +9,7 @@ use Rattle.rg_tree.specs.Traces.{State, holds_at, IsTraceOf}
 use Rattle.rg_tree.specs.Programs.{OthersInside}
 use Rattle.rg_code.specs.Code.{BlockTree, zeros}
 use Rattle.rg_machine.specs.Machine.{Configuration}
-use Rattle.rg_stepping.specs.Changes.{Changing, rebuilt, state_after, AreChangesOf}
+use Rattle.rg_floor.specs.Changes.{Changing, rebuilt, state_after, AreChangesOf}
 use Rattle.rg_floor.specs.History.{FloorView, GoTogether, RecordsLead, steps_of, own_steps, change_in}
 
 -- the fields are those of this code, start and limit, and the changes are those of a legal history

@@ -13,14 +13,14 @@ abbrev pub front_field : List ℕ → List ℕ
 front_field bytes = take (prefix_len (λ b. not (is_blank b)) bytes) bytes
 
 -- the bytes from the first blank on
-abbrev pub behind_field : List ℕ → List ℕ
-behind_field bytes = drop (prefix_len (λ b. not (is_blank b)) bytes) bytes
+abbrev pub after_field : List ℕ → List ℕ
+after_field bytes = drop (prefix_len (λ b. not (is_blank b)) bytes) bytes
 
 -- a number that stands for another: it is the same, or both are out of range
 abbrev pub IsUpToMost : ℕ → ℕ → Type 0
 IsUpToMost n m = (n ≡ m) ⊎ ((MOST_HINT_NUMBER < n) × (MOST_HINT_NUMBER < m))
 
--- what the first field is read as, and the fields behind it
+-- what the first field is read as, and the fields after it
 abbrev pub first_read : {A : Type 0} → (List ℕ → Option A) → List (List ℕ) → Option (A × List (List ℕ))
 first_read read [] = None
 first_read read (field ∷ fields) = option_map (λ x. (x, fields)) (read field)

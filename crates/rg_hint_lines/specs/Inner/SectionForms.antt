@@ -5,7 +5,7 @@ use Rattle.rg_words.specs.declared.refusal.Refusal.{Refusal}
 use Rattle.rg_hint_lines.specs.declared.sections.SectionBytes.{SectionBytes}
 use Rattle.rg_hint_lines.specs.Text.{fields_of}
 use Rattle.rg_hint_lines.specs.LineEnds.{EndsLine, IsFrontLine}
-use Rattle.rg_hint_lines.specs.Sections.{SectionText, is_head, headed_lines, behind_front, sections_under}
+use Rattle.rg_hint_lines.specs.Sections.{SectionText, is_head, headed_lines, after_front, sections_under}
 
 -- a number that stands for another: it is the same, or both are greater than the most that counts
 abbrev pub IsUpTo : ℕ → ℕ → Option ℕ → Type 0
@@ -50,19 +50,19 @@ pub record AreLinesBeforeHead (text front : List ℕ) (count : ℕ) : Type 0 whe
 
 -- lines before the first head, with no fault
 abbrev pub IsFront : List ℕ → Type 0
-IsFront front = (sections : Result (List SectionText) Refusal) → behind_front 1 (lines front) sections ≡ sections
+IsFront front = (sections : Result (List SectionText) Refusal) → after_front 1 (lines front) sections ≡ sections
 
 -- lines before the first head, and the fault of the first of them that has one
 abbrev pub IsFaultyFront : List ℕ → Refusal → Type 0
-IsFaultyFront front r = (sections : Result (List SectionText) Refusal) → behind_front 1 (lines front) sections ≡ Err r
+IsFaultyFront front r = (sections : Result (List SectionText) Refusal) → after_front 1 (lines front) sections ≡ Err r
 
 -- the conditions of sections count from 1
 abbrev pub AreNamed : List SectionBytes → Type 0
 AreNamed sections = All (λ s. 0 < s.condition) sections
 
 -- what the heads of a text give, whose first line has this number and is a head
-abbrev pub sections_behind : ℕ → ℕ → List ℕ → Result (List SectionText) Refusal
-sections_behind count number text = sections_under count 0 (headed_lines (lines text) number).1
+abbrev pub sections_after : ℕ → ℕ → List ℕ → Result (List SectionText) Refusal
+sections_after count number text = sections_under count 0 (headed_lines (lines text) number).1
 
 -- the numbers of the lines of sections keep a bound
 abbrev pub HaveRoom : ℕ → List SectionBytes → Type 0

@@ -2,7 +2,7 @@
 use Rattle.std.specs.Prelude.{◌≡◌, ◌⊎◌, ℕ, ◌+◌, ◌<◌, ℤ, List, [], length, slice_index_or}
 use Rattle.rg_hints.specs.Lines.{Section, hint_line_at}
 
--- an empty clause stands at this place: a given one, or, behind all of those, that of a line
+-- an empty clause stands at this place: a given one, or, after all of those, that of a line
 abbrev pub IsEmptyAt : List (List ℤ) → Section → ℕ → Type 0
 IsEmptyAt given s place =
     ((place < length given) × (slice_index_or given place [] ≡ []))

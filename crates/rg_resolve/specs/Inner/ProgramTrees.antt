@@ -12,7 +12,7 @@ use Rattle.rg_resolve.specs.Inner.FormulaTrees.{place_of, typed_term, typed_clai
 abbrev pub assignment_tree : List Word → AssignedTree → Assignment
 assignment_tree words a = record { target = place_of words a.target.text; value = typed_term words (width_at words (place_of words a.target.text)) a.value }
 
--- the items of a sequence after its first: this one, and those behind it
+-- the items of a sequence after its first: this one, and those after it
 abbrev pub items_of : tree.Statement → List tree.Statement → tree.Items
 items_of s [] = tree.one s
 items_of s (t ∷ ts) = tree.more s (items_of t ts)

@@ -128,7 +128,7 @@ pub fn formula_tree(scope: &Scope, f: &FormulaText) -> Result<Formula, Refusal>
     }
 }
 
-/// A connective of a chain, and the operand behind it.
+/// A connective of a chain, and the operand after it.
 #[derive(Clone, Copy)]
 struct Link<'a> {
     junction: Junction,

@@ -16,7 +16,7 @@ use rg_text::token::Token;
 use rg_tree::line::DerivationLine;
 use rg_words::Refusal;
 
-/// The numbers that stand behind `from`, in order.
+/// The numbers that stand after `from`, in order.
 fn premises_of(scope: &Scope, written: &[Token]) -> Result<Vec<u64>, Refusal>
     ensures numbers { IfOk result (λ ns. ns.items ≡ map leaf_number (map (leaf_of scope.now.source.now) written.now)) }
     ensures faultless { IfOk result (λ _. flat_map plain_faults (map (leaf_of scope.now.source.now) written.now) ≡ []) }

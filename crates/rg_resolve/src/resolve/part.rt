@@ -45,7 +45,7 @@ fn has_part(source: &[u8], parts: &[PartText], name: &[u8]) -> bool
     parts.iter().any(|part| name == text(source, &part.name))
 }
 
-/// The tree of a part behind others.
+/// The tree of a part after others.
 fn part_of(scope: &Scope, before: &[PartText], written: &PartText) -> Result<Part, Refusal>
     requires one_state { IsTrue scope.now.one_state }
     requires name { IsName (text_of scope.now.source.now written.now.name) }

@@ -22,7 +22,7 @@ fn is_named(source: &[u8], settings: &[Setting], name: &[u8]) -> bool
         .any(|setting| name == text(source, &setting.word))
 }
 
-/// The value that a setting behind others gives its word.
+/// The value that a setting after others gives its word.
 #[tactic(auto, using(rg_leaves::proofs::Refusals::refusals), unfolding(crate::specs::Settings::setting_faults))]
 fn word_value(scope: &Scope, before: &[Setting], setting: &Setting) -> Result<WordValue, Refusal>
     ensures value { IfOk result (λ v. v ≡ word_value scope.now.layout.now (leaves scope.now.source.now setting.now)) }

@@ -126,7 +126,7 @@ start_of (Fixed Inv) = Prefix Expression
 start_of (Fixed Open) = Opener
 start_of (Fixed _) = Other
 
--- the place behind a prefix operator
+-- the place after a prefix operator
 abbrev pub operand_of : Sort → Point
 operand_of Formula = Negated
 operand_of Expression = Inverted
@@ -316,7 +316,7 @@ at_statement b keywords.Await = Some (On (AwaitGuard b))
 at_statement b keywords.While = Some (Inside LoopGuard (Item b))
 at_statement b _ = None
 
--- where the `end` behind a block leads
+-- where the `end` after a block leads
 abbrev pub block_end : BlockKind → Option Turn
 block_end (blocks.Body n) = Some (On (AfterPart n))
 block_end blocks.Then = None

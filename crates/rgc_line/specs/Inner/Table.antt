@@ -1,32 +1,18 @@
 -- The rows of the table as the code has them.
-use Rattle.std.specs.Prelude.{◌≡◌, ◌⊎◌, ◌<◌, ◌^◌, ◌||◌, ℕ, Bool, true, false, Option, List, [], ◌∷◌, length, map, nat_lt, is_some, option_map, Some, None}
+use Rattle.std.specs.Prelude.{◌≡◌, ◌⊎◌, ◌<◌, ◌^◌, ◌||◌, ℕ, Bool, true, false, Option, List, [], ◌∷◌, length, map, nat_lt, is_some, option_map, Some}
 use Rattle.std.specs.Str.Parse.{IsNumeral, without_leading_plus, digits_value}
 use Rattle.std.specs.Borrow.{Bor}
 use Rattle.clap.specs.Words.{App, Rule, Row as Given, Shape, Text, app_of, first_of, one_of, with_subcommand}
 use Rattle.clap.specs.declared.builder.command.Command.{Command}
 use Rattle.clap.specs.declared.builder.command.Command.TheViews.{out-Command}
-use Rattle.rgc_line.specs.App.{file_rule, place_rule, files_rule, option_rule, number_rule, needed_rule, default_rule, flag_rule, leaf, row_of, kinds, chosen_derivation, chosen_condition, threads}
-use Rattle.rgc_line.specs.Line.{HasFile, HasNumber, HasNo, HasValues, contents_of, IsFieldFault}
+use Rattle.rgc_line.specs.App.{rule_of_form, leaf, row_of, kinds, chosen_derivation, chosen_condition, threads}
+use Rattle.rgc_line.specs.Line.{HasNo, HasValues, IsThere, chosen_values, contents_of, IsFieldFault}
 use Rattle.rgc_line.specs.declared.fields.FieldFault.{FieldFault}
 use Rattle.rgc_line.specs.declared.command.Command.{Command as RgCommand}
 use Rattle.rgc_line.specs.declared.commands.Kind.{Kind}
 use Rattle.rgc_line.specs.declared.command.Chosen.{Chosen}
 use Rattle.rgc_line.specs.declared.commands.Field.{Field}
 use Rattle.rgc_line.specs.declared.commands.Row.{Row}
-use Rattle.rgc_line.specs.declared.commands.Form.{Form}
-use Rattle.rgc_line.specs.declared.commands.Form.TheVariants.{File, Place, Files, OptionalFile, OptionalText, OptionalNumber, NeededNumber, NumberOrMillion, Flag}
-
--- the argument of a form and an id
-abbrev pub rule_of_form : Form → Text → Rule
-rule_of_form File id = file_rule id
-rule_of_form Place id = place_rule id
-rule_of_form Files id = files_rule id
-rule_of_form OptionalFile id = option_rule id
-rule_of_form OptionalText id = option_rule id
-rule_of_form OptionalNumber id = number_rule id
-rule_of_form NeededNumber id = needed_rule id
-rule_of_form NumberOrMillion id = default_rule id
-rule_of_form Flag id = flag_rule id
 
 -- the argument that a field is
 abbrev pub rule_at : Field → Rule
@@ -45,17 +31,13 @@ with_subcommands a (shape ∷ rest) = with_subcommands (with_subcommand a shape)
 abbrev pub IsLeafOf : Row → Command → Type 0
 IsLeafOf row c = (app_of c ≡ record { top = shape_at row; subs = [] }) × ((out-Command c).has_globals ≡ false)
 
--- the rows are those of the table, one for each kind, in its order
+-- the rows have the kinds of the table, in its order, and their names
 abbrev pub IsTable : List Row → Type 0
-IsTable rows = (map shape_at rows ≡ map row_of kinds) × (map (λ row. row.kind) rows ≡ kinds)
+IsTable rows = map {B = Kind × Text} (λ row. (row.kind, row.name.now)) rows ≡ map (λ kind. (kind, (row_of kind).name)) kinds
 
 -- the text is a number in decimal digits, of 64 bits
 abbrev pub IsNumberText : Text → Type 0
 IsNumberText text = IsNumeral 10 (without_leading_plus text) × (digits_value 10 (without_leading_plus text) < 2 ^ 64)
-
--- the words have something at the id
-abbrev pub IsThere : List Given → Text → Type 0
-IsThere rows id = (text : Text) × (first_of id rows ≡ Some text)
 
 -- the words have a number at the id
 abbrev pub IsNumber : List Given → Text → Type 0
@@ -76,14 +58,14 @@ IsSound true false rows id = IsThere rows id
 IsSound false true rows id = IsNumberIf rows id
 IsSound false false rows id = Unit {0}
 
--- the same of each of the arguments
+-- what the words have at each of the arguments
 abbrev pub AreSound : List Given → List Rule → Type 0
 AreSound rows [] = Unit {0}
 AreSound rows (rule ∷ rules) = IsSound (is_wanted rule) (is_some rule.parser) rows rule.id × AreSound rows rules
 
--- the same of the arguments of a command, and of the number of threads, which each is asked for
+-- what the words have at the number of threads, which each command is asked for, and at the command's arguments
 abbrev pub IsWhole : Kind → List Given → Type 0
-IsWhole kind rows = IsNumberIf rows threads.id × AreSound rows (row_of kind).rules
+IsWhole kind rows = AreSound rows (threads ∷ (row_of kind).rules)
 
 -- the subcommand is one of the table, and `clap` finds no fault in its words
 pub record IsListed (name : Text) (rows : List Given) : Type 0 where
@@ -99,14 +81,12 @@ pub record IsRefused (name : Text) (rows : List Given) (place : ℕ) (fault : Fi
 
 -- the command is of this kind, and the matches have its values
 abbrev pub Reads : Kind → List Given → RgCommand → Type 0
-Reads kind rows command = ((contents_of command).kind ≡ kind) × HasValues rows (row_of kind).rules (contents_of command).values
+Reads kind rows command = ((contents_of command).0 ≡ kind) × HasValues rows (row_of kind).rules (contents_of command).1
 
 -- the file of this id is the one that the words name, and none where they name none
 abbrev pub HasOption : List Given → Text → Option (Bor Text) → Type 0
 HasOption rows id file = first_of id rows ≡ option_map (λ (s : Bor Text). s.now) file
 
--- a condition is chosen by both options, and none is by neither
+-- the condition is chosen by the two options
 abbrev pub HasChosen : List Given → Option Chosen → Type 0
-HasChosen rows None = HasNo rows chosen_derivation.id × HasNo rows chosen_condition.id
-HasChosen rows (Some chosen) =
-    HasFile rows chosen_derivation.id chosen.derivation × HasNumber rows chosen_condition.id chosen.condition
+HasChosen rows chosen = HasValues rows (chosen_derivation ∷ chosen_condition ∷ []) (chosen_values chosen [])

@@ -1,10 +1,10 @@
 use Rattle.std.proofs.Common.{◌∷◌, [], ap, ◌∙◌}
 use Rattle.rg_syntax.specs.Written.{claim}
-use Rattle.rg_frames.specs.Frames.{whole}
+use Rattle.rg_build.specs.Frames.{whole}
 use Rattle.rg_syntax.specs.Texts.{claim_of}
 use Rattle.rg_build.specs.Inner.Building.{steps, whole_of}
 use Rattle.rg_build.proofs.Builds.{builds_formula}
-use Rattle.rg_frames.proofs.Views.{some_view}
+use Rattle.rg_build.proofs.Views.{some_view}
 use Rattle.rg_build.proofs.formulas.build_formula.Goals as goal
 
 pub returns : goal.returns

@@ -2,11 +2,11 @@ use Rattle.std.proofs.Common.{◌∷◌, [], map, ap, ◌∙◌}
 use Rattle.std.proofs.lemmas.Result.{IfOk-weaker}
 use Rattle.rg_syntax.specs.Grammar.{moves}
 use Rattle.rg_syntax.specs.Written.{move_text}
-use Rattle.rg_frames.specs.Frames.{moving}
+use Rattle.rg_build.specs.Frames.{moving}
 use Rattle.rg_syntax.specs.Texts.{moves_of}
 use Rattle.rg_build.specs.Inner.Building.{steps, whole_moves_of}
 use Rattle.rg_build.proofs.Builds.{builds_moves}
-use Rattle.rg_frames.proofs.Views.{some_view}
+use Rattle.rg_build.proofs.Views.{some_view}
 use Rattle.rg_build.proofs.formulas.build_moves.Goals as goal
 
 pub returns : goal.returns

@@ -1,11 +1,11 @@
 use Rattle.std.proofs.Common.{false, ◌∷◌, [], map, ap, ◌∙◌}
 use Rattle.rg_syntax.specs.Grammar.{show}
 use Rattle.rg_syntax.specs.Written.{show_text, declared_word}
-use Rattle.rg_frames.specs.Frames.{declaring}
+use Rattle.rg_build.specs.Frames.{declaring}
 use Rattle.rg_syntax.specs.Texts.{shown_claim}
 use Rattle.rg_build.specs.Inner.Building.{steps, whole_show_of}
 use Rattle.rg_build.proofs.Builds.{builds_show}
-use Rattle.rg_frames.proofs.Views.{some_view}
+use Rattle.rg_build.proofs.Views.{some_view}
 use Rattle.rg_build.proofs.formulas.build_show.Goals as goal
 
 pub returns : goal.returns

@@ -1,11 +1,11 @@
 use Rattle.std.proofs.Common.{◌∷◌, [], map, ap, ◌∙◌}
 use Rattle.rg_syntax.specs.Grammar.{settings}
 use Rattle.rg_syntax.specs.Written.{setting}
-use Rattle.rg_frames.specs.Frames.{for_start, setting_words}
+use Rattle.rg_build.specs.Frames.{for_start, setting_words}
 use Rattle.rg_syntax.specs.Texts.{settings_of}
 use Rattle.rg_build.specs.Inner.Building.{steps, whole_start_of}
 use Rattle.rg_build.proofs.Builds.{builds_start}
-use Rattle.rg_frames.proofs.Views.{some_view}
+use Rattle.rg_build.proofs.Views.{some_view}
 use Rattle.rg_build.proofs.formulas.build_start.Goals as goal
 
 pub returns : goal.returns

@@ -2,7 +2,7 @@ use Rattle.std.proofs.Common.{ap, sym, ◌∙◌, ◌∷◌, [], map}
 use Rattle.std.proofs.lemmas.List.{take_all}
 use Rattle.rg_text.specs.declared.kind.Kind.TheVariants.{Name}
 use Rattle.rg_syntax.specs.Grammar.{lexeme_of}
-use Rattle.rg_frames.specs.Frames.{open_of}
+use Rattle.rg_build.specs.Frames.{open_of}
 use Rattle.rg_build.specs.Inner.Building.{steps}
 use Rattle.rg_build.proofs.BuildLemmas.{steps_more}
 use Rattle.rg_build.proofs.formulas.read.Goals as goal

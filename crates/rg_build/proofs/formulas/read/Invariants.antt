@@ -1,6 +1,6 @@
 use Rattle.std.proofs.Common.{◌≡◌, ℕ, List, [], ◌∷◌, map, take, reverse}
 use Rattle.rg_syntax.specs.Grammar.{lexeme_of}
-use Rattle.rg_frames.specs.Frames.{open_of}
+use Rattle.rg_build.specs.Frames.{open_of}
 use Rattle.rg_build.specs.Inner.Building.{steps}
 use Rattle.rg_build.proofs.formulas.read.Given as goal
 

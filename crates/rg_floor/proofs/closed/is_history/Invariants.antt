@@ -2,7 +2,7 @@ use Rattle.std.proofs.Common.{◌≡◌, drop}
 use Rattle.std.specs.Prelude.{◌↔◌}
 use Rattle.rg_words.specs.Layout.{widths_of}
 use Rattle.rg_tree.specs.ProgramTrees.{program}
-use Rattle.rg_stepping.specs.Changes.{rebuilt}
+use Rattle.rg_floor.specs.Changes.{rebuilt}
 use Rattle.rg_floor.proofs.closed.is_history.Given as goal
 
 -- what is left is to be compared, and all before was equal

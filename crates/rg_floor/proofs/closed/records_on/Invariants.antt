@@ -1,7 +1,7 @@
 use Rattle.std.proofs.Common.{◌≡◌, ◌++◌, drop}
 use Rattle.rg_words.specs.Layout.{widths_of}
 use Rattle.rg_tree.specs.ProgramTrees.{program}
-use Rattle.rg_stepping.specs.Changes.{rebuilt}
+use Rattle.rg_floor.specs.Changes.{rebuilt}
 use Rattle.rg_floor.proofs.closed.records_on.Given as goal
 
 -- what was made, and what the rest will make, is the whole

@@ -1,5 +1,5 @@
 use Rattle.std.proofs.Common.{◌≡◌, drop}
-use Rattle.rg_stepping.specs.Changes.{state_after}
+use Rattle.rg_floor.specs.Changes.{state_after}
 use Rattle.rg_floor.proofs.closed.state_after.Given as goal
 
 -- the rest of the changes lead to the same state

@@ -1,6 +1,6 @@
 use Rattle.std.proofs.Common.{Some, ap, sym, ◌∙◌}
 use Rattle.rg_hint_lines.proofs.Literals.{within_back}
-use Rattle.rg_hint_lines.proofs.FieldFronts.{signed_behind, literal_none, literal_zero, literal_some}
+use Rattle.rg_hint_lines.proofs.FieldFronts.{signed_after, literal_none, literal_zero, literal_some}
 use Rattle.rg_hint_lines.proofs.text.front_literal.Goals as goal
 
 pub returns-in_default-clause-value : goal.returns-in_default-clause-value
@@ -18,5 +18,5 @@ returns-clause-value c =
     let literal = c.signed_literal in (
       literal_some c.args.bytes.now c.sign_len-sign.result c.sign_len-sign.ensures.value c.in-Some.number value.0 (sym c.is_minus_zero.ensures ∙ c.if-is_minus_zero.false)
           ∙ ap Some (sym literal.ensures.value ∙ sym (within_back literal.result literal.ensures.within)),
-      value.1 ∙ signed_behind c.args.bytes.now c.sign_len-sign.result c.sign_len-sign.ensures.value,
+      value.1 ∙ signed_after c.args.bytes.now c.sign_len-sign.result c.sign_len-sign.ensures.value,
     )

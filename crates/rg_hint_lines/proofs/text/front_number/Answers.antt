@@ -1,5 +1,5 @@
 use Rattle.std.proofs.Common.{◌∙◌, sym, arith}
-use Rattle.rg_hint_lines.proofs.FieldFronts.{other_front, no_digits, too_great, front_number_is, behind_is}
+use Rattle.rg_hint_lines.proofs.FieldFronts.{other_front, no_digits, too_great, front_number_is, after_is}
 use Rattle.rg_hint_lines.proofs.text.front_number.Goals as goal
 use Rattle.rg_hint_lines.proofs.text.front_number.Goals.{then-count-eq0-via-then-count-eq0, then-count-eq0-via-else-count-eq0+then-number-gt-MOST}
 
@@ -24,5 +24,5 @@ returns-clause-value c =
     let n = c.leading_number-number in
     let ends = sym c.begins_filled.ensures ∙ c.if-begins_filled.false in (
       front_number_is c.args.bytes.now c.skip-rest.result.now n.result.1 n.ensures.count c.skip-rest.ensures ends n.result.0 n.ensures.number (omega (arith, c.if-count-eq0.false)) (omega (arith, c.if-number-gt-MOST.false)),
-      behind_is c.args.bytes.now c.skip-rest.result.now n.result.1 n.ensures.count c.skip-rest.ensures ends,
+      after_is c.args.bytes.now c.skip-rest.result.now n.result.1 n.ensures.count c.skip-rest.ensures ends,
     )

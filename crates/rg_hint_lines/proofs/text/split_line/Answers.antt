@@ -10,18 +10,18 @@ returns-then-is_empty-clause-lines c =
     let text = c.args.text.now in
     let n = prefix_len (λ b. not (eqb b 10)) text in
     let none = nothing_left c.split_at.result.1.now c.is_empty.result c.is_empty.ensures c.if-is_empty.true in
-    let behind : drop n text ≡ [] = rw (c.split_at.ensures.back, c.line_len-end.ensures.value) at none in
+    let after : drop n text ≡ [] = rw (c.split_at.ensures.back, c.line_len-end.ensures.value) at none in
     let some : 0 < length c.split_at.result.0.now = omega (arith, c.requires, c.split_at.ensures.front_len, c.split_at.ensures.back_len, ap length none) in
     let size : 0 < length (take n text) = rw (c.split_at.ensures.front, c.line_len-end.ensures.value) at some in
-    rw (c.split_at.ensures.front, c.split_at.ensures.back, c.line_len-end.ensures.value) (last_line text size behind ∙ ap (λ (ys : List ℕ). take n text ∷ lines ys) (sym behind))
+    rw (c.split_at.ensures.front, c.split_at.ensures.back, c.line_len-end.ensures.value) (last_line text size after ∙ ap (λ (ys : List ℕ). take n text ∷ lines ys) (sym after))
 
 pub returns-clause-lines : goal.returns-clause-lines
 returns-clause-lines c =
     let text = c.args.text.now in
     let n = prefix_len (λ b. not (eqb b 10)) text in
     let some = some_left c.split_at.result.1.now c.is_empty.result c.is_empty.ensures c.if-is_empty.false in
-    let behind : 0 < length (drop n text) = rw (c.split_at.ensures.back, c.line_len-end.ensures.value) at some in
-    rw (c.strip_carriage_return.ensures, c.skip.ensures, c.split_at.ensures.front, c.split_at.ensures.back, c.line_len-end.ensures.value) (next_line text behind)
+    let after : 0 < length (drop n text) = rw (c.split_at.ensures.back, c.line_len-end.ensures.value) at some in
+    rw (c.strip_carriage_return.ensures, c.skip.ensures, c.split_at.ensures.front, c.split_at.ensures.back, c.line_len-end.ensures.value) (next_line text after)
 
 pub returns-then-is_empty-clause-front : goal.returns-then-is_empty-clause-front
 returns-then-is_empty-clause-front c =
@@ -32,6 +32,6 @@ returns-clause-front c =
     let text = c.args.text.now in
     let n = prefix_len (λ b. not (eqb b 10)) text in
     let some = some_left c.split_at.result.1.now c.is_empty.result c.is_empty.ensures c.if-is_empty.false in
-    let behind : 0 < length (drop n text) = rw (c.split_at.ensures.back, c.line_len-end.ensures.value) at some in
-    let cut : text ≡ (take n text ++ 10 ∷ []) ++ c.skip.result.now = rw (c.skip.ensures, c.split_at.ensures.back, c.line_len-end.ensures.value) (text_cut text behind) in
+    let after : 0 < length (drop n text) = rw (c.split_at.ensures.back, c.line_len-end.ensures.value) at some in
+    let cut : text ≡ (take n text ++ 10 ∷ []) ++ c.skip.result.now = rw (c.skip.ensures, c.split_at.ensures.back, c.line_len-end.ensures.value) (text_cut text after) in
     front_line text (take n text ++ 10 ∷ []) c.strip_carriage_return.result.now c.skip.result.now cut (inr (take n text, refl)) (returns-clause-lines c)

@@ -18,5 +18,5 @@ pub returns-in-Await-clause-can : goal.returns-in-Await-clause-can
 returns-in-Await-clause-can c =
     let legal = rw c.in-Await.is at c.requires.legal.1 in
     let st = rw c.requires.state at c.facts.ensures.state in
-    let told = rw c.deref.ensures.value at c.is_told.ensures.told in
-    rw c.in-Await.is ((λ y. await_can c.args.layout.now c.requires.legal.0 c.in-Await.field-0 _ _ _ c.args.state.now.values legal st (told ∙ ap (λ v. Some v) y)), (λ x. let h = x.2.0 in cc (told, h)))
+    let reported = rw c.deref.ensures.value at c.is_reported.ensures.reported in
+    rw c.in-Await.is ((λ y. await_can c.args.layout.now c.requires.legal.0 c.in-Await.field-0 _ _ _ c.args.state.now.values legal st (reported ∙ ap (λ v. Some v) y)), (λ x. let h = x.2.0 in cc (reported, h)))

@@ -14,8 +14,8 @@ returns-then-not-same_if c =
       (λ agree.
           let here = (split.0 (c.loop-word.invariant.needed agree)).0 in
           let same = rw (← c.is_fixed.ensures, ← c.get.ensures.exact, ← c.get-in-loop-word.ensures.exact) at here in
-          let told = c.same_if.ensures.1 same in
-          search (rules, told, c.if-not-same_if.true)),
+          let reported = c.same_if.ensures.1 same in
+          search (rules, reported, c.if-not-same_if.true)),
     )
 
 pub loop-word-preserved : goal.loop-word-preserved
@@ -25,8 +25,8 @@ loop-word-preserved c =
     let before = ap (λ ws. length ws) c.requires.before in
     let after = ap (λ ws. length ws) c.requires.after in
     let split = agree_at c.args.layout.now c.args.before.now.values c.args.after.now.values c.loop-word.word less (omega (arith, c.facts.ensures.widths, before, size, less)) (omega (arith, c.facts-2.ensures.widths, after, size, less)) in
-    let told : c.same_if.result ≡ true = search (rules, c.if-not-same_if.false) in
-    let same = rw (c.is_fixed.ensures, c.get.ensures.exact, c.get-in-loop-word.ensures.exact) at (c.same_if.ensures.0 told) in
+    let reported : c.same_if.result ≡ true = search (rules, c.if-not-same_if.false) in
+    let same = rw (c.is_fixed.ensures, c.get.ensures.exact, c.get-in-loop-word.ensures.exact) at (c.same_if.ensures.0 reported) in
     record {
       enough = λ a. c.loop-word.invariant.enough (split.1 (same, rw (add-one c.loop-word.word) at a));
       needed = λ a. rw (add-one c.loop-word.word) (split.0 (c.loop-word.invariant.needed a)).1;

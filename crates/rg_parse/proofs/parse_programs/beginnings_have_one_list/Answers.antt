@@ -1,4 +1,4 @@
-use Rattle.rg_build_programs.proofs.Beginnings.{one_beginning, all_begun}
+use Rattle.rg_build.proofs.Beginnings.{one_beginning, all_begun}
 use Rattle.rg_parse.proofs.parse_programs.beginnings_have_one_list.Goals as goal
 
 pub returns : goal.returns

@@ -1,7 +1,7 @@
 use Rattle.std.proofs.Common.{◌+◌, inr, ap, ◌∙◌}
 use Rattle.rg_words.specs.Refusals.{refused_at}
 use Rattle.rg_words.specs.declared.refusal.RefusalNumber.TheVariants.{BadByte}
-use Rattle.rg_text.proofs.CutSteps.{line_behind_gap, bad_byte, tokens_to, line_there, end_within}
+use Rattle.rg_text.proofs.CutSteps.{line_after_gap, bad_byte, tokens_to, line_there, end_within}
 use Rattle.rg_text.proofs.tokens.cut.Goals as goal
 
 pub returns-in_default-clause-refused : goal.returns-in_default-clause-refused
@@ -11,7 +11,7 @@ returns-in_default-clause-refused c =
     inr (
       c.loop-file.end + c.gap_len.result,
       bad_byte source _ _ _ _ c.gap_len.ensures.is turn.line c.line_feeds.ensures _ turn.tokens turn.within c.gap_len.ensures.within c.if-start-source.false c.in_default.ensures,
-      c.refusal.ensures ∙ ap (refused_at BadByte c.args.file) (line_behind_gap source _ _ _ _ c.gap_len.ensures.is turn.line c.line_feeds.ensures),
+      c.refusal.ensures ∙ ap (refused_at BadByte c.args.file) (line_after_gap source _ _ _ _ c.gap_len.ensures.is turn.line c.line_feeds.ensures),
     )
 
 pub loop-file-preserved : goal.loop-file-preserved

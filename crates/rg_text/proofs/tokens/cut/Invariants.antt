@@ -10,6 +10,6 @@ invariant-loop-file l = record {
   tokens : AreTokens l.source 0 l.tokens.items l.end;
 }
 
--- the bytes behind it
+-- the bytes after it
 abbrev pub decreases-loop-file : goal.decreases-loop-file
 decreases-loop-file l = length l.source - l.end

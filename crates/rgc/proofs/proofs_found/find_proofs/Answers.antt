@@ -9,11 +9,11 @@ use Rattle.rgc.proofs.proofs_found.find_proofs.Goals as goal
 pub returns-in-Err-clause-refused : goal.returns-in-Err-clause-refused
 returns-in-Err-clause-refused g c =
     let asked = conditions_of (derived_program c.args.derived.now) (derived_lines c.args.derived.now) in
-    let same : map condition_tree c.as_slice.result.now ≡ asked = ap (λ (xs : List Condition). map condition_tree xs) c.as_slice.ensures.value ∙ c.in_ok-conditions.ensures.list in
-    all_refused c.as_slice.result.now asked c.args.steps c.in-Err.refusal same c.in-Err.ensures.refused
+    let same : map condition_tree c.as_slice-all.result.now ≡ asked = ap (λ (xs : List Condition). map condition_tree xs) c.as_slice-all.ensures.value ∙ c.in_ok-conditions.ensures.list in
+    all_refused c.as_slice-all.result.now asked c.args.steps c.in-Err.refusal same c.in-Err.ensures.refused
 
 pub returns-clause-refused : goal.returns-clause-refused
 returns-clause-refused g c =
     let asked = conditions_of (derived_program c.args.derived.now) (derived_lines c.args.derived.now) in
-    let same : map condition_tree c.as_slice-2.result.now ≡ asked = ap (λ (xs : List Condition). map condition_tree xs) c.as_slice-2.ensures.value ∙ c.in_ok-conditions.ensures.list in
-    found_refused c.as_slice-2.result.now asked c.args.steps c.as_bytes.result.now c.in-Err-prove.refusal same c.in-Err-prove.ensures.refused
+    let same : map condition_tree c.as_slice-all.result.now ≡ asked = ap (λ (xs : List Condition). map condition_tree xs) c.as_slice-all.ensures.value ∙ c.in_ok-conditions.ensures.list in
+    found_refused c.as_slice-all.result.now asked c.args.steps c.as_bytes.result.now c.in-Err-prove_all.refusal same c.in-Err-prove_all.ensures.refused

@@ -1,7 +1,7 @@
 use Rattle.std.proofs.Common.{◌≡◌, ◌∙◌, ◌-◌, suc, map, ap, sym, arith, rules}
 use Rattle.std.specs.Prelude.{string_bytes}
 use Rattle.rgc.specs.Failures.{name_at}
-use Rattle.rgc.proofs.Told.{name_at_place}
+use Rattle.rgc.proofs.Reported.{name_at_place}
 use Rattle.rgc.proofs.proofs_found.name_at.Goals as goal
 
 pub returns : goal.returns

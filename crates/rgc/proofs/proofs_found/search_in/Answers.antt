@@ -11,7 +11,7 @@ loop-place-preserved g c =
     let order : c.args.from ≤ place = search rules in
     let low : c.args.from + 1 ≤ place + 1 = omega (arith, order) in
     record {
-      told = taken_there c.args.conditions.now place c.in-Ok.sought.judged c.loop-place.found.unproved.items c.take.new.self.unproved.items small (λ t is. (c.in-Ok.ensures.answer t is).0) c.loop-place.invariant.told c.in_ok-take.ensures;
+      reported = taken_there c.args.conditions.now place c.in-Ok.sought.judged c.loop-place.found.unproved.items c.take.new.self.unproved.items small (λ t is. (c.in-Ok.ensures.answer t is).0) c.loop-place.invariant.reported c.in_ok-take.ensures;
       others = taken_or_holds cs (c.args.from + 1) (place + 1) c.in-Ok.sought.judged c.loop-place.found.unproved.items c.take.new.self.unproved.items low (λ t is. (c.in-Ok.ensures.answer t is).0) c.loop-place.invariant.others c.in_ok-take.ensures;
       known = c.in-Ok.ensures.known;
       keep = keep_more cs (c.args.from + 1) (place + 1) c.in-Ok.sought c.loop-place.invariant.keep c.in-Ok.ensures.answer;

@@ -3,35 +3,35 @@ use Rattle.std.specs.Borrow.{Bor}
 use Rattle.std.proofs.lemmas.Result.{err_from_is_err_and}
 use Rattle.rgc_line.specs.declared.command.Chosen.{Chosen}
 use Rattle.rgc_line.specs.declared.command.Command.TheVariants.{Clauses}
-use Rattle.rgc_line.specs.declared.command.Format.TheVariants.{Plain}
+use Rattle.rgc_line.specs.declared.command.Format.{Format}
 use Rattle.rgc_commands.specs.declared.files.Files.{Files}
 use Rattle.rgc_commands.specs.declared.stops.Stop.{Stop}
 use Rattle.rgc_commands.specs.Stopped.{text_line, derivation_line}
-use Rattle.rgc_commands.specs.Stops.{IsDevice, Stops}
+use Rattle.rgc_commands.specs.Inner.TextStops.{IsDevice, Stops}
 use Rattle.rgc_commands.proofs.Stopping.{read_past, device_stops}
 use Rattle.rgc_commands.proofs.commands.clauses.Goals as goal
 
 -- the text can't be read, of a formula or of a condition
-chosen_device : (t : Bor (List ℕ)) (chosen : Option Chosen) (files : Files) (old : Option (List ℕ)) (m : ℕ) (stop : Stop) → ((rest : Option (List ℕ)) → IsDevice (text_line files rest) stop) → Stops Plain (Clauses t chosen) files old old m m stop
-chosen_device t None files old m stop h = device_stops Plain (Clauses t None) files old m stop (h None)
-chosen_device t (Some chosen) files old m stop h = device_stops Plain (Clauses t (Some chosen)) files old m stop (h (derivation_line files None))
+chosen_device : (f : Format) (t : Bor (List ℕ)) (chosen : Option Chosen) (files : Files) (old : Option (List ℕ)) (m : ℕ) (stop : Stop) → ((rest : Option (List ℕ)) → IsDevice (text_line files rest) stop) → Stops f (Clauses t chosen) files old old m m stop
+chosen_device f t None files old m stop h = device_stops f (Clauses t None) files old m stop (h None)
+chosen_device f t (Some chosen) files old m stop h = device_stops f (Clauses t (Some chosen)) files old m stop (h (derivation_line files None))
 
 pub returns-in_err-print_clauses-in-None-clause-stopped : goal.returns-in_err-print_clauses-in-None-clause-stopped
-returns-in_err-print_clauses-in-None-clause-stopped g c = λ t.
+returns-in_err-print_clauses-in-None-clause-stopped g c = λ f t.
     let p = err_from_is_err_and c.from_residual-in_err-print_clauses-in-None.result c.from_residual-in_err-print_clauses-in-None.ensures.1 in
     rw (p.1, p.2, c.in-None.is, c.in_ok-text.ensures.bytes) (inl c.in_err-print_clauses-in-None.ensures.stopped)
 
 pub returns-in_err-derivation-in-Some-clause-stopped : goal.returns-in_err-derivation-in-Some-clause-stopped
-returns-in_err-derivation-in-Some-clause-stopped g c = λ t.
+returns-in_err-derivation-in-Some-clause-stopped g c = λ f t.
     let p = err_from_is_err_and c.from_residual-in_err-derivation-in-Some.result c.from_residual-in_err-derivation-in-Some.ensures.1 in
-    rw (p.1, p.2, c.in-Some.is) (device_stops Plain (Clauses t (Some c.in-Some.chosen)) c.args.files.now _ _ _ (read_past _ _ _ _ _ c.in_ok-text.ensures.bytes (c.in_err-derivation-in-Some.ensures.unread None)))
+    rw (p.1, p.2, c.in-Some.is) (device_stops f (Clauses t (Some c.in-Some.chosen)) c.args.files.now _ _ _ (read_past _ _ _ _ _ c.in_ok-text.ensures.bytes (c.in_err-derivation-in-Some.ensures.unread None)))
 
 pub returns-in_err-print_condition_clauses-in-Some-clause-stopped : goal.returns-in_err-print_condition_clauses-in-Some-clause-stopped
-returns-in_err-print_condition_clauses-in-Some-clause-stopped g c = λ t.
+returns-in_err-print_condition_clauses-in-Some-clause-stopped g c = λ f t.
     let p = err_from_is_err_and c.from_residual-in_err-print_condition_clauses-in-Some.result c.from_residual-in_err-print_condition_clauses-in-Some.ensures.1 in
     rw (p.1, p.2, c.in-Some.is, c.in_ok-text.ensures.bytes, c.in_ok-derivation-in-Some.ensures.bytes) (inl c.in_err-print_condition_clauses-in-Some.ensures.stopped)
 
 pub returns-in_err-text-clause-stopped : goal.returns-in_err-text-clause-stopped
-returns-in_err-text-clause-stopped g c = λ t.
+returns-in_err-text-clause-stopped g c = λ f t.
     let p = err_from_is_err_and c.from_residual.result c.from_residual.ensures.1 in
-    rw (p.1, p.2) (chosen_device t c.args.chosen c.args.files.now _ _ _ c.in_err-text.ensures.unread)
+    rw (p.1, p.2) (chosen_device f t c.args.chosen c.args.files.now _ _ _ c.in_err-text.ensures.unread)

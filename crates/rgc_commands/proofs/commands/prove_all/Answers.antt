@@ -1,14 +1,13 @@
 use Rattle.std.proofs.Common.{None, Some, inl}
 use Rattle.std.proofs.lemmas.Result.{err_from_is_err_and}
 use Rattle.rgc_line.specs.declared.command.Command.TheVariants.{Prove}
-use Rattle.rgc_line.specs.declared.command.Format.TheVariants.{Plain}
-use Rattle.rgc_commands.proofs.Stopping.{device_stops, told_stops}
+use Rattle.rgc_commands.proofs.Stopping.{device_stops, reported_stops}
 use Rattle.rgc_commands.proofs.commands.prove_all.Goals as goal
 
 pub returns-in_err-text-clause-stopped : goal.returns-in_err-text-clause-stopped
 returns-in_err-text-clause-stopped g c = λ t d.
     let p = err_from_is_err_and c.from_residual.result c.from_residual.ensures.1 in
-    rw (p.1, p.2) (device_stops Plain (Prove t d c.args.steps None) c.args.files.now _ _ _ (c.in_err-text.ensures.unread None))
+    rw (p.1, p.2) (device_stops c.args.format (Prove t d c.args.steps None) c.args.files.now _ _ _ (c.in_err-text.ensures.unread None))
 
 pub returns-in_err-print_proofs-clause-stopped : goal.returns-in_err-print_proofs-clause-stopped
 returns-in_err-print_proofs-clause-stopped g c = λ t d.
@@ -17,5 +16,5 @@ returns-in_err-print_proofs-clause-stopped g c = λ t d.
 
 pub returns-clause-stopped : goal.returns-clause-stopped
 returns-clause-stopped g c = λ t d.
-    told_stops Plain (Prove t d c.args.steps None) c.args.files.now _ _ _ _ _ _ c.proved.ensures.told c.in_ok-print_proofs.ensures.failures
-    (λ none. rw (c.in_ok-text.ensures.text, c.in_ok-text.ensures.derivation) (c.in_ok-print_proofs.ensures.told none))
+    reported_stops c.args.format (Prove t d c.args.steps None) c.args.files.now _ _ _ _ _ _ c.proved.ensures.reported c.in_ok-print_proofs.ensures.failures
+    (λ none. rw (c.in_ok-text.ensures.text, c.in_ok-text.ensures.derivation) (c.in_ok-print_proofs.ensures.reported none))

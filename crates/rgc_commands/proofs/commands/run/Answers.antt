@@ -1,32 +1,13 @@
-use Rattle.std.proofs.Common.{refl}
-use Rattle.std.proofs.lemmas.Result.{err_from_is_err_and}
-use Rattle.rgc_line.specs.declared.command.Command.TheVariants.{Run}
-use Rattle.rgc_line.specs.declared.command.Format.TheVariants.{Plain}
-use Rattle.rgc_commands.proofs.Stopping.{device_stops, named_run_stops}
 use Rattle.rgc_commands.proofs.commands.run.Goals as goal
 
-pub returns-in_err-text-clause-stopped : goal.returns-in_err-text-clause-stopped
-returns-in_err-text-clause-stopped g c = λ t d p' w.
-    let p = err_from_is_err_and c.from_residual.result c.from_residual.ensures.1 in
-    rw (p.1, p.2) (device_stops Plain (Run t d p' c.args.options.start c.args.options.moves c.args.options.limit w) c.args.files.now _ _ _ (c.in_err-text.ensures.unread _))
+pub returns-in-Plain-clause-done : goal.returns-in-Plain-clause-done
+returns-in-Plain-clause-done g c = λ t d p w. rw c.in-Plain.is (c.run_lines.ensures.done t d p w)
 
-pub returns-in_err-first-clause-stopped : goal.returns-in_err-first-clause-stopped
-returns-in_err-first-clause-stopped g c = λ t d p' w.
-    let p = err_from_is_err_and c.from_residual-in_err-first.result c.from_residual-in_err-first.ensures.1 in
-    rw (p.1, p.2) (device_stops Plain (Run t d p' c.args.options.start c.args.options.moves c.args.options.limit w) c.args.files.now _ _ _ (rw (c.in_ok-text.ensures.text, c.in_ok-text.ensures.derivation, c.in_ok-text.ensures.proofs) c.in_err-first.ensures.unread))
+pub returns-in-Json-clause-done : goal.returns-in-Json-clause-done
+returns-in-Json-clause-done g c = λ t d p w. rw c.in-Json.is (c.run_json.ensures.done t d p w)
 
-pub returns-in_err-print_run-clause-stopped : goal.returns-in_err-print_run-clause-stopped
-returns-in_err-print_run-clause-stopped g c = λ t d p' w.
-    let p = err_from_is_err_and c.from_residual-in_err-print_run.result c.from_residual-in_err-print_run.ensures.1 in
-    rw (p.1, p.2, c.in_ok-text.ensures.text, c.in_ok-text.ensures.derivation, c.in_ok-text.ensures.proofs)
-    (named_run_stops (Run t d p' c.args.options.start c.args.options.moves c.args.options.limit w) _ _ _ c.args.options.start c.args.options.moves c.args.options.limit c.args.files.now.start c.args.files.now.moves _ _ _ _ _ _ _ tt c.in_ok-first.ensures.start c.in_ok-first.ensures.moves c.in_err-print_run.ensures.stopped)
+pub returns-in-Plain-clause-stopped : goal.returns-in-Plain-clause-stopped
+returns-in-Plain-clause-stopped g c = λ t d p w drawn. rw c.in-Plain.is (c.run_lines.ensures.stopped t d p w)
 
-pub returns-clause-done : goal.returns-clause-done
-returns-clause-done g c = λ t d p' w.
-    rw (c.in_ok-text.ensures.text, c.in_ok-text.ensures.derivation, c.in_ok-text.ensures.proofs) (record {
-      first = _;
-      first_read = c.in_ok-first.ensures.start;
-      moving = _;
-      moving_read = c.in_ok-first.ensures.moves;
-      run = c.in_ok-print_run.ensures.printed;
-    })
+pub returns-in-Json-clause-stopped : goal.returns-in-Json-clause-stopped
+returns-in-Json-clause-stopped g c = λ t d p w drawn. rw c.in-Json.is (c.run_json.ensures.stopped t d p w drawn)

@@ -1,22 +1,21 @@
 use Rattle.std.proofs.Common.{None, Some, inl}
 use Rattle.std.proofs.lemmas.Result.{err_from_is_err_and}
 use Rattle.rgc_line.specs.declared.command.Command.TheVariants.{Valid}
-use Rattle.rgc_line.specs.declared.command.Format.TheVariants.{Plain}
 use Rattle.rgc_commands.proofs.Stopping.{device_stops}
 use Rattle.rgc_commands.specs.Stopped.{proofs_line}
 use Rattle.rgc_commands.proofs.commands.valid.Goals as goal
 
 pub returns-in_err-text-clause-stopped : goal.returns-in_err-text-clause-stopped
-returns-in_err-text-clause-stopped g c = λ t p'.
+returns-in_err-text-clause-stopped g c = λ f t p'.
     let p = err_from_is_err_and c.from_residual.result c.from_residual.ensures.1 in
-    rw (p.1, p.2) (device_stops Plain (Valid t p') c.args.files.now _ _ _ (c.in_err-text.ensures.unread (proofs_line c.args.files.now None)))
+    rw (p.1, p.2) (device_stops f (Valid t p') c.args.files.now _ _ _ (c.in_err-text.ensures.unread (proofs_line c.args.files.now None)))
 
 pub returns-in_err-proofs-clause-stopped : goal.returns-in_err-proofs-clause-stopped
-returns-in_err-proofs-clause-stopped g c = λ t p'.
+returns-in_err-proofs-clause-stopped g c = λ f t p'.
     let p = err_from_is_err_and c.from_residual-in_err-proofs.result c.from_residual-in_err-proofs.ensures.1 in
-    rw (p.1, p.2) (device_stops Plain (Valid t p') c.args.files.now _ _ _ (rw c.in_ok-text.ensures.bytes (c.in_err-proofs.ensures.unread None)))
+    rw (p.1, p.2) (device_stops f (Valid t p') c.args.files.now _ _ _ (rw c.in_ok-text.ensures.bytes (c.in_err-proofs.ensures.unread None)))
 
 pub returns-in_err-print_valid-clause-stopped : goal.returns-in_err-print_valid-clause-stopped
-returns-in_err-print_valid-clause-stopped g c = λ t p'.
+returns-in_err-print_valid-clause-stopped g c = λ f t p'.
     let p = err_from_is_err_and c.from_residual-in_err-print_valid.result c.from_residual-in_err-print_valid.ensures.1 in
     rw (p.1, p.2, c.in_ok-text.ensures.bytes, c.in_ok-proofs.ensures.bytes) (inl c.in_err-print_valid.ensures.stopped)

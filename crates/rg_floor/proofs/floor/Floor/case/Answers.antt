@@ -1,8 +1,8 @@
 use Rattle.std.proofs.Common.{◌≡◌, ◌==◌, ◌≤◌, length, true, false, ap, sym, ◌∙◌, arith, rules}
 use Rattle.rg_code.specs.Code.{is_end, all_at_end}
-use Rattle.rg_stepping.specs.Ready.{block_at, can_go, any_can_go}
+use Rattle.rg_floor.specs.Ready.{block_at, can_go, any_can_go}
 use Rattle.rg_floor.specs.declared.turn.Case.TheVariants.{Steps}
-use Rattle.rg_stepping.proofs.Readiness.{some_can}
+use Rattle.rg_floor.proofs.Readiness.{some_can}
 use Rattle.rg_floor.proofs.OneMore.{case_at}
 use Rattle.rg_floor.proofs.floor.Floor.case.Goals as goal
 

@@ -1,5 +1,0 @@
-use Rattle.std.proofs.Common.{vec_len}
-use Rattle.rg_frames.proofs.frames.+take_expression.Given as goal
-
-abbrev pub decreases-take_expression : goal.decreases-take_expression
-decreases-take_expression l = vec_len l.frames.now

@@ -1,4 +1,0 @@
-//! The listing of a code.
-#![tactic(auto)]
-
-pub mod listing;

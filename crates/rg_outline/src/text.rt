@@ -1,0 +1,190 @@
+//! The text of the program.
+
+use crate::expansion::{Action, BlockRow, DEEPEST, Expansion, OutlinePart, Statement};
+use crate::print::{push_flat, push_spaces, too_large};
+use rg_outline_syntax::{Fault, List, Standing, push_count};
+use rg_words::limits::MOST_TEXT_BYTES;
+
+/// The most bytes of a row of declarations.
+const WIDTH: usize = 108;
+
+/// Adds the text of the program, as `rg_parse::program` reads it.
+///
+/// # Errors
+///
+/// - `MeaningFault::TooLarge` where it has more than `MOST_TEXT_BYTES` bytes.
+/// - `FaultKind::Memory`.
+pub fn push_text(expansion: &Expansion<'_>, text: &mut Vec<u8>) -> Result<(), Fault> {
+    expansion.push_declarations(text)?;
+    let own = expansion.specification;
+    expansion.push_formulas(text, 0, [own.pre, own.rely, own.guar, own.post])?;
+    for (place, part) in expansion.parts.iter().enumerate() {
+        expansion.push_part(text, place, *part)?;
+    }
+    if text.len() > MOST_TEXT_BYTES {
+        return Err(too_large());
+    }
+    Ok(())
+}
+
+/// Adds a text to show, as `rg_parse::show` reads it: that no state meets the program's pre.
+///
+/// # Errors
+///
+/// - `MeaningFault::TooLarge` where it has more than `MOST_TEXT_BYTES` bytes.
+/// - `FaultKind::Memory`.
+pub fn push_unmet(expansion: &Expansion<'_>, text: &mut Vec<u8>) -> Result<(), Fault> {
+    expansion.push_declarations(text)?;
+    text.extend_from_slice(b"show not ")?;
+    expansion.push_tree(text, expansion.specification.pre, 9)?;
+    text.push(b'\n')?;
+    if text.len() > MOST_TEXT_BYTES {
+        return Err(too_large());
+    }
+    Ok(())
+}
+
+impl Expansion<'_> {
+    /// Adds the words with their widths, in rows.
+    fn push_declarations(&self, text: &mut Vec<u8>) -> Result<(), Fault> {
+        let mut start = text.len();
+        text.extend_from_slice(b"words")?;
+        for (place, word) in self.scope.words.iter().enumerate() {
+            let mut declaration = Vec::new(self.scope.alloc);
+            if word.standing == Standing::Fixed {
+                declaration.extend_from_slice(b"fixed ")?;
+            }
+            declaration.extend_from_slice(self.scope.members.at(place))?;
+            declaration.push(b':')?;
+            push_count(&mut declaration, u64::from(word.width))?;
+            let row = text.len().saturating_sub(start);
+            if row.saturating_add(declaration.len()) > WIDTH {
+                text.push(b'\n')?;
+                start = text.len();
+                push_spaces(text, 5)?;
+            }
+            text.push(b' ')?;
+            text.extend_from_slice(&declaration)?;
+        }
+        text.push(b'\n')?;
+        Ok(())
+    }
+
+    /// Adds the pre, rely, guar and post, each from this column on.
+    fn push_formulas(
+        &self,
+        text: &mut Vec<u8>,
+        column: usize,
+        trees: [usize; 4],
+    ) -> Result<(), Fault> {
+        let keys = ["pre  ", "rely ", "guar ", "post "];
+        for (key, tree) in keys.iter().zip(&trees) {
+            push_spaces(text, column)?;
+            text.extend_from_slice(key.as_bytes())?;
+            self.push_tree(text, *tree, column.saturating_add(5))?;
+            text.push(b'\n')?;
+        }
+        Ok(())
+    }
+
+    fn push_part(&self, text: &mut Vec<u8>, place: usize, part: OutlinePart) -> Result<(), Fault> {
+        text.extend_from_slice(b"\npart ")?;
+        text.extend_from_slice(self.part_names.at(place))?;
+        text.push(b'\n')?;
+        let trees = [part.pre.full, part.rely, part.guar, part.post.full];
+        self.push_formulas(text, 2, trees)?;
+        text.extend_from_slice(b"begin\n")?;
+        self.push_block(text, part.body, 2, DEEPEST)?;
+        text.extend_from_slice(b"end\n")?;
+        Ok(())
+    }
+
+    /// Adds the statements of a block, each from this column on.
+    #[cycle(printing)]
+    fn push_block(
+        &self,
+        text: &mut Vec<u8>,
+        block: usize,
+        column: usize,
+        depth: u32,
+    ) -> Result<(), Fault> {
+        if depth == 0 {
+            return Err(too_large());
+        }
+        let mut before: &[u8] = b"";
+        for row in self.rows_of(self.block(block).rows) {
+            if let BlockRow::Statement(index) = *row {
+                text.extend_from_slice(before)?;
+                push_spaces(text, column)?;
+                self.push_statement(text, self.statement(index), column, depth - 1)?;
+                before = b";\n";
+            }
+        }
+        text.push(b'\n')?;
+        Ok(())
+    }
+
+    /// Adds a statement without the end of its last row.
+    #[cycle(printing)]
+    fn push_statement(
+        &self,
+        text: &mut Vec<u8>,
+        statement: Statement,
+        column: usize,
+        depth: u32,
+    ) -> Result<(), Fault> {
+        let inner = column.saturating_add(2);
+        match statement.action {
+            Action::Skip => text.extend_from_slice(b"skip")?,
+            Action::Assign => self.push_updates(text, statement.updates)?,
+            Action::Await => {
+                self.push_test(text, b"await ", statement.test, column, b" do ")?;
+                self.push_updates(text, statement.updates)?;
+                text.extend_from_slice(b" end")?;
+            }
+            Action::If => {
+                self.push_test(text, b"if ", statement.test, column, b" then\n")?;
+                self.push_block(text, statement.blocks.0, inner, depth)?;
+                push_spaces(text, column)?;
+                text.extend_from_slice(b"else\n")?;
+                self.push_block(text, statement.blocks.1, inner, depth)?;
+                push_spaces(text, column)?;
+                text.extend_from_slice(b"end")?;
+            }
+            Action::While => {
+                self.push_test(text, b"while ", statement.test, column, b" do\n")?;
+                self.push_block(text, statement.blocks.0, inner, depth)?;
+                push_spaces(text, column)?;
+                text.extend_from_slice(b"end")?;
+            }
+        }
+        Ok(())
+    }
+
+    /// Adds the test of a statement that begins in this column, with what stands before and after it.
+    fn push_test(
+        &self,
+        text: &mut Vec<u8>,
+        before: &[u8],
+        test: usize,
+        column: usize,
+        after: &[u8],
+    ) -> Result<(), Fault> {
+        text.extend_from_slice(before)?;
+        self.push_tree(text, test, column.saturating_add(before.len()))?;
+        text.extend_from_slice(after)?;
+        Ok(())
+    }
+
+    fn push_updates(&self, text: &mut Vec<u8>, updates: List) -> Result<(), Fault> {
+        let mut before: &[u8] = b"";
+        for update in self.updates_of(updates) {
+            text.extend_from_slice(before)?;
+            text.extend_from_slice(self.scope.members.at(update.word))?;
+            text.extend_from_slice(b" := ")?;
+            push_flat(self, text, update.value)?;
+            before = b"; ";
+        }
+        Ok(())
+    }
+}

@@ -1,8 +1,0 @@
-use Rattle.std.proofs.Common.{◌≡◌, ◌++◌, drop}
-use Rattle.rg_tree.specs.ProgramTrees.{program as program_tree}
-use Rattle.rg_outline_records.specs.Told.{told_lines}
-use Rattle.rg_outline_records.proofs.told.push_told.Given as goal
-
--- what is there, and what the rest will add, is the whole
-abbrev pub invariant-loop-step : goal.invariant-loop-step
-invariant-loop-step l = l.text.items ++ told_lines l.naming (program_tree l.program) (drop l.step-index l.steps) ≡ l.fn.text.items ++ told_lines l.naming (program_tree l.program) l.steps

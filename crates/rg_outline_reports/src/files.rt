@@ -1,0 +1,67 @@
+//! An outline as it is given, the files that it stands for, and what is found of them.
+
+use crate::Claim;
+use std::alloc::AllocError;
+
+/// The files that an outline stands for, each as it is printed.
+#[derive(Drop)]
+pub struct OutlineFiles {
+    /// The program.
+    pub text: Vec<u8>,
+    /// The lines that derive its parts. They may be longer than a file may be.
+    pub derivation: Vec<u8>,
+    /// The places of the derivation at which a further piece of it begins: a piece is whole lines, as many as fit into a file.
+    pub cuts: Vec<usize>,
+    /// A formula to show that says that no state meets the program's pre.
+    pub unmet: Vec<u8>,
+}
+
+/// What the words and the statements of the text are in the outline.
+#[derive(Drop)]
+pub struct Places {
+    /// Each word as the outline writes it, in the order of the text's words.
+    pub words: Vec<Vec<u8>>,
+    /// The outline's line of each statement, by the statement's number in the text; 0 for a sequence, and as the first one, since numbers are from 1.
+    pub lines: Vec<u64>,
+}
+
+/// What is reported of conditions that aren't proved.
+#[derive(Drop)]
+pub struct Failures {
+    /// It as it is printed.
+    pub lines: Vec<u8>,
+    /// What it says to be false.
+    pub claims: Vec<Claim>,
+}
+
+/// Why an outline stands for no files.
+#[derive(Drop)]
+pub enum NoFiles {
+    /// What reports its first fault: the file with line and column and a sentence, the line, and a line of carets; or the same as JSON.
+    Reported(Vec<u8>),
+    /// Memory was refused.
+    Memory,
+}
+
+/// How reports are printed.
+#[derive(Clone, Copy, PartialEq, Eq)]
+pub enum Format {
+    /// Lines to be read.
+    Plain,
+    /// One JSON value a line.
+    Json,
+}
+
+/// An outline: its file, as places name it, with its bytes; and how what is reported of it is printed.
+#[derive(Clone, Copy)]
+pub struct OutlineSource<'a> {
+    pub name: &'a str,
+    pub source: &'a [u8],
+    pub format: Format,
+}
+
+impl From<AllocError> for NoFiles {
+    fn from(_: AllocError) -> NoFiles {
+        NoFiles::Memory
+    }
+}

@@ -1,0 +1,175 @@
+//! An outline that was worked out, and what is printed of it.
+
+use crate::failures::{Failed, FailureReports};
+use crate::faults::{printable, refused_expansion, refused_source};
+use crate::files::{Failures, Format, NoFiles, OutlineFiles, OutlineSource, Places};
+use crate::lines::push_reports;
+use crate::map::push_conditions;
+use crate::reports::Reports;
+use crate::run::{push_run, push_walked};
+use crate::subject::{Subject, line_of};
+use crate::warnings::report_warnings;
+use rg_outline::{Expansion, push_derivation, push_map, push_text, push_unmet, work_out};
+use rg_outline_syntax::{Fault, Tokens, Written, parse};
+use rg_walk::{BreakingRun, Walked};
+use std::alloc::{AllocError, Global};
+
+/// The tree that is written in an outline.
+fn written_in(alloc: Global, source: &[u8]) -> Result<Written, Fault> {
+    let tokens = Tokens::read(alloc, source)?;
+    parse(alloc, source, &tokens)
+}
+
+/// The tree that is written in an outline, as `Outlined::of` takes it.
+///
+/// # Errors
+///
+/// - `NoFiles::Reported`, with the first fault of the tokens, else of the shape.
+/// - `NoFiles::Memory` where memory is refused.
+pub fn read_outline(alloc: Global, outline: OutlineSource<'_>) -> Result<Written, NoFiles> {
+    match written_in(alloc, outline.source) {
+        Ok(written) => Ok(written),
+        Err(fault) => Err(refused_source(alloc, outline, fault)),
+    }
+}
+
+/// An outline that was worked out, with the files that it stands for.
+#[derive(Drop)]
+pub struct Outlined<'a> {
+    outline: OutlineSource<'a>,
+    expansion: Expansion<'a>,
+    pub files: OutlineFiles,
+}
+
+impl<'a> Outlined<'a> {
+    /// An outline in which this is written, worked out.
+    ///
+    /// # Errors
+    ///
+    /// - `NoFiles::Reported`, with the first fault of the meaning, else that the text or a line of the derivation would be too large for a file, or the
+    ///   derivation as a whole for this program.
+    /// - `NoFiles::Memory` where memory is refused.
+    pub fn of(
+        alloc: Global,
+        outline: OutlineSource<'a>,
+        written: &'a Written,
+    ) -> Result<Outlined<'a>, NoFiles> {
+        let mut outlined = Outlined {
+            outline,
+            expansion: Expansion::new(alloc, outline.source, written),
+            files: OutlineFiles {
+                text: Vec::new(alloc),
+                derivation: Vec::new(alloc),
+                cuts: Vec::new(alloc),
+                unmet: Vec::new(alloc),
+            },
+        };
+        match outlined.work_out() {
+            Ok(()) => Ok(outlined),
+            Err(fault) => Err(refused_expansion(outline, &outlined.expansion, fault)),
+        }
+    }
+
+    /// The files alone.
+    pub fn into_files(self) -> OutlineFiles {
+        let Outlined { files, .. } = self;
+        files
+    }
+
+    /// Works the outline out, and prints its files.
+    fn work_out(&mut self) -> Result<(), Fault> {
+        work_out(&mut self.expansion)?;
+        let (expansion, files) = (&self.expansion, &mut self.files);
+        push_text(expansion, &mut files.text)?;
+        push_derivation(expansion, &mut files.derivation, &mut files.cuts)?;
+        push_unmet(expansion, &mut files.unmet)
+    }
+
+    /// The outline with the names that reports may give.
+    fn subject(&self) -> Subject<'_> {
+        Subject {
+            file: self.outline.name.as_bytes(),
+            source: self.outline.source,
+            words: &self.expansion.scope.shown,
+            parts: &self.expansion.part_names,
+        }
+    }
+
+    /// What was made to be printed, as it is printed: lines without control bytes, and JSON as it is.
+    fn printed(&self, made: Vec<u8>) -> Result<Vec<u8>, AllocError> {
+        match self.outline.format {
+            Format::Plain => printable(self.expansion.scope.alloc, &made),
+            Format::Json => Ok(made),
+        }
+    }
+
+    /// The map: a row `line K RULE PART LINE:COLUMN phrase` for each line of the derivation, then a row `K NAME LINE:COLUMN what it says` for each
+    /// condition.
+    /// An error comes only where memory is refused.
+    pub fn map(&self) -> Result<Vec<u8>, AllocError> {
+        let mut map = Vec::new(self.expansion.scope.alloc);
+        if push_map(&self.expansion, &mut map).is_err() {
+            return Err(AllocError);
+        }
+        push_conditions(&self.expansion, &mut map)?;
+        printable(self.expansion.scope.alloc, &map)
+    }
+
+    /// What the words and the statements of the text are in the outline.
+    /// An error comes only where memory is refused.
+    pub fn places(&self) -> Result<Places, AllocError> {
+        let expansion = &self.expansion;
+        let alloc = expansion.scope.alloc;
+        let mut words = Vec::new(alloc);
+        for word in 0..expansion.scope.words.len() {
+            words.push(Vec::from_slice(alloc, expansion.scope.shown.at(word))?)?;
+        }
+        let mut lines = Vec::new(alloc);
+        for _ in 0..expansion.count.saturating_add(1) {
+            lines.push(0)?;
+        }
+        for statement in &expansion.statements {
+            if let Some(slot) = lines.get_mut(statement.number) {
+                *slot = line_of(expansion, statement.span);
+            }
+        }
+        Ok(Places { words, lines })
+    }
+
+    /// What is reported of conditions of the derivation that aren't proved, and what that says to be false.
+    /// An error comes only where memory is refused.
+    pub fn failures(&self, failed: &[Failed<'_>]) -> Result<Failures, AllocError> {
+        let reported = FailureReports::of(&self.expansion, failed)?;
+        let mut lines = Vec::new(self.expansion.scope.alloc);
+        reported.push(&mut lines, self.outline.format, self.subject())?;
+        Ok(Failures {
+            lines: self.printed(lines)?,
+            claims: reported.into_claims(),
+        })
+    }
+
+    /// The warnings; nothing where there are none. Whether no state meets the program's pre is said by who calls, since it takes a search.
+    /// An error comes only where memory is refused.
+    pub fn warnings(&self, is_unmet: bool) -> Result<Vec<u8>, AllocError> {
+        let mut reports = Reports::new(self.expansion.scope.alloc);
+        report_warnings(&self.expansion, is_unmet, &mut reports)?;
+        let mut lines = Vec::new(self.expansion.scope.alloc);
+        push_reports(&mut lines, self.outline.format, &reports, self.subject())?;
+        self.printed(lines)
+    }
+
+    /// What a walk of the text found, in the outline's words: the run that breaks the specification, or how far was looked.
+    /// An error comes only where memory is refused.
+    pub fn walked(&self, walked: &Walked) -> Result<Vec<u8>, AllocError> {
+        let mut lines = Vec::new(self.expansion.scope.alloc);
+        push_walked(&self.expansion, &mut lines, self.outline, walked)?;
+        self.printed(lines)
+    }
+    /// The lines that report a run of the program, in the outline's words.
+    /// An error comes only where memory is refused.
+    pub fn run_lines(&self, run: &BreakingRun) -> Result<Vec<u8>, AllocError> {
+        let mut lines = Vec::new(self.expansion.scope.alloc);
+        push_run(&self.expansion, &mut lines, run)?;
+        Ok(lines)
+    }
+}

@@ -1,0 +1,218 @@
+//! What a walk of an outline's text found: a run, one line for each step, or how far was looked.
+
+use crate::broken::details_of;
+use crate::files::{Format, OutlineSource};
+use crate::lines::{push_details, push_value};
+use crate::places::statement_at;
+use crate::reports::Valued;
+use crate::run_json::{push_json_of_not_found, push_json_of_run};
+use crate::subject::line_of;
+use rg_outline::Expansion;
+use rg_outline_syntax::{Span, push_count, push_phrase};
+use rg_walk::{BreakingRun, Broken, RunStep, Unbroken, Walked};
+use rg_words::State;
+use std::alloc::AllocError;
+
+/// The most steps of a run that are shown.
+const MOST_STEPS: usize = 200;
+
+/// The most bytes of a statement that is shown.
+const MOST_NAMED: usize = 60;
+
+/// Adds the words that aren't 0 at the start.
+pub(crate) fn push_start(
+    expansion: &Expansion<'_>,
+    text: &mut Vec<u8>,
+    start: &State,
+) -> Result<(), AllocError> {
+    let mut rest: &[u8] = b"all words are 0";
+    let mut between: &[u8] = b"";
+    for word in 0..start.len() {
+        let before = start.get(word);
+        if before != 0 {
+            text.extend_from_slice(between)?;
+            let after = before;
+            let valued = Valued {
+                word,
+                before,
+                after,
+            };
+            push_value(text, expansion.scope.shown.at(word), valued)?;
+            between = b", ";
+            rest = b", and all other words are 0";
+        }
+    }
+    text.extend_from_slice(rest)
+}
+
+/// Adds the words that a step changes.
+fn push_changes(
+    expansion: &Expansion<'_>,
+    text: &mut Vec<u8>,
+    before: &State,
+    after: &State,
+) -> Result<(), AllocError> {
+    let mut between: &[u8] = b" ";
+    let mut is_any = false;
+    for word in 0..before.len().min(after.len()) {
+        let valued = Valued {
+            word,
+            before: before.get(word),
+            after: after.get(word),
+        };
+        if valued.before != valued.after {
+            text.extend_from_slice(between)?;
+            push_value(text, expansion.scope.shown.at(word), valued)?;
+            between = b", ";
+            is_any = true;
+        }
+    }
+    if !is_any {
+        text.extend_from_slice(b" no word changes")?;
+    }
+    Ok(())
+}
+
+/// Adds a statement in one line; its beginning, where it is long.
+fn push_statement(
+    expansion: &Expansion<'_>,
+    text: &mut Vec<u8>,
+    span: Span,
+) -> Result<(), AllocError> {
+    text.push(b'`')?;
+    let start = text.len();
+    push_phrase(text, span.of(expansion.scope.source))?;
+    if text.len().saturating_sub(start) > MOST_NAMED {
+        text.truncate(start.saturating_add(MOST_NAMED - 3));
+        text.extend_from_slice(b"...")?;
+    }
+    text.push(b'`')?;
+    Ok(())
+}
+
+/// Adds a step: who makes it, at which line, and the words that it changes from those before it.
+pub(crate) fn push_step(
+    expansion: &Expansion<'_>,
+    text: &mut Vec<u8>,
+    before: &State,
+    step: &RunStep,
+) -> Result<(), AllocError> {
+    match step.who.checked_sub(1) {
+        None => text.extend_from_slice(b"env")?,
+        Some(part) => {
+            text.extend_from_slice(expansion.part_names.at(part))?;
+            if let Some(statement) = statement_at(expansion, part, step.place)? {
+                text.extend_from_slice(b", line ")?;
+                push_count(text, line_of(expansion, statement.span))?;
+                text.extend_from_slice(b", ")?;
+                push_statement(expansion, text, statement.span)?;
+            }
+        }
+    }
+    text.push(b':')?;
+    push_changes(expansion, text, before, &step.after)
+}
+
+/// Adds the steps of a run, one line for each.
+fn push_steps(
+    expansion: &Expansion<'_>,
+    text: &mut Vec<u8>,
+    run: &BreakingRun,
+) -> Result<(), AllocError> {
+    let hidden = run.steps.len().saturating_sub(MOST_STEPS);
+    if hidden > 0 {
+        text.extend_from_slice(b"    ")?;
+        push_count(text, hidden as u64)?;
+        text.extend_from_slice(b" steps that are not shown\n")?;
+    }
+    let mut before = &run.start;
+    for (index, step) in run.steps.iter().enumerate() {
+        if index >= hidden {
+            text.extend_from_slice(b"    ")?;
+            push_step(expansion, text, before, step)?;
+            text.push(b'\n')?;
+        }
+        before = &step.after;
+    }
+    Ok(())
+}
+
+/// Adds what a run breaks.
+pub(crate) fn push_broken(
+    expansion: &Expansion<'_>,
+    text: &mut Vec<u8>,
+    run: &BreakingRun,
+) -> Result<(), AllocError> {
+    match run.broken {
+        Broken::Guarantee => {
+            text.extend_from_slice(b"the last step is outside the program's guar")
+        }
+        Broken::OwnGuarantee => {
+            text.extend_from_slice(b"the last step is outside what ")?;
+            let who = run.steps.last().map_or(0, |step| step.who);
+            text.extend_from_slice(expansion.part_names.at(who.saturating_sub(1)))?;
+            text.extend_from_slice(
+                b" promises: the invariant, what others rely on, or its own guar",
+            )
+        }
+        Broken::Post => {
+            text.extend_from_slice(b"all parts have ended, and the program's post is false")
+        }
+    }
+}
+
+/// Adds a run that breaks the specification, one line for each step: who makes it, the line and the statement, and the words that it changes;
+/// and then what is broken, with its first conjunct that is false and where that stands.
+pub(crate) fn push_run(
+    expansion: &Expansion<'_>,
+    text: &mut Vec<u8>,
+    run: &BreakingRun,
+) -> Result<(), AllocError> {
+    text.extend_from_slice(b"this run breaks it:\n    start: ")?;
+    push_start(expansion, text, &run.start)?;
+    text.push(b'\n')?;
+    push_steps(expansion, text, run)?;
+    text.extend_from_slice(b"    ")?;
+    push_broken(expansion, text, run)?;
+    text.push(b'\n')?;
+    push_details(text, &details_of(expansion, run)?)
+}
+
+/// Adds that no run was found that breaks the specification, and how far was looked.
+fn push_not_found(text: &mut Vec<u8>, unbroken: Unbroken) -> Result<(), AllocError> {
+    let said: &[u8] = if unbroken.is_all {
+        b"no run breaks it: all were followed, "
+    } else {
+        b"no run that breaks it was found within "
+    };
+    text.extend_from_slice(said)?;
+    push_count(text, unbroken.steps)?;
+    text.extend_from_slice(b" step")?;
+    if unbroken.steps != 1 {
+        text.push(b's')?;
+    }
+    if unbroken.is_without_others && !unbroken.is_all {
+        text.extend_from_slice(b"; steps of the environment were not tried")?;
+    }
+    text.push(b'\n')?;
+    Ok(())
+}
+
+/// Adds what a walk found, as the outline's reports are printed.
+pub(crate) fn push_walked(
+    expansion: &Expansion<'_>,
+    text: &mut Vec<u8>,
+    outline: OutlineSource<'_>,
+    walked: &Walked,
+) -> Result<(), AllocError> {
+    let file = outline.name.as_bytes();
+    let is_plain = outline.format == Format::Plain;
+    match walked {
+        Walked::Breaks(run) if is_plain => push_run(expansion, text, run),
+        Walked::Breaks(run) => push_json_of_run(expansion, text, file, run),
+        Walked::NotFound(unbroken) if is_plain => push_not_found(text, *unbroken),
+        Walked::NotFound(unbroken) => {
+            push_json_of_not_found(text, expansion.scope.alloc, file, *unbroken)
+        }
+    }
+}

@@ -1,0 +1,72 @@
+//! A run as JSON, one value in a line.
+
+use crate::broken::details_of;
+use crate::json::put_details;
+use crate::made::{JsonList, JsonObject, push_json_line, text_value};
+use crate::run::{push_broken, push_start, push_step};
+use rg_outline::Expansion;
+use rg_walk::{BreakingRun, Unbroken};
+use serde_json::Value;
+use std::alloc::{AllocError, Global};
+
+/// The steps of a run, each as its line has it, as a list.
+fn steps_value(expansion: &Expansion<'_>, run: &BreakingRun) -> Result<Value, AllocError> {
+    let mut list = JsonList::new(expansion.scope.alloc);
+    let mut before = &run.start;
+    let mut text = Vec::new(expansion.scope.alloc);
+    for step in &run.steps {
+        text.clear();
+        push_step(expansion, &mut text, before, step)?;
+        list.put(text_value(expansion.scope.alloc, &text));
+        before = &step.after;
+    }
+    list.value()
+}
+
+/// Adds a run that breaks the specification, as one JSON value in a line of its own: its steps are those of `push_run`, all of them; then what is
+/// broken, with its first conjunct that is false, the premises that hold, and what it stands within.
+///
+/// # Errors
+///
+/// `AllocError` where memory is refused; the text is then of no use.
+pub(crate) fn push_json_of_run(
+    expansion: &Expansion<'_>,
+    text: &mut Vec<u8>,
+    file: &[u8],
+    run: &BreakingRun,
+) -> Result<(), AllocError> {
+    let alloc = expansion.scope.alloc;
+    let mut start = Vec::new(alloc);
+    push_start(expansion, &mut start, &run.start)?;
+    let mut broken = Vec::new(alloc);
+    push_broken(expansion, &mut broken, run)?;
+    let details = details_of(expansion, run)?;
+    let mut object = JsonObject::new(alloc);
+    object.put_text("kind", b"run");
+    object.put_text("file", file);
+    object.put_text("start", &start);
+    object.put("steps", steps_value(expansion, run));
+    object.put_text("broken", &broken);
+    put_details(&mut object, alloc, &details);
+    push_json_line(text, alloc, object.value())
+}
+
+/// Adds that no run was found that breaks the specification, and how far was looked, as one JSON value in a line of its own.
+///
+/// # Errors
+///
+/// As `push_json_of_run`.
+pub(crate) fn push_json_of_not_found(
+    text: &mut Vec<u8>,
+    alloc: Global,
+    file: &[u8],
+    unbroken: Unbroken,
+) -> Result<(), AllocError> {
+    let mut object = JsonObject::new(alloc);
+    object.put_text("kind", b"no-run");
+    object.put_text("file", file);
+    object.put_count("steps", unbroken.steps);
+    object.put_flag("all", unbroken.is_all);
+    object.put_flag("without_others", unbroken.is_without_others);
+    push_json_line(text, alloc, object.value())
+}

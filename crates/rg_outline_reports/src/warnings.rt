@@ -1,0 +1,59 @@
+//! All warnings of an outline.
+
+use crate::names::report_unused;
+use crate::promises::{report_auxiliary_alone, report_post};
+use crate::relies::report_relies;
+use crate::reports::{Cause, Key, Reports, Warning};
+use crate::shared::report_shared;
+use rg_outline::Expansion;
+use rg_outline_syntax::{Clause, HeadKind, Span};
+use std::alloc::AllocError;
+
+/// Reports a warning at a place, of a part or of the program.
+pub(crate) fn warn(
+    reports: &mut Reports,
+    warning: Warning,
+    place: Span,
+    part: Option<usize>,
+    sentence: &[u8],
+) -> Result<(), AllocError> {
+    let key = Key {
+        cause: Cause::Warned(warning),
+        at: place,
+        what: place,
+    };
+    reports.put(key, place, part, sentence)?;
+    Ok(())
+}
+
+/// Where the program's formula of a clause stands, where it is written.
+pub(crate) fn clause_span(expansion: &Expansion<'_>, clause: Clause) -> Option<Span> {
+    let written = expansion.scope.written;
+    for head in written.heads(written.following_words) {
+        if let HeadKind::Clause(kind, formula) = head.kind
+            && kind == clause
+        {
+            return written
+                .expression(formula)
+                .map(|expression| expression.span);
+        }
+    }
+    None
+}
+
+/// Reports all warnings of an outline that was worked out. Whether no state meets the program's pre is said by who calls, since it takes a search.
+pub(crate) fn report_warnings(
+    expansion: &Expansion<'_>,
+    is_unmet: bool,
+    reports: &mut Reports,
+) -> Result<(), AllocError> {
+    if is_unmet && let Some(place) = clause_span(expansion, Clause::Pre) {
+        let said = b"no state meets the pre, so nothing is proved of any run";
+        warn(reports, Warning::PreUnmet, place, None, said)?;
+    }
+    report_post(expansion, reports)?;
+    report_auxiliary_alone(expansion, reports)?;
+    report_relies(expansion, reports)?;
+    report_shared(expansion, reports)?;
+    report_unused(expansion, reports)
+}

@@ -1,0 +1,237 @@
+//! The sentence of each fault: a template, in which each `{}` is a gap, and what is inserted at the gaps, in their order.
+
+use crate::fault::{Fault, FaultKind, MeaningFault, ShapeFault, TokenFault};
+use crate::sentences::Insert::{Bindings, Byte, Member, Number, Part, Quoted, Text, Word};
+use crate::span::Span;
+
+/// The most gaps of a template.
+const MOST_INSERTS: usize = 5;
+
+/// What is inserted at a gap.
+#[derive(Clone, Copy)]
+pub(crate) enum Insert {
+    Text(&'static str),
+    Number(i128),
+    /// What stands in the outline, between backticks; `the end of the file` where nothing stands there.
+    Quoted(Span),
+    /// The byte that begins no token.
+    Byte(Span),
+    /// A word as the outline writes it, between backticks.
+    Word(usize),
+    /// A word as the text writes it, between backticks.
+    Member(usize),
+    /// The name of a part.
+    Part(usize),
+    /// The numbers that indices stand for here, in parentheses; nothing where there are none.
+    Bindings,
+}
+
+/// The inserts of a sentence, with empty texts after the last one.
+type Inserts = [Insert; MOST_INSERTS];
+
+impl FaultKind {
+    /// The template of its sentence.
+    pub(crate) fn template(self) -> &'static str {
+        match self {
+            Self::Token(kind) => kind.template(),
+            Self::Shape(kind) => kind.template(),
+            Self::Meaning(kind) => kind.template(),
+            Self::Memory => "memory was refused",
+        }
+    }
+}
+
+impl TokenFault {
+    fn template(self) -> &'static str {
+        match self {
+            Self::TooManyBytes => "an outline has 1,048,576 bytes at most",
+            Self::NoToken => "no token begins with {}",
+            Self::MisplacedUnderscore => "a `_` in a number stands between two digits",
+            Self::NumberTooLarge => "a number is below 2 to the power of 64",
+            Self::PrimeApart => "a prime stands directly behind what it primes",
+        }
+    }
+}
+
+impl ShapeFault {
+    fn template(self) -> &'static str {
+        match self {
+            Self::Wanted(_) => "{}, not {}",
+            Self::NameWanted(_) => "{} is wanted here, not {}",
+            Self::KeywordIsNoName(_) => "{} is wanted here; {} is a keyword, so it names nothing",
+            Self::KeywordIsNoWord => "{} is a keyword, so it can't name a word",
+            Self::ImplicationsChained { .. } => "put parentheses: {} and {} aren't chained",
+            Self::JunctionsMixed => "put parentheses: `and` and `or` aren't mixed without them",
+            Self::OperatorsMixed => {
+                "put parentheses: {} isn't mixed or chained with what stands before it"
+            }
+            Self::ComparisonsChained => "comparisons aren't chained: write `a < b and b < c`",
+            Self::GroupPrimed => {
+                "a prime stands behind a word or a name alone; give the formula a name by `let`"
+            }
+            Self::ValueIsBare(_) => "put parentheses round {} where it is a value",
+            Self::SemicolonAfterAssertion => {
+                "the `;` stands directly behind the statement, before the assertion"
+            }
+            Self::SemicolonMissing => {
+                "`end` is wanted here; or a `;` is missing behind the statement before the assertion"
+            }
+            Self::TooDeep => "this is nested too deeply: put a part of it under a name by `let`",
+        }
+    }
+}
+
+impl MeaningFault {
+    fn template(self) -> &'static str {
+        match self {
+            Self::NothingNamed(None) => "nothing is named {}",
+            Self::NothingNamed(Some(_)) => "nothing is named {}; {} is",
+            Self::NoWordNamed(_) => "no word is named {}",
+            Self::DeclaredAlready(_) => "{} is declared already, at line {}",
+            Self::NamedAlready => "{} is named already",
+            Self::ParameterTwice => "{} is a parameter twice",
+            Self::MemberTwice(_) => "its member {} is a word already",
+            Self::NumberWanted(_) => "{} must be a number that is known here, without words",
+            Self::CountDiffers(..) => "{} has {} {}, not {}",
+            Self::NoIndex(_) => "{} is one word and has no index",
+            Self::OutsideFamily(..) => "the index is {} here{}; {} goes from {} to {}",
+            Self::FormulaWanted => "a formula is wanted here, not a value",
+            Self::ValueWanted => "a value is wanted here, not a formula",
+            Self::PrimeHere => "one state is spoken of here, so nothing is primed",
+            Self::PrimedAlready => {
+                "this is primed already, so the formula can't be primed as a whole"
+            }
+            Self::NumberPrimed(_) => "{} is a number here: it has no next state",
+            Self::IsValue(_) => "{} is a value here: it has no arguments and no index",
+            Self::IsWord(_) => "{} is a word: an index stands in `[` `]`",
+            Self::IsNoWord(_) => "{} isn't a word; its arguments stand in parentheses",
+            Self::ClauseTwice => "a second {}",
+            Self::PartTwice { .. } => "a second part is named `{}`",
+            _ => self.number_template(),
+        }
+    }
+
+    /// The templates of ranges, numbers and widths.
+    fn number_template(self) -> &'static str {
+        match self {
+            Self::EmptyRange => "this range is empty",
+            Self::RangeTooLong => "a range has 1,000 numbers at most",
+            Self::IndexBelowZero => "the indices of a family aren't below 0",
+            Self::Width => "a width is 1 to 64",
+            Self::TooManyWords(_) => "these are {} words; 64 is the most",
+            Self::TooManyParts(_) => "these are {} parts; 32 is the most",
+            Self::TooManyAssignments => "a step has 16 assignments at most",
+            Self::Modulus(_) => "`mod {}`: the second number must be above 0",
+            Self::ShiftCount(_) => "the shift count is {}; it is 0 to 63",
+            Self::ModulusOfWords => "`mod` is for numbers alone, without words",
+            Self::ShiftByWords => "a shift count is a number, without words",
+            Self::NoWidth => "no word stands here, so nothing tells the width",
+            Self::WidthsDiffer(..) => {
+                "{} has {} bits and {} has {}; one comparison or assignment has one width"
+            }
+            Self::Negative(_) => "this is {}{}; the values of words aren't below 0",
+            Self::DoesNotFit(..) => "{} doesn't fit into the {} bits of {}",
+            Self::OutOfBounds => {
+                "a number is between -2 to the power of 64 and 2 to the power of 64"
+            }
+            _ => self.program_template(),
+        }
+    }
+
+    /// The templates of what the parts may do, and of the whole.
+    fn program_template(self) -> &'static str {
+        match self {
+            Self::FixedOwned { .. } => "{} is fixed: nobody owns it",
+            Self::FixedAssigned { .. } => "{} is fixed: no step changes it",
+            Self::OwnedAlready { .. } => "{} is owned by part {} already",
+            Self::AssignsOwned { .. } => "part {} assigns {}, which part {} owns",
+            Self::ReadsAuxiliary { .. } => {
+                "{} is auxiliary: nothing that the program does may depend on it"
+            }
+            Self::NoStatement => { "no statement is left here: the ranges of its `for` are empty" }
+            Self::NothingToAssign => "an await needs a word that isn't fixed",
+            Self::TooDeep => "what this stands for is nested too deeply",
+            _ => "what the outline stands for is too large",
+        }
+    }
+
+    /// The inserts, where the fault stands at this place.
+    fn inserts(self, found: Insert) -> Inserts {
+        match self {
+            Self::NothingNamed(Some(near)) => filled(&[found, Quoted(near)]),
+            Self::NoWordNamed(name)
+            | Self::NoIndex(name)
+            | Self::NumberPrimed(name)
+            | Self::IsValue(name)
+            | Self::IsWord(name)
+            | Self::IsNoWord(name) => filled(&[Quoted(name)]),
+            Self::DeclaredAlready(line) => filled(&[found, Number(line as i128)]),
+            Self::NumberWanted(what) => filled(&[Text(what)]),
+            Self::CountDiffers(name, what, wanted, given) => {
+                let (wanted, given) = (Number(wanted as i128), Number(given as i128));
+                filled(&[Quoted(name), wanted, Text(what), given])
+            }
+            Self::OutsideFamily(name, index, (first, last)) => {
+                let (first, last) = (Number(first), Number(last));
+                filled(&[Number(index), Bindings, Quoted(name), first, last])
+            }
+            Self::TooManyWords(count) | Self::TooManyParts(count) => {
+                filled(&[Number(count as i128)])
+            }
+            Self::Modulus(number) | Self::ShiftCount(number) | Self::Negative(number) => {
+                filled(&[Number(number), Bindings])
+            }
+            _ => self.word_inserts(found),
+        }
+    }
+
+    /// The inserts of faults of words and parts.
+    fn word_inserts(self, found: Insert) -> Inserts {
+        match self {
+            Self::WidthsDiffer((word, width), (first, first_width)) => {
+                let (width, first_width) = (i128::from(width), i128::from(first_width));
+                filled(&[Word(word), Number(width), Word(first), Number(first_width)])
+            }
+            Self::DoesNotFit(number, (word, width)) => {
+                filled(&[Number(number), Number(i128::from(width)), Word(word)])
+            }
+            Self::MemberTwice(word) => filled(&[Member(word)]),
+            Self::FixedOwned { word }
+            | Self::FixedAssigned { word }
+            | Self::ReadsAuxiliary { word } => filled(&[Word(word)]),
+            Self::OwnedAlready { word, part } => filled(&[Word(word), Part(part)]),
+            Self::AssignsOwned { part, word, owner } => {
+                filled(&[Part(part), Word(word), Part(owner)])
+            }
+            Self::PartTwice { part } => filled(&[Part(part)]),
+            _ => filled(&[found]),
+        }
+    }
+}
+
+fn filled(given: &[Insert]) -> Inserts {
+    let mut inserts = [Text(""); MOST_INSERTS];
+    for (slot, insert) in inserts.iter_mut().zip(given) {
+        *slot = *insert;
+    }
+    inserts
+}
+
+/// The inserts of a fault; where its template has fewer gaps, the others are of no use.
+pub(crate) fn inserts(fault: Fault) -> Inserts {
+    let found = Quoted(fault.span);
+    match fault.kind {
+        FaultKind::Token(_) => filled(&[Byte(fault.span)]),
+        FaultKind::Shape(
+            ShapeFault::Wanted(text)
+            | ShapeFault::NameWanted(text)
+            | ShapeFault::KeywordIsNoName(text)
+            | ShapeFault::ValueIsBare(text),
+        ) => filled(&[Text(text), found]),
+        FaultKind::Shape(ShapeFault::ImplicationsChained { first }) => {
+            filled(&[Quoted(first), found])
+        }
+        FaultKind::Meaning(kind) => kind.inserts(found),
+        _ => filled(&[found]),
+    }
+}

@@ -1,0 +1,59 @@
+//! Places in a source.
+
+/// A piece of a source: the index of its first byte, from 0, and the index after its last byte.
+#[derive(Clone, Copy)]
+pub struct Span {
+    pub start: usize,
+    pub end: usize,
+}
+
+/// A place as a reader names it.
+#[derive(Clone, Copy)]
+pub struct Position {
+    /// The line, from 1. Only LF ends a line.
+    pub line: usize,
+    /// The byte in its line, from 1.
+    pub column: usize,
+}
+
+impl Span {
+    /// No bytes, of no place.
+    pub const NOWHERE: Span = Span { start: 0, end: 0 };
+
+    /// From the beginning of this span to the end of the other.
+    pub fn to(self, last: Span) -> Span {
+        Span {
+            start: self.start,
+            end: last.end,
+        }
+    }
+
+    /// The bytes of the source that it names; none where the source is shorter.
+    pub fn of(self, source: &[u8]) -> &[u8] {
+        source.get(self.start..self.end).unwrap_or(&[])
+    }
+
+    /// Where it begins.
+    pub fn position(self, source: &[u8]) -> Position {
+        let before = source.get(..self.start).unwrap_or(source);
+        let column = before.iter().rev().take_while(|b| **b != b'\n').count();
+        Position {
+            line: before
+                .iter()
+                .filter(|b| **b == b'\n')
+                .count()
+                .saturating_add(1),
+            column: column.saturating_add(1),
+        }
+    }
+
+    /// The line in which it begins, without its end.
+    pub fn row(self, source: &[u8]) -> &[u8] {
+        let column = self.position(source).column;
+        let start = self.start.saturating_sub(column.saturating_sub(1));
+        let rest = source.get(start..).unwrap_or(&[]);
+        let length = rest.iter().take_while(|b| **b != b'\n').count();
+        let row = rest.get(..length).unwrap_or(rest);
+        row.strip_suffix(b"\r").unwrap_or(row)
+    }
+}

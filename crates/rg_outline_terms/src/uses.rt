@@ -1,0 +1,128 @@
+//! Names as they are used: the trees for which they stand.
+
+use crate::Meaning;
+use crate::scope::Scope;
+use rg_outline_syntax::{Let, List, MeaningFault, Span};
+
+/// A name as it is used.
+#[derive(Clone, Copy)]
+pub(crate) struct Use {
+    pub(crate) name: Span,
+    pub(crate) listed: List,
+    pub(crate) has_arguments: bool,
+    pub(crate) is_primed: bool,
+    pub(crate) span: Span,
+}
+
+impl Scope<'_> {
+    /// What a name stands for.
+    #[cycle(elaborate)]
+    pub(crate) fn named(&mut self, used: Use, depth: u32) -> usize {
+        let Some(named) = self.find(used.name) else {
+            let near = self.near(used.name);
+            self.refuse(MeaningFault::NothingNamed(near), used.span);
+            return 0;
+        };
+        match named.meaning {
+            Meaning::Tree(tree) => self.argument(used, tree),
+            Meaning::Let(called) => self.called(used, called, depth),
+            Meaning::Family(family) => {
+                if used.has_arguments {
+                    self.refuse(MeaningFault::IsWord(used.name), used.span);
+                    return 0;
+                }
+                let word = self.member(family, used.listed, used.span, depth);
+                self.word_tree(word, used.is_primed, used.span)
+            }
+        }
+    }
+
+    /// The tree of a parameter or an index.
+    fn argument(&mut self, used: Use, tree: usize) -> usize {
+        if used.has_arguments || !used.listed.is_empty() {
+            self.refuse(MeaningFault::IsValue(used.name), used.span);
+        }
+        if used.is_primed {
+            if self.forest.number(tree).is_some() {
+                self.refuse(MeaningFault::NumberPrimed(used.name), used.span);
+            }
+            return self.in_next_state(tree);
+        }
+        if self.forest.root(tree).arity() == 0 {
+            return self.placed(tree, used.span, None);
+        }
+        tree
+    }
+
+    /// The tree at another place, with a name or without one.
+    fn placed(&mut self, tree: usize, span: Span, name: Option<Span>) -> usize {
+        let made = self.forest.placed(tree, span, name);
+        self.made(made)
+    }
+
+    /// Refuses a use that has other arguments than the name has parameters.
+    fn refuse_arguments(&mut self, used: Use, called: Let) {
+        if !used.has_arguments && !used.listed.is_empty() {
+            self.refuse(MeaningFault::IsNoWord(used.name), used.span);
+        }
+        let (wanted, given) = (called.parameters.len(), used.listed.len());
+        if wanted != given {
+            let kind = MeaningFault::CountDiffers(called.name, "parameters", wanted, given);
+            self.refuse(kind, used.span);
+        }
+    }
+
+    /// The tree of a name with its arguments. After a fault its parameters and the use stay known: they say where the fault is.
+    #[cycle(elaborate)]
+    fn called(&mut self, used: Use, called: Let, depth: u32) -> usize {
+        self.refuse_arguments(used, called);
+        let first = self.passed.len();
+        for place in used.listed.start..used.listed.end {
+            let argument = self.written.listed.get(place).copied().unwrap_or(0);
+            let tree = self.elaborate(argument, depth);
+            let stored = self.passed.push(tree);
+            self.want_stored(stored.is_ok());
+        }
+        let mark = self.names.len();
+        self.pass(used, called, first);
+        let tree = self.elaborate(called.body, depth);
+        let tree = if used.is_primed {
+            self.in_next_state(tree)
+        } else {
+            tree
+        };
+        if !called.parameters.is_empty() && !self.is_stopped() {
+            self.uses.pop();
+        }
+        self.forget(mark);
+        self.placed_use(used, tree)
+    }
+
+    /// Makes the parameters of a name known as the arguments that were passed from a place on, and notes the use where it has any.
+    fn pass(&mut self, used: Use, called: Let, first: usize) {
+        let known = self.expression(called.body).span;
+        for (place, parameter) in self.written.named(called.parameters).iter().enumerate() {
+            let place = first.saturating_add(place);
+            let tree = self.passed.get(place).copied().unwrap_or(0);
+            self.know(*parameter, known, Meaning::Tree(tree));
+        }
+        self.passed.truncate(first);
+        if !called.parameters.is_empty() && !self.is_stopped() {
+            let stored = self.uses.push(used.span);
+            self.want_stored(stored.is_ok());
+        }
+    }
+
+    /// The tree of a use, with the use's name where it is a formula.
+    fn placed_use(&mut self, used: Use, tree: usize) -> usize {
+        let root = self.forest.root(tree);
+        if root.is_formula() {
+            let span = self.forest.span(tree);
+            return self.placed(tree, span, Some(used.span));
+        }
+        if root.arity() == 0 {
+            return self.placed(tree, used.span, None);
+        }
+        tree
+    }
+}

@@ -1,2 +1,0 @@
-pub mod Readiness
-pub mod Made

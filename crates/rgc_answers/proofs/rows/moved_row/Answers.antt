@@ -1,0 +1,23 @@
+use Rattle.std.proofs.Common.{◌<◌, ◌∙◌, ap, sym, subst, [], ◌∷◌}
+use Rattle.rg_tree.specs.ConditionTrees.{assignment}
+use Rattle.rgc_answers.specs.Rows.{plain_row, moved_row}
+use Rattle.rgc_answers.proofs.Assigned.{fits_at, moved_taken, counted, length-plain}
+use Rattle.rgc_answers.proofs.rows.moved_row.Goals as goal
+
+pub loop-a-init : goal.loop-a-init
+loop-a-init c = record {
+  row = c.in_ok-row.ensures;
+  count = counted c.in_ok-row.row.items (plain_row c.args.count) c.args.count c.in_ok-row.ensures (length-plain c.args.count);
+}
+
+pub prime-requires : goal.prime-requires
+prime-requires c =
+    subst (λ n. c.a-item.result.word < n) (sym c.loop-a.invariant.count)
+    ((fits_at c.args.act.now c.args.count c.loop-a.a-index c.a-item.result c.requires c.loop-a-test.true c.a-item.is).0)
+
+pub loop-a-preserved : goal.loop-a-preserved
+loop-a-preserved c = record {
+  row = c.prime.ensures.row ∙ ap (λ r. moved_row (assignment c.a-item.result ∷ []) r) c.loop-a.invariant.row
+      ∙ sym (moved_taken c.args.act.now c.loop-a.a-index c.a-item.result (plain_row c.args.count) c.loop-a-test.true c.a-item.is);
+  count = c.prime.ensures.count ∙ c.loop-a.invariant.count;
+}

@@ -1,0 +1,123 @@
+//! The statements of a program with their numbers, a line each.
+
+ghost use Rattle.std.specs.Prelude.{◌≡◌, map, string_bytes, IfOk, IfErr, OnOk};
+ghost use Rattle.std.specs.Io.KnownBytes.{Appends};
+ghost use Rattle.rg_words.specs.Written.{CanCount};
+ghost use Rattle.rg_tree.specs.ProgramView.{part};
+ghost use Rattle.rg_words.specs.Stopped.{IsCut};
+ghost use Rattle.serde_json.specs.View.{view};
+ghost use Rattle.rgc_answers.specs.Numbers.{kind_text, part_name, statement_data, statement_line, lines_text, numbers_text};
+
+use crate::json_line::line_of;
+use rg_tree::numbered::{Numbered, StatementKind};
+use rg_tree::part::Part;
+use rg_tree::program::Program;
+use rg_words::{Out, Refusal, write_all};
+use rgc_line::Format;
+use serde_json::{Value, json};
+use std::alloc::{AllocError, Global};
+
+/// The word for a kind of statement.
+pub fn kind_text(kind: StatementKind) -> &'static str
+    ensures { result.now ≡ kind_text kind }
+{
+    match kind {
+        StatementKind::Skip => "skip",
+        StatementKind::Assign => "assign",
+        StatementKind::Await => "await",
+        StatementKind::If => "if",
+        StatementKind::While => "while",
+        StatementKind::Seq => "seq",
+    }
+}
+
+/// The name of a part by its number, from 1; no text where there is none.
+pub fn part_name(parts: &[Part], number: usize) -> &str
+    ensures { result.now ≡ part_name (map part parts.now) number }
+{
+    if number == 0 || number > parts.len() {
+        return "";
+    }
+    &parts[number - 1].name
+}
+
+/// A statement of the part of this name.
+fn statement_value(alloc: Global, name: &str, statement: &Numbered) -> Result<Value, AllocError>
+    ensures { IfOk result (λ v. view v ≡ statement_data name.now statement.now) }
+{
+    let kind = kind_text(statement.kind);
+    json!(in alloc; {
+        "kind": "statement",
+        "line": statement.line,
+        "number": statement.number,
+        "part": name,
+        "statement": kind
+    })
+}
+
+/// The line of a statement of the part of this name.
+fn statement_line(
+    alloc: Global,
+    format: Format,
+    name: &str,
+    statement: &Numbered,
+) -> Result<String, AllocError>
+    ensures { IfOk result (λ line. string_bytes line ≡ statement_line format name.now statement.now) }
+{
+    match format {
+        Format::Plain => {
+            let number = statement.number;
+            let line = statement.line;
+            let kind = kind_text(statement.kind);
+            format!(in alloc; "{number} {name} {line} {kind}\n")
+        }
+        Format::Json => {
+            let value = statement_value(alloc, name, statement)?;
+            line_of(alloc, &value)
+        }
+    }
+}
+
+/// Writes the lines of numbered statements of these parts.
+fn write_lines<W: Out>(
+    alloc: Global,
+    parts: &[Part],
+    statements: &[Numbered],
+    format: Format,
+    out: &mut W,
+) -> Result<(), Refusal>
+    requires { CanCount (W.failures out.old) }
+    ensures printed { OnOk result (Appends (W.contents out.old) (W.contents out.new) (lines_text format (map part parts.now) statements.now)) }
+    ensures failures { OnOk result (W.failures out.new ≡ W.failures out.old) }
+    ensures stopped { IfErr result (IsCut (W.contents out.old) (W.contents out.new) (W.failures out.old) (W.failures out.new) (lines_text format (map part parts.now) statements.now)) }
+{
+    for statement in statements {
+        let name = part_name(parts, statement.part);
+        let line = statement_line(alloc, format, name, statement)?;
+        write_all(out, line.as_bytes())?;
+    }
+    Ok(())
+}
+
+/// Writes for each statement of a program its number, its part's name, the line of its first token and its kind, in the order of
+/// the numbers, a line each.
+///
+/// # Errors
+///
+/// `Write` where the writer failed, `Memory` where memory was refused, both without a file and a place. What went out is then a beginning of
+/// the text.
+pub(crate) fn write_numbers<W: Out>(
+    alloc: Global,
+    program: &Program,
+    format: Format,
+    out: &mut W,
+) -> Result<(), Refusal>
+    requires { CanCount (W.failures out.old) }
+    ensures printed { OnOk result (Appends (W.contents out.old) (W.contents out.new) (numbers_text format (map part program.now.parts.items))) }
+    ensures failures { OnOk result (W.failures out.new ≡ W.failures out.old) }
+    // A beginning of the text went out: `Write` where the writer failed, and else memory was refused.
+    ensures stopped { IfErr result (IsCut (W.contents out.old) (W.contents out.new) (W.failures out.old) (W.failures out.new) (numbers_text format (map part program.now.parts.items))) }
+{
+    let statements = program.numbered(alloc)?;
+    write_lines(alloc, &program.parts, &statements, format, out)
+}

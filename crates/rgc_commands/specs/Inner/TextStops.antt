@@ -1,0 +1,22 @@
+-- Why a command over texts isn't done, before it is reported.
+use Rattle.std.specs.Prelude.{◌≡◌, ℕ, List, Option, Some}
+use Rattle.rgc_line.specs.declared.command.Command.{Command}
+use Rattle.rgc_line.specs.declared.command.Format.{Format}
+use Rattle.rgc_commands.specs.declared.files.Files.{Files}
+use Rattle.rgc_commands.specs.declared.stops.Stop.{Stop}
+use Rattle.rgc_commands.specs.declared.stops.Stop.TheVariants.{Device, Refused, Outline, Usage, Reported, GaveUp}
+use Rattle.rgc_commands.specs.Stopped.{IsUntouched, unread_line, IsStoppedBy, TellsWhy, GivesUp, IsMisfit}
+
+-- a file can't be read, and this line tells it
+abbrev pub IsDevice : Option (List ℕ) → Stop → Type 0
+IsDevice line (Device reported) = line ≡ Some reported.now
+IsDevice line _ = ⊥
+
+-- what is so of the files and of what went out, where a command in a format isn't done
+abbrev pub Stops : Format → Command → Files → Option (List ℕ) → Option (List ℕ) → ℕ → ℕ → Stop → Type 0
+Stops format command files old new failed after (Device line) = (unread_line command files ≡ Some line.now) × IsUntouched old new failed after
+Stops format command files old new failed after (Refused e) = IsStoppedBy command files old new failed after e
+Stops format command files old new failed after (Outline lines) = ⊥
+Stops format command files old new failed after (Usage line) = IsMisfit format command × IsUntouched old new failed after
+Stops format command files old new failed after Reported = TellsWhy format command files old new × (after ≡ failed)
+Stops format command files old new failed after (GaveUp why) = GivesUp command files why.now old new × (after ≡ failed)

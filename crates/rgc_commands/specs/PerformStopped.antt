@@ -1,0 +1,189 @@
+-- What a command says where its status isn't 0: why it isn't done, and what is reported of that.
+use Rattle.std.specs.Prelude.{◌≡◌, ◌⊎◌, ◌+◌, ℕ, List, [], ◌++◌, Option, Some, Bool, true, false, if◌then◌else◌, is_some, codes}
+use Rattle.std.specs.Borrow.{Bor}
+use Rattle.std.specs.Io.KnownBytes.{Appends}
+use Rattle.rg_words.specs.declared.refusal.Refusal.{Refusal}
+use Rattle.rg_words.specs.declared.refusal.RefusalNumber.{RefusalNumber}
+use Rattle.rg_words.specs.declared.refusal.RefusalNumber.TheVariants.{Write, Memory}
+use Rattle.rg_words.specs.Refusals.{refusal_text}
+use Rattle.rg_words.specs.Stopped.{IsStopped}
+use Rattle.rg_words.specs.Written.{AppendsBeginning}
+use Rattle.rgc_line.specs.declared.command.Command.{Command}
+use Rattle.rgc_line.specs.declared.command.Command.TheVariants.{RunOutline, Outline, Verify, Challenge}
+use Rattle.rgc_line.specs.declared.command.Format.{Format}
+use Rattle.rgc_line.specs.declared.command.Format.TheVariants.{Plain, Json}
+use Rattle.rgc_line.specs.declared.command.Settings.{Settings}
+use Rattle.rgc_line.specs.declared.line.Line.{Line}
+use Rattle.rgc_answers.specs.Lines.{json_line}
+use Rattle.rgc_answers.specs.Refusals.{refusal_data}
+use Rattle.rgc_answers.specs.Running.{IsRead}
+use Rattle.rgc_outlines.specs.Unproved.{HasReportedUnverified}
+use Rattle.rgc_outlines.specs.RunStopped.{IsSomeRunRefusal}
+use Rattle.rgc_outlines.specs.Stopped.{IsSomeWriteRefusal}
+use Rattle.rgc_outlines.specs.Written.{HasReportedMissing}
+use Rattle.rgc_outlines.specs.Refused.{IsSomeTextRefusal, IsSomeVerifyRefusal}
+use Rattle.rgc_outlines.specs.Verified.{HasBreakingRun, HasPrintedRuns}
+use Rattle.rgc_commands.specs.Stopped.{IsUntouched, unread_line, RefusesFiles, IsRunUnlike, TellsWhy, GivesUp, IsMisfit}
+use Rattle.rgc_commands.specs.declared.files.Files.{Files}
+use Rattle.rgc_commands.specs.declared.outlines.TheConstants.{MOST_STEPS}
+use Rattle.rgc_commands.specs.PerformDone.{IsVerdictDone, wanted_of}
+
+-- a text went out; or a beginning of it, and then the writer failed, once more than before
+abbrev pub Writes : Option (List ℕ) → Option (List ℕ) → ℕ → ℕ → List ℕ → Type 0
+Writes old new failed after text = (Appends old new text × (after ≡ failed)) ⊎ (AppendsBeginning old new text × (after ≡ failed + 1))
+
+-- why a run of an outline is refused, with a start and with moves where the command names such files
+pub record RefusesOutlineRun {A : Type 0} (start moves : Option A) (limit : ℕ) (start_bytes moves_bytes : Option (Bor (List ℕ))) (e : Refusal) : Type 0 where
+  pub first : Option (Bor (List ℕ))
+  pub first_read : IsRead start start_bytes first
+  pub moving : Option (Bor (List ℕ))
+  pub moving_read : IsRead moves moves_bytes moving
+  pub refusal : IsSomeRunRefusal first moving limit MOST_STEPS e
+
+-- why an outline is refused, with a start and moves, by the command over it: for what it says isn't reported, so why some text and some derivation are
+abbrev pub RefusesOver : Command → Option (Bor (List ℕ)) → Option (Bor (List ℕ)) → Option (Bor (List ℕ)) → Refusal → Type 0
+RefusesOver (RunOutline _ start moves limit _) (Some outline) first moving e = RefusesOutlineRun start moves limit first moving e
+RefusesOver (Outline _ _ _ proofs _) (Some outline) _ _ e = IsSomeWriteRefusal (is_some proofs) MOST_STEPS e
+RefusesOver (Verify _ steps false) (Some outline) _ _ e = IsSomeVerifyRefusal steps e
+RefusesOver (Verify _ steps true) (Some outline) _ _ e = IsSomeTextRefusal e
+RefusesOver (Challenge _ _) (Some outline) _ _ e = IsSomeVerifyRefusal MOST_STEPS e
+RefusesOver _ _ _ _ e = ⊥
+
+-- the files of a command are refused so
+abbrev pub AreFilesRefused : Command → Files → Refusal → Type 0
+AreFilesRefused command files e = RefusesFiles command files e ⊎ RefusesOver command files.text files.start files.moves e
+
+-- after the verdict on an outline, which went out, a changed program is refused
+abbrev pub IsChangeRefused : Command → Option (List ℕ) → Option (List ℕ) → ℕ → ℕ → Type 0
+IsChangeRefused (Challenge _ _) old new failed after = IsVerdictDone old new × (after ≡ failed)
+IsChangeRefused _ old new failed after = ⊥
+
+-- a run is unlike what it printed, or a changed program is refused: lines went out before
+abbrev pub IsRefusedLate : Command → Option (List ℕ) → Option (List ℕ) → ℕ → ℕ → Refusal → Type 0
+IsRefusedLate command old new failed after e = IsRunUnlike command failed after e ⊎ IsChangeRefused command old new failed after
+
+-- the command prints nothing, since its files are refused so; or it is refused late
+abbrev pub IsRefusedFor : Command → Files → Option (List ℕ) → Option (List ℕ) → ℕ → ℕ → Refusal → Type 0
+IsRefusedFor command files old new failed after e =
+    (AreFilesRefused command files e × IsUntouched old new failed after) ⊎ IsRefusedLate command old new failed after e
+
+-- the same; or what it printed was cut, since the writer failed or memory was refused
+abbrev pub IsLineStoppedBy : Command → Files → Option (List ℕ) → Option (List ℕ) → ℕ → ℕ → Refusal → Type 0
+IsLineStoppedBy command files old new failed after e =
+    IsStopped (AreFilesRefused command files) old new failed after e ⊎ IsRefusedLate command old new failed after e
+
+-- of an outline it is reported why there are no proofs, and that is so of some text and some derivation
+abbrev pub TellsOver : Command → Option (Bor (List ℕ)) → Option (List ℕ) → Option (List ℕ) → Type 0
+TellsOver (Verify _ _ true) (Some outline) old new = HasBreakingRun × HasPrintedRuns old new
+TellsOver (RunOutline _ _ _ _ _) (Some outline) old new = HasReportedUnverified old new
+TellsOver (Outline _ text derivation proofs map) (Some outline) old new = HasReportedMissing (wanted_of text derivation proofs map) old new
+TellsOver _ _ old new = ⊥
+
+-- the output tells why there is no proof, and what it tells is so
+abbrev pub IsWhyReported : Format → Command → Files → Option (List ℕ) → Option (List ℕ) → Type 0
+IsWhyReported format command files old new = TellsWhy format command files old new ⊎ TellsOver command files.text old new
+
+-- the command is over an outline
+abbrev pub IsOverOutline : Command → Type 0
+IsOverOutline (RunOutline _ _ _ _ _) = Unit {0}
+IsOverOutline (Outline _ _ _ _ _) = Unit {0}
+IsOverOutline (Verify _ _ _) = Unit {0}
+IsOverOutline (Challenge _ _) = Unit {0}
+IsOverOutline _ = ⊥
+
+-- the refusals of writers that fail and of memory, which aren't of files
+abbrev pub is_failure : RefusalNumber → Bool
+is_failure Write = true
+is_failure Memory = true
+is_failure _ = false
+
+-- the status of a refusal
+abbrev pub refusal_status : RefusalNumber → ℕ
+refusal_status number = if is_failure number then 3 else 1
+
+-- the line that tells a refusal
+abbrev pub reported_line : Format → Refusal → List ℕ
+reported_line Plain e = refusal_text e ++ codes "\n"
+reported_line Json e = json_line (refusal_data e)
+
+-- what explains a refusal below its line: nothing, where that isn't asked, or where the refusal is reported as JSON
+pub record IsBelow (settings : Settings) (text : List ℕ) : Type 0 where
+  pub unasked : settings.is_explained ≡ false → text ≡ []
+  pub as_json : settings.format ≡ Json → text ≡ []
+
+-- a refusal is reported by its line, and has its own status; or there was no memory for the line, and that is reported
+abbrev pub TellsRefusal : Settings → Refusal → ℕ → Option (List ℕ) → Option (List ℕ) → ℕ → ℕ → Type 0
+TellsRefusal settings e status old new failed after =
+    ((below : List ℕ) × IsBelow settings below × (status ≡ refusal_status e.number) × Writes old new failed after (reported_line settings.format e ++ below))
+    ⊎ ((status ≡ 3) × Writes old new failed after (codes "refused 99\n"))
+
+-- the output tells why there is no proof, and nothing is reported on the faults
+pub record HasReportedWhy (line : Line) (files : Files) (old new : Option (List ℕ)) (failed after : ℕ) (quiet reported : Option (List ℕ)) (quiet_failed reported_failed : ℕ) : Type 0 where
+  pub why : IsWhyReported line.settings.format line.command files old new
+  pub failures : after ≡ failed
+  pub silent : reported ≡ quiet
+  pub faults : reported_failed ≡ quiet_failed
+
+-- the output tells that a search gave up, and a line on the faults why
+pub record HasReportedGivenUp (line : Line) (files : Files) (old new : Option (List ℕ)) (failed after : ℕ) (quiet reported : Option (List ℕ)) (quiet_failed reported_failed : ℕ) : Type 0 where
+  pub reason : List ℕ
+  pub why : GivesUp line.command files reason old new
+  pub failures : after ≡ failed
+  pub tells : Writes quiet reported quiet_failed reported_failed reason
+
+-- the files are refused, nothing went out, and the refusal is reported on the faults
+pub record HasReportedRefusal (line : Line) (files : Files) (old new : Option (List ℕ)) (failed after : ℕ) (quiet reported : Option (List ℕ)) (quiet_failed reported_failed : ℕ) : Type 0 where
+  pub refusal : Refusal
+  pub why : IsRefusedFor line.command files old new failed after refusal
+  pub tells : TellsRefusal line.settings refusal 1 quiet reported quiet_failed reported_failed
+
+-- it went out why an outline isn't verified; or, before its changes are looked at, that it is
+abbrev pub TellsVerdict : Command → Option (List ℕ) → Option (List ℕ) → Type 0
+TellsVerdict (Verify _ _ false) old new = HasReportedUnverified old new
+TellsVerdict (Challenge _ _) old new = HasReportedUnverified old new ⊎ IsVerdictDone old new
+TellsVerdict _ old new = ⊥
+
+-- nothing went out, or that did; and the writer didn't fail
+abbrev pub WentOut : Command → Option (List ℕ) → Option (List ℕ) → ℕ → ℕ → Type 0
+WentOut command old new failed after = (Appends old new [] ⊎ TellsVerdict command old new) × (after ≡ failed)
+
+-- an outline is refused or not verified, and lines on the faults tell it
+pub record HasReportedOutline (line : Line) (old new : Option (List ℕ)) (failed after : ℕ) (quiet reported : Option (List ℕ)) (quiet_failed reported_failed : ℕ) : Type 0 where
+  pub over : IsOverOutline line.command
+  pub printed : WentOut line.command old new failed after
+  pub lines : List ℕ
+  pub tells : Writes quiet reported quiet_failed reported_failed lines
+
+-- status 1: there is no proof, or the files are refused, or an outline
+abbrev pub IsRefused : Line → Files → Option (List ℕ) → Option (List ℕ) → ℕ → ℕ → Option (List ℕ) → Option (List ℕ) → ℕ → ℕ → Type 0
+IsRefused line files old new failed after quiet reported quiet_failed reported_failed =
+    HasReportedWhy line files old new failed after quiet reported quiet_failed reported_failed
+    ⊎ HasReportedGivenUp line files old new failed after quiet reported quiet_failed reported_failed
+    ⊎ HasReportedRefusal line files old new failed after quiet reported quiet_failed reported_failed
+    ⊎ HasReportedOutline line old new failed after quiet reported quiet_failed reported_failed
+
+-- status 2: the words don't fit, nothing went out, and a line on the faults tells it
+pub record HasReportedMisfit (line : Line) (old new : Option (List ℕ)) (failed after : ℕ) (quiet reported : Option (List ℕ)) (quiet_failed reported_failed : ℕ) : Type 0 where
+  pub misfit : IsMisfit line.settings.format line.command
+  pub untouched : IsUntouched old new failed after
+  pub words : List ℕ
+  pub tells : Writes quiet reported quiet_failed reported_failed words
+
+-- a file that the command names can't be read, nothing went out, and the line on the faults tells which is the first
+pub record HasReportedUnread (line : Line) (files : Files) (old new : Option (List ℕ)) (failed after : ℕ) (quiet reported : Option (List ℕ)) (quiet_failed reported_failed : ℕ) : Type 0 where
+  pub words : List ℕ
+  pub unread : unread_line line.command files ≡ Some words
+  pub untouched : IsUntouched old new failed after
+  pub tells : Writes quiet reported quiet_failed reported_failed words
+
+-- the output was cut, since the writer failed or memory was refused, or there was no memory before it began; and that is reported on the faults
+pub record HasReportedCut (line : Line) (files : Files) (old new : Option (List ℕ)) (failed after : ℕ) (quiet reported : Option (List ℕ)) (quiet_failed reported_failed : ℕ) : Type 0 where
+  pub refusal : Refusal
+  pub why : IsLineStoppedBy line.command files old new failed after refusal
+  pub tells : TellsRefusal line.settings refusal 3 quiet reported quiet_failed reported_failed
+
+-- status 3: a file can't be read, or the writer failed or memory was refused
+abbrev pub HasFailed : Line → Files → Option (List ℕ) → Option (List ℕ) → ℕ → ℕ → Option (List ℕ) → Option (List ℕ) → ℕ → ℕ → Type 0
+HasFailed line files old new failed after quiet reported quiet_failed reported_failed =
+    HasReportedUnread line files old new failed after quiet reported quiet_failed reported_failed
+    ⊎ HasReportedCut line files old new failed after quiet reported quiet_failed reported_failed

@@ -1,4 +1,0 @@
-pub mod Assigned
-pub mod Equal
-pub mod Fitting
-pub mod Written

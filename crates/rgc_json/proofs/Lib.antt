@@ -1,5 +1,0 @@
-pub mod Floats
-pub mod ConditionLines
-pub mod Values
-pub mod Items
-pub mod Found

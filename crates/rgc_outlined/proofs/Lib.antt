@@ -1,3 +1,0 @@
-pub mod Proved
-pub mod Stops
-pub mod RunStops

@@ -1,0 +1,61 @@
+use Rattle.std.proofs.Common.{inl, inr, subst}
+use Rattle.std.proofs.lemmas.Result.{err_from_is_err_and}
+use Rattle.rg_words.proofs.Cuts.{refused_stops}
+use Rattle.rg_accept.specs.Stages.{derived_program, derived_lines}
+use Rattle.rgc.specs.Proofs.{AreFoundFor}
+use Rattle.rgc.specs.declared.proofs_found.ProofsFound.{ProofsFound}
+use Rattle.rgc_outlines.specs.Refused.{IsVerifyRefusal}
+use Rattle.rgc_outlines.proofs.Stops.{proofs_stop}
+use Rattle.rgc_outlines.proofs.verify.print_verified.Goals as goal
+
+pub returns-in-Proofs-clause-printed : goal.returns-in-Proofs-clause-printed
+returns-in-Proofs-clause-printed g c = λ _.
+    let of_pieces = c.in_ok-derived.ensures.derived in
+    let counts = c.in_ok-print_counts-in-Proofs.ensures.printed in
+    record {
+      text = c.args.files.now.text.items;
+      derivation = c.args.files.now.derivation.items;
+      pieces = of_pieces.pieces;
+      proofs = c.as_bytes.result.now;
+      program = derived_program c.in_ok-derived.derived;
+      cut = of_pieces.cut;
+      accepted = record {
+        lines = derived_lines c.in_ok-derived.derived;
+        derived = of_pieces.derived;
+        proved = counts.proved;
+      };
+      satisfied = counts.satisfied;
+      found = counts.found;
+      printed = counts.printed;
+    }
+
+pub returns-clause-unproved : goal.returns-clause-unproved
+returns-clause-unproved g c =
+    let program = derived_program c.in_ok-derived.derived in
+    let lines = derived_lines c.in_ok-derived.derived in
+    record {
+      program = program;
+      lines = lines;
+      derived = c.in_ok-derived.ensures.derived;
+      are = subst (λ (found : ProofsFound). AreFoundFor program lines found) c.in-Failures.is c.in_ok-proofs.ensures.found;
+    }
+
+pub returns-in_err-derived-clause-stopped : goal.returns-in_err-derived-clause-stopped
+returns-in_err-derived-clause-stopped g c =
+    let p = err_from_is_err_and c.from_residual.result c.from_residual.ensures.1 in
+    let files = c.args.files.now in
+    rw (p.1, p.2) (refused_stops (IsVerifyRefusal files.text.items files.derivation.items c.args.steps) _ _ _ (inl c.in_err-derived.ensures.refused))
+
+pub returns-in_err-proofs-clause-stopped : goal.returns-in_err-proofs-clause-stopped
+returns-in_err-proofs-clause-stopped g c =
+    let p = err_from_is_err_and c.from_residual-in_err-proofs.result c.from_residual-in_err-proofs.ensures.1 in
+    let files = c.args.files.now in
+    let derived = c.in_ok-derived.derived in
+    rw (p.1, p.2) (refused_stops (IsVerifyRefusal files.text.items files.derivation.items c.args.steps) _ _ _ (inr (derived_program derived, derived_lines derived, c.in_ok-derived.ensures.derived, c.in_err-proofs.ensures.refused)))
+
+pub returns-in_err-print_counts-in-Proofs-clause-stopped : goal.returns-in_err-print_counts-in-Proofs-clause-stopped
+returns-in_err-print_counts-in-Proofs-clause-stopped g c =
+    let p = err_from_is_err_and c.from_residual-in_err-print_counts-in-Proofs.result c.from_residual-in_err-print_counts-in-Proofs.ensures.1 in
+    let files = c.args.files.now in
+    let derived = c.in_ok-derived.derived in
+    rw (p.1, p.2) (proofs_stop files.text.items files.derivation.items c.args.steps (derived_program derived) (derived_lines derived) c.as_bytes.result.now _ _ _ _ _ c.in_ok-derived.ensures.derived c.in_err-print_counts-in-Proofs.ensures.stopped)

@@ -1,0 +1,14 @@
+pub mod Reported
+pub mod Cut
+pub mod Unproved
+pub mod Refuted
+pub mod WalkedRefuted
+pub mod Verified
+pub mod Refused
+pub mod Inner
+pub mod Changed
+pub mod ChallengeUnproved
+pub mod Outlined
+pub mod Written
+pub mod Stopped
+pub mod RunStopped

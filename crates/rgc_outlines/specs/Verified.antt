@@ -1,0 +1,56 @@
+-- What is printed of an outline.
+use Rattle.std.specs.Prelude.{ℕ, ◌≤◌, List, ◌++◌, length, Option, codes, decimal}
+use Rattle.std.specs.Io.KnownBytes.{Appends}
+use Rattle.serde_json.specs.Data.{Data, object, member, no_members, number, string, unsigned}
+use Rattle.serde_json.specs.Written.{compact_text}
+use Rattle.rg_words.specs.declared.limits.TheConstants.{MOST_TEXT_BYTES}
+use Rattle.rg_tree.specs.Statements.{ProgramTree}
+use Rattle.rg_tree.specs.Programs.{IsSatisfied}
+use Rattle.rg_accept.specs.Accepted.{conditions_of, AreAccepted}
+use Rattle.rgc.specs.Pieces.{AreAcceptedInPieces}
+use Rattle.rgc_outlines.specs.Cut.{ArePiecesOf}
+use Rattle.rgc_outlines.specs.WalkedRefuted.{IsRefuted}
+use Rattle.rgc_outlines.specs.declared.verdict.VerdictForm.{VerdictForm}
+use Rattle.rgc_outlines.specs.declared.verdict.VerdictForm.TheVariants.{Alone, Named, Json}
+
+-- how many conditions were proved, and for how many of them a search found lines
+abbrev pub verified_text : ℕ → ℕ → List ℕ
+verified_text conditions found = codes "verified: " ++ (decimal conditions ++ (codes " conditions, " ++ (decimal found ++ codes " by search\n")))
+
+-- the same as a JSON value, with the outline's file
+abbrev pub verdict_data : List ℕ → ℕ → ℕ → Data
+verdict_data file conditions found =
+    object (member (codes "by_search") (number (unsigned found)) (member (codes "conditions") (number (unsigned conditions)) (member (codes "file") (string file) (member (codes "kind") (string (codes "verified")) no_members))))
+
+-- the same in a form, as a line
+abbrev pub verdict_text : VerdictForm → ℕ → ℕ → List ℕ
+verdict_text Alone conditions found = verified_text conditions found
+verdict_text (Named name) conditions found = name.now ++ (codes ": " ++ verified_text conditions found)
+verdict_text (Json name) conditions found = compact_text (verdict_data name.now conditions found) ++ codes "\n"
+
+-- some text, the pieces of some derivation, and some proofs are accepted for a program, which therefore satisfies its specification, and the count of
+-- its conditions went out in this form
+pub record HasPrintedVerdict (form : VerdictForm) (old new : Option (List ℕ)) : Type 0 where
+  pub text : List ℕ
+  pub derivation : List ℕ
+  pub pieces : List (List ℕ)
+  pub proofs : List ℕ
+  pub program : ProgramTree
+  pub cut : ArePiecesOf derivation pieces
+  pub accepted : AreAcceptedInPieces text pieces proofs program
+  pub satisfied : IsSatisfied program
+  pub found : ℕ
+  pub printed : Appends old new (verdict_text form (length (conditions_of program accepted.lines)) found)
+
+-- where the derivation is no longer than a file may be, it is accepted with the text and the proofs
+abbrev pub ShortDerivationsAreAccepted : Type 0
+ShortDerivationsAreAccepted =
+    (form : VerdictForm) (old new : Option (List ℕ)) (v : HasPrintedVerdict form old new) → length v.derivation ≤ MOST_TEXT_BYTES → AreAccepted v.text v.derivation v.proofs v.program
+
+-- some text spells a program that doesn't satisfy its specification
+abbrev pub HasBreakingRun : Type 0
+HasBreakingRun = (text : List ℕ) × IsRefuted text
+
+-- what a walk found went out
+abbrev pub HasPrintedRuns : Option (List ℕ) → Option (List ℕ) → Type 0
+HasPrintedRuns old new = (reported : List ℕ) × Appends old new reported

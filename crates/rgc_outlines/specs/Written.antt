@@ -1,0 +1,68 @@
+-- What was written of an outline.
+use Rattle.std.specs.Prelude.{◌≡◌, ℕ, ◌+◌, List, ◌++◌, length, Bool, true, false, Option}
+use Rattle.std.specs.Io.KnownBytes.{Appends}
+use Rattle.rg_tree.specs.Lines.{LineTree}
+use Rattle.rg_tree.specs.Statements.{ProgramTree}
+use Rattle.rg_hints.specs.Proved.{AreProved}
+use Rattle.rgc.specs.declared.proofs_found.ProofsFound.{ProofsFound}
+use Rattle.rgc.specs.declared.proofs_found.ProofsFound.TheVariants.{Proofs, Failures}
+use Rattle.rgc.specs.declared.proofs_found.Unproved.{Unproved}
+use Rattle.rg_accept.specs.Accepted.{conditions_of}
+use Rattle.rgc.specs.Chosen.{AreDerived}
+use Rattle.rgc.specs.Proofs.{AreFoundFor, AreUnproved}
+use Rattle.rgc_outlines.specs.declared.write.Wanted.{Wanted}
+use Rattle.rgc_outlines.specs.declared.write.Sides.{Sides}
+
+-- a file was put after what was there, where it is wanted
+abbrev pub IsPut : Bool → List ℕ → List ℕ → List ℕ → Type 0
+IsPut true file old new = new ≡ old ++ file
+IsPut false file old new = new ≡ old
+
+-- a text went out where it isn't put beside the output; else nothing did
+abbrev pub IsPrinted : Bool → List ℕ → Option (List ℕ) → Option (List ℕ) → Type 0
+IsPrinted true text old new = new ≡ old
+IsPrinted false text old new = Appends old new text
+
+-- each of these three that is wanted was put, and the text went out where it isn't
+pub record HasPut (text derivation proofs : List ℕ) (wanted : Wanted) (before after : Sides) (old new : Option (List ℕ)) : Type 0 where
+  pub text_put : IsPut wanted.has_text text before.text.items after.text.items
+  pub derivation_put : IsPut wanted.has_derivation derivation before.derivation.items after.derivation.items
+  pub proofs_put : IsPut wanted.has_proofs proofs before.proofs.items after.proofs.items
+  pub printed : IsPrinted wanted.has_text text old new
+
+-- what was found where proofs are wanted; no proof is missing where they aren't
+abbrev pub AreFoundWhere : Bool → ProgramTree → List LineTree → ProofsFound → Type 0
+AreFoundWhere true program lines found = AreFoundFor program lines found
+AreFoundWhere false program lines (Proofs text) = Unit {0}
+AreFoundWhere false program lines (Failures reported) = ⊥
+
+-- the proofs prove all conditions, where they are wanted
+abbrev pub AreProvedWhere : Bool → ProgramTree → List LineTree → List ℕ → Type 0
+AreProvedWhere true program lines proofs = AreProved (conditions_of program lines) proofs
+AreProvedWhere false program lines proofs = Unit {0}
+
+-- a text spells a program, whose parts a derivation derives, and proofs prove its conditions; what is wanted of them was put, and the text went out where it
+-- isn't
+pub record HasWritten (wanted : Wanted) (before after : Sides) (old new : Option (List ℕ)) : Type 0 where
+  pub text : List ℕ
+  pub derivation : List ℕ
+  pub proofs : List ℕ
+  pub program : ProgramTree
+  pub lines : List LineTree
+  pub derived : AreDerived text derivation program lines
+  pub proved : AreProvedWhere wanted.has_proofs program lines proofs
+  pub put : HasPut text derivation proofs wanted before after old new
+
+-- proofs are wanted, and aren't found: a text spells a program, whose parts a derivation derives; some of its conditions have no proof, what was found of these
+-- is so, and all others hold; and a text went out
+pub record HasReportedMissing (wanted : Wanted) (old new : Option (List ℕ)) : Type 0 where
+  pub proofs_wanted : wanted.has_proofs ≡ true
+  pub text : List ℕ
+  pub derivation : List ℕ
+  pub program : ProgramTree
+  pub lines : List LineTree
+  pub derived : AreDerived text derivation program lines
+  pub unproved : List Unproved
+  pub are : AreUnproved (conditions_of program lines) 1 (length (conditions_of program lines) + 1) unproved
+  pub reported : List ℕ
+  pub printed : Appends old new reported

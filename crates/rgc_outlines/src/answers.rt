@@ -1,0 +1,235 @@
+//! What is known of a changed program.
+
+ghost use Rattle.std.specs.Prelude.{◌<◌, IfOk, IfSome, OnOk, All, length};
+ghost use Rattle.rgc_outlines.specs.Changed.{IsAnswered};
+ghost use Rattle.rgc_outlines.specs.Inner.Answers.{AreAnswered};
+
+use crate::asked::is_proved;
+use crate::candidates::{Candidate, files_with, plain, unless_refused};
+use crate::known::Known;
+use crate::walk_text;
+use rg_find::Watcher;
+use rg_outline_challenge::{Between, Change, changed_outline};
+use rg_outline_reports::{OutlineFiles, Outlined, read_outline};
+use rg_pool::deal;
+use rg_walk::{Bounds, BreakingRun, Walked};
+use rg_words::Refusal;
+use rgc_answers::Context;
+use std::alloc::{AllocError, Global};
+use std::thread::Threads;
+
+/// How far the walk of a changed program goes.
+const BOUNDS: Bounds = Bounds {
+    configurations: 20_000,
+    work: 2_000_000,
+    with_parts: false,
+};
+
+/// What is known of a changed program.
+#[derive(Clone, Copy, PartialEq, Eq)]
+pub enum Answer {
+    /// It is proved all the same.
+    Survives,
+    /// A run of it breaks the specification.
+    Breaks,
+    /// It isn't so with these assertions, and no run was found that breaks the specification.
+    Unfit,
+    /// No proof was found within the steps, and no run that breaks the specification.
+    Undecided,
+}
+
+/// A change, and what is known of the changed program.
+#[derive(Drop)]
+pub struct Answered {
+    pub change: Change,
+    pub answer: Answer,
+    /// The text of the changed program.
+    pub text: Vec<u8>,
+    /// The lines that report the run that breaks it, if there is one.
+    pub reported: Vec<u8>,
+}
+
+/// The outline that is changed, and how its changes are asked.
+#[derive(Clone, Copy)]
+pub(crate) struct Subject<'s, 'k, 'p> {
+    pub(crate) source: &'s [u8],
+    /// What is proved of the outline as it is written.
+    pub(crate) known: &'k Known<'p>,
+    /// The most decisions of each search.
+    pub(crate) steps: u64,
+}
+
+/// A change that survives with these files, if it does.
+fn proved_with<R, P: Watcher + Copy>(
+    context: &Context<'_, R, P>,
+    subject: Subject<'_, '_, '_>,
+    change: &Change,
+    files: OutlineFiles,
+    is_open: &mut bool,
+) -> Result<Option<Answered>, Refusal>
+    ensures { IfOk result (λ found. IfSome found IsAnswered) }
+{
+    let (known, steps) = (subject.known, subject.steps);
+    if !is_proved(context, &files, known, steps, is_open)? {
+        return Ok(None);
+    }
+    Ok(Some(Answered {
+        change: *change,
+        answer: Answer::Survives,
+        text: files.text,
+        reported: Vec::new(context.alloc),
+    }))
+}
+
+/// A change that survives with one of the assertions, if it does.
+fn proved<R, P: Watcher + Copy>(
+    context: &Context<'_, R, P>,
+    subject: Subject<'_, '_, '_>,
+    change: &Change,
+    is_open: &mut bool,
+) -> Result<Option<Answered>, Refusal>
+    ensures { IfOk result (λ found. IfSome found IsAnswered) }
+{
+    for between in Between::ALL {
+        if let Some(files) = files_with(context.alloc, subject.source, change, between)? {
+            let found = proved_with(context, subject, change, files, is_open)?;
+            if found.is_some() {
+                return Ok(found);
+            }
+        }
+    }
+    Ok(None)
+}
+
+/// The lines that report a run of the program of an outline; none where the outline is refused.
+fn run_lines(alloc: Global, source: &[u8], run: &BreakingRun) -> Result<Vec<u8>, AllocError> {
+    let outline = plain(source);
+    let Some(written) = unless_refused(read_outline(alloc, outline))? else {
+        return Ok(Vec::new(alloc));
+    };
+    match unless_refused(Outlined::of(alloc, outline, &written))? {
+        Some(outlined) => outlined.run_lines(run),
+        None => Ok(Vec::new(alloc)),
+    }
+}
+
+/// A change that isn't proved, with what a walk finds of it.
+fn walked(
+    alloc: Global,
+    source: &[u8],
+    candidate: &Candidate,
+    is_open: bool,
+) -> Result<Answered, Refusal>
+    ensures { IfOk result IsAnswered }
+{
+    let change = candidate.change;
+    let text = Vec::from_slice(alloc, &candidate.text)?;
+    match walk_text(alloc, &text, &[], BOUNDS)? {
+        Walked::Breaks(run) => {
+            let changed = changed_outline(alloc, source, &change, candidate.between)?;
+            let reported = run_lines(alloc, &changed, &run)?;
+            Ok(Answered {
+                change,
+                answer: Answer::Breaks,
+                text,
+                reported,
+            })
+        }
+        Walked::NotFound(_) => Ok(Answered {
+            change,
+            answer: if is_open {
+                Answer::Undecided
+            } else {
+                Answer::Unfit
+            },
+            text,
+            reported: Vec::new(alloc),
+        }),
+    }
+}
+
+/// What is known of a changed program.
+fn answer_of<R, P: Watcher + Copy>(
+    context: &Context<'_, R, P>,
+    subject: Subject<'_, '_, '_>,
+    candidate: &Candidate,
+) -> Result<Answered, Refusal>
+    ensures { IfOk result IsAnswered }
+{
+    let mut is_open = false;
+    let change = &candidate.change;
+    match proved(context, subject, change, &mut is_open)? {
+        Some(answered) => Ok(answered),
+        None => walked(context.alloc, subject.source, candidate, is_open),
+    }
+}
+
+/// What is known of each changed program, at its place, found in threads.
+fn answer_all<R: Threads + Sync, P: Watcher + Copy + Sync>(
+    context: &Context<'_, R, P>,
+    subject: Subject<'_, '_, '_>,
+    candidates: &[Candidate],
+) -> Result<Vec<Option<Result<Answered, Refusal>>>, AllocError>
+    ensures { IfOk result (λ found. AreAnswered found.items) }
+{
+    deal(
+        context.rt,
+        context.alloc,
+        context.threads,
+        candidates.len(),
+        &|index: usize| -> Option<Result<Answered, Refusal>>
+            requires { index < length candidates.now }
+            ensures { IfSome result (λ r. IfOk r IsAnswered) }
+        { Some(answer_of(context, subject, &candidates[index])) },
+    )
+}
+
+/// What is known of the changed program at a place: what was found of it before, which is taken, or what is found now.
+fn answer_at<R, P: Watcher + Copy>(
+    context: &Context<'_, R, P>,
+    subject: Subject<'_, '_, '_>,
+    candidates: &[Candidate],
+    found: &mut [Option<Result<Answered, Refusal>>],
+    index: usize,
+) -> Result<Answered, Refusal>
+    requires place { index < length candidates.now }
+    requires found { AreAnswered found.old }
+    ensures answered { IfOk result IsAnswered }
+    ensures found { AreAnswered found.new }
+{
+    if index < found.len() {
+        if let Some(answered) = found[index].take() {
+            return answered;
+        }
+    }
+    answer_of(context, subject, &candidates[index])
+}
+
+/// Adds what is known of a changed program.
+fn keep(answers: &mut Vec<Answered>, answered: Answered) -> Result<(), AllocError>
+    requires kept { All IsAnswered answers.old.items }
+    requires said { IsAnswered answered }
+    ensures { OnOk result (All IsAnswered answers.new.items) }
+{
+    answers.push(answered)?;
+    Ok(())
+}
+
+/// What is known of each changed program, in the order of the candidates. They are asked side by side, in threads; the answers are
+/// the same for any count of threads.
+pub(crate) fn answers_of<R: Threads + Sync, P: Watcher + Copy + Sync>(
+    context: &Context<'_, R, P>,
+    subject: Subject<'_, '_, '_>,
+    candidates: &[Candidate],
+) -> Result<Vec<Answered>, Refusal>
+    ensures { IfOk result (λ answers. All IsAnswered answers.items) }
+{
+    let mut found = answer_all(context, subject, candidates)?;
+    let places = found.as_mut_slice();
+    let mut answers = Vec::new(context.alloc);
+    for index in 0..candidates.len() {
+        let answered = answer_at(context, subject, candidates, places, index)?;
+        keep(&mut answers, answered)?;
+    }
+    Ok(answers)
+}

@@ -1,0 +1,203 @@
+//! The challenge of an outline, from its bytes to what is printed.
+
+ghost use Rattle.std.specs.Prelude.{◌≡◌, All, IfOk, IfErr, OnOk};
+ghost use Rattle.rg_words.specs.Stopped.{IsStopped};
+ghost use Rattle.rg_words.specs.Written.{CanCount};
+ghost use Rattle.rgc_outlines.specs.Changed.{IsAnswered};
+ghost use Rattle.rgc_outlines.specs.Stopped.{IsNotDone};
+
+use crate::answers::{Answer, Answered, Subject, answers_of};
+use crate::candidates::{Original, candidates_of};
+use crate::known::Known;
+use crate::{NotDone, derive_outline};
+use rg_find::Watcher;
+use rg_outline_challenge::{
+    Change, Changes, Counts, changes_of, push_change, push_counts, push_survivors, push_unspoken,
+};
+use rg_outline_reports::{OutlineSource, Outlined, read_outline};
+use rg_outline_syntax::Span;
+use rg_words::{Out, Refusal, write_all};
+use rgc::{Derived, ProofsFound, find_proofs};
+use rgc_answers::Context;
+use std::alloc::{AllocError, Global};
+use std::sync::Wait;
+use std::thread::Threads;
+
+/// How an outline is challenged.
+#[derive(Clone, Copy)]
+pub struct Options {
+    /// The most decisions of each search.
+    pub steps: u64,
+    /// Whether the changes that don't survive are printed, too, each with a run that breaks the specification, if one was found.
+    pub with_refused: bool,
+}
+
+/// The changes of an outline that was read before, so that only memory can be refused.
+fn changes_in(alloc: Global, source: &[u8]) -> Result<Changes, AllocError> {
+    match changes_of(alloc, source) {
+        Ok(changes) => Ok(changes),
+        Err(_) => Err(AllocError),
+    }
+}
+
+/// How many have this answer.
+fn count(answers: &[Answered], answer: Answer) -> usize {
+    answers
+        .iter()
+        .filter(|answered| answered.answer == answer)
+        .count()
+}
+
+/// Adds the changes that don't survive, each with the run that breaks the specification, if there is one.
+fn push_refused(
+    alloc: Global,
+    lines: &mut Vec<u8>,
+    outline: OutlineSource<'_>,
+    answers: &[Answered],
+) -> Result<(), AllocError> {
+    for answered in answers {
+        let said: &[u8] = match answered.answer {
+            Answer::Survives => continue,
+            Answer::Breaks => b": breaks the specification\n",
+            Answer::Unfit => b": only the assertions don't fit\n",
+            Answer::Undecided => b": undecided within the steps\n",
+        };
+        push_change(alloc, lines, outline.name, outline.source, &answered.change)?;
+        lines.extend_from_slice(said)?;
+        lines.extend_from_slice(&answered.reported)?;
+        lines.push(b'\n')?;
+    }
+    Ok(())
+}
+
+/// The changes that survive.
+fn survivors(alloc: Global, answers: &[Answered]) -> Result<Vec<Change>, AllocError> {
+    let mut changes = Vec::new(alloc);
+    for answered in answers {
+        if answered.answer == Answer::Survives {
+            changes.push(answered.change)?;
+        }
+    }
+    Ok(changes)
+}
+
+/// What is printed.
+fn lines_of(
+    alloc: Global,
+    outline: OutlineSource<'_>,
+    options: Options,
+    unspoken: &[Span],
+    answers: &[Answered],
+) -> Result<Vec<u8>, AllocError> {
+    let mut lines = Vec::new(alloc);
+    if options.with_refused {
+        push_refused(alloc, &mut lines, outline, answers)?;
+    }
+    let counts = Counts {
+        surviving: count(answers, Answer::Survives),
+        breaking: count(answers, Answer::Breaks),
+        unfitting: count(answers, Answer::Unfit),
+        undecided: count(answers, Answer::Undecided),
+    };
+    push_counts(&mut lines, counts)?;
+    push_unspoken(&mut lines, outline.source, unspoken)?;
+    let alive = survivors(alloc, answers)?;
+    push_survivors(alloc, &mut lines, outline.name, outline.source, &alive)?;
+    Ok(lines)
+}
+
+/// What is proved of an outline's program by what was found.
+fn known_by<'p>(
+    alloc: Global,
+    derived: &Derived,
+    found: &'p ProofsFound,
+) -> Result<Known<'p>, Refusal> {
+    match found {
+        ProofsFound::Proofs(proofs) => {
+            let conditions = derived.conditions(alloc)?;
+            Known::of(alloc, &conditions, proofs.as_bytes())
+        }
+        ProofsFound::Failures(_) => Ok(Known::nothing(alloc)),
+    }
+}
+
+/// Asks of each small change of an outline's program whether its specification still holds.
+fn answers_in<R: Threads + Wait + Sync, P: Watcher + Copy + Sync>(
+    context: &Context<'_, R, P>,
+    outlined: &Outlined<'_>,
+    source: &[u8],
+    changes: &[Change],
+    steps: u64,
+) -> Result<Vec<Answered>, Refusal>
+    ensures { IfOk result (λ answers. All IsAnswered answers.items) }
+{
+    let (rt, alloc, threads) = (context.rt, context.alloc, context.threads);
+    let derived = derive_outline(alloc, &outlined.files)?;
+    let found = find_proofs(rt, alloc, threads, &derived, steps, context.watcher)?;
+    let known = known_by(alloc, &derived, &found)?;
+    let original = Original {
+        source,
+        text: &outlined.files.text,
+    };
+    let candidates = candidates_of(context, original, changes)?;
+    let subject = Subject {
+        source,
+        known: &known,
+        steps,
+    };
+    answers_of(context, subject, &candidates)
+}
+
+/// Does what `challenge` does with an outline that was worked out.
+fn challenge_outlined<R: Threads + Wait + Sync, W: Out, P: Watcher + Copy + Sync>(
+    context: &Context<'_, R, P>,
+    outline: OutlineSource<'_>,
+    outlined: &Outlined<'_>,
+    options: Options,
+    out: &mut W,
+) -> Result<Vec<Answered>, Refusal>
+    requires { CanCount (W.failures out.old) }
+    ensures answers { IfOk result (λ answers. All IsAnswered answers.items) }
+    ensures failures { OnOk result (W.failures out.new ≡ W.failures out.old) }
+    ensures stopped { IfErr result (IsStopped (λ _. Unit {0}) (W.contents out.old) (W.contents out.new) (W.failures out.old) (W.failures out.new)) }
+{
+    let (source, steps) = (outline.source, options.steps);
+    let found = changes_in(context.alloc, source)?;
+    let answers = answers_in(context, outlined, source, &found.changes, steps)?;
+    let lines = lines_of(context.alloc, outline, options, &found.unspoken, &answers)?;
+    write_all(out, &lines)?;
+    Ok(answers)
+}
+
+/// Changes the program of an outline in each small way, asks of each changed program whether the same specification still holds, and prints
+/// what it found: where it is wanted, the changes that don't survive; then how many changes there are of each kind; then those that survive,
+/// with their lines, first those that touch words of the specification. Whether the outline itself is verified isn't asked: whoever calls has
+/// `crate::verify_outline` say so before. The changed programs are asked side by side, in threads; what is printed is the same for any count of
+/// threads.
+///
+/// # Errors
+///
+/// - `NotDone::Outline` where the outline is refused, with what reports its first fault.
+/// - `NotDone::Refused` where the files of the outline or of a changed one are too deep, where more decisions are asked than a search may make,
+///   where the writer failed, or where memory is refused.
+pub fn challenge<R: Threads + Wait + Sync, W: Out, P: Watcher + Copy + Sync>(
+    context: &Context<'_, R, P>,
+    outline: OutlineSource<'_>,
+    options: Options,
+    out: &mut W,
+) -> Result<Vec<Answered>, NotDone>
+    requires { CanCount (W.failures out.old) }
+    // A change is said to survive only where its text, the pieces of a derivation and proofs are accepted; and to break the specification only where
+    // its text's program doesn't satisfy it.
+    ensures answers { IfOk result (λ answers. All IsAnswered answers.items) }
+    ensures failures { OnOk result (W.failures out.new ≡ W.failures out.old) }
+    // Where it is refused, nothing went out, unless the writer failed; of why files are refused nothing is said.
+    ensures stopped { IfErr result (IsNotDone (λ _. Unit {0}) (W.contents out.old) (W.contents out.new) (W.failures out.old) (W.failures out.new)) }
+{
+    let written = read_outline(context.alloc, outline)?;
+    let outlined = Outlined::of(context.alloc, outline, &written)?;
+    match challenge_outlined(context, outline, &outlined, options, out) {
+        Ok(answers) => Ok(answers),
+        Err(refusal) => Err(NotDone::Refused(refusal)),
+    }
+}

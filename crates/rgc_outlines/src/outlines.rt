@@ -1,0 +1,146 @@
+//! An outline as a person gives it: whether it is verified, what isn't proved of it, and what it is perhaps not meant to say.
+
+ghost use Rattle.std.specs.Prelude.{◌≡◌, ℕ, List, IsTrue, false, IfOk, IfErr, OnOk};
+ghost use Rattle.std.specs.Io.KnownBytes.{Appends};
+ghost use Rattle.rg_words.specs.Stopped.{IsStopped};
+ghost use Rattle.rg_words.specs.Written.{CanCount};
+ghost use Rattle.rg_parse.specs.Programs.{IsProgramRefusal};
+ghost use Rattle.rgc_outlines.specs.Refused.{IsSomeVerifyRefusal};
+ghost use Rattle.rgc_outlines.specs.Stopped.{IsNotDone};
+ghost use Rattle.rgc_outlines.specs.Unproved.{HasReportedUnverified};
+ghost use Rattle.rgc_outlines.specs.Verified.{HasPrintedVerdict};
+
+use crate::verdict::{VerdictForm, push_name};
+use crate::verify::print_verified;
+use crate::{NotDone, conditions_reported, tell_walk};
+use rg_find::{Judged, Unwatched, Watcher};
+use rg_outline_reports::{OutlineSource, Outlined, read_outline, values_of};
+use rg_words::{Out, Refusal, write_all};
+use rgc::{Unproved, find};
+use rgc_answers::Context;
+use std::alloc::{AllocError, Global};
+use std::sync::Wait;
+use std::thread::Threads;
+
+/// The most decisions of the search for a state that meets a pre.
+const MOST_STEPS_FOR_PRE: u64 = 1_000;
+
+/// The states at which conditions fail.
+fn states_of(alloc: Global, unproved: &[Unproved]) -> Result<Vec<Vec<u64>>, AllocError> {
+    let mut states = Vec::new(alloc);
+    for one in unproved {
+        if let Judged::Fails(state, _) = &one.judged {
+            states.push(values_of(alloc, state)?)?;
+        }
+    }
+    Ok(states)
+}
+
+/// Adds what a walk of an outline finds, whose conditions fail at some states.
+fn push_walk(
+    alloc: Global,
+    outlined: &Outlined<'_>,
+    unproved: &[Unproved],
+    reported: &mut Vec<u8>,
+) -> Result<(), Refusal>
+    ensures { IfErr result (IsProgramRefusal outlined.now.files.text.items) }
+{
+    let states = states_of(alloc, unproved)?;
+    let _ = tell_walk(alloc, outlined, &states, reported)?;
+    Ok(())
+}
+
+/// Prints which conditions of an outline have no proof, and then a run that breaks its specification, or that none was found.
+fn print_unproved<W: Out>(
+    alloc: Global,
+    outlined: &Outlined<'_>,
+    unproved: &[Unproved],
+    form: VerdictForm<'_>,
+    out: &mut W,
+) -> Result<(), Refusal>
+    requires { CanCount (W.failures out.old) }
+    ensures reported { OnOk result ((reported : List ℕ) × Appends (W.contents out.old) (W.contents out.new) reported) }
+    ensures failures { OnOk result (W.failures out.new ≡ W.failures out.old) }
+    ensures stopped { IfErr result (IsStopped (IsProgramRefusal outlined.now.files.text.items) (W.contents out.old) (W.contents out.new) (W.failures out.old) (W.failures out.new)) }
+{
+    let mut reported = conditions_reported(alloc, outlined, unproved)?;
+    push_name(form, &mut reported)?;
+    push_walk(alloc, outlined, unproved, &mut reported)?;
+    write_all(out, &reported)?;
+    Ok(())
+}
+
+/// Whether a short search finds that a formula to show is true in all states.
+fn is_shown(alloc: Global, text: &[u8]) -> bool {
+    match find(alloc, text, MOST_STEPS_FOR_PRE, &mut Unwatched) {
+        Ok((_, judged)) => matches!(judged, Judged::Holds(_)),
+        Err(_) => false,
+    }
+}
+
+/// Adds the warnings of an outline.
+fn push_warnings(
+    alloc: Global,
+    outlined: &Outlined<'_>,
+    warnings: &mut Vec<u8>,
+) -> Result<(), AllocError> {
+    let reported = outlined.warnings(is_shown(alloc, &outlined.files.unmet))?;
+    warnings.extend_from_slice(&reported)
+}
+
+/// Does what `verify_outline` does with an outline that was worked out.
+fn verify_outlined<R: Threads + Wait + Sync, W: Out, P: Watcher + Copy + Sync>(
+    context: &Context<'_, R, P>,
+    outlined: &Outlined<'_>,
+    form: VerdictForm<'_>,
+    steps: u64,
+    out: &mut W,
+    warnings: &mut Vec<u8>,
+) -> Result<bool, Refusal>
+    requires { CanCount (W.failures out.old) }
+    ensures printed { IfOk result (λ b. IsTrue b → HasPrintedVerdict form.entry (W.contents out.old) (W.contents out.new)) }
+    ensures reported { IfOk result (λ b. b ≡ false → HasReportedUnverified (W.contents out.old) (W.contents out.new)) }
+    ensures failures { OnOk result (W.failures out.new ≡ W.failures out.old) }
+    ensures stopped { IfErr result (IsStopped (IsSomeVerifyRefusal steps) (W.contents out.old) (W.contents out.new) (W.failures out.old) (W.failures out.new)) }
+{
+    push_warnings(context.alloc, outlined, warnings)?;
+    match print_verified(context, &outlined.files, steps, form, out)? {
+        None => Ok(true),
+        Some(unproved) => {
+            print_unproved(context.alloc, outlined, &unproved, form, out)?;
+            Ok(false)
+        }
+    }
+}
+
+/// Prints how many conditions of an outline were proved, in this form; else reports which aren't, and a run that breaks the specification or
+/// that none was found, and answers false. Proofs are looked for and checked in threads, each search with a copy of the watcher. The outline's
+/// warnings are put after what `warnings` holds; they change no answer.
+///
+/// # Errors
+///
+/// - `NotDone::Outline` where the outline is refused, with what reports its first fault.
+/// - `NotDone::Refused` as `print_verified`.
+pub fn verify_outline<R: Threads + Wait + Sync, W: Out, P: Watcher + Copy + Sync>(
+    context: &Context<'_, R, P>,
+    outline: OutlineSource<'_>,
+    form: VerdictForm<'_>,
+    steps: u64,
+    out: &mut W,
+    warnings: &mut Vec<u8>,
+) -> Result<bool, NotDone>
+    requires { CanCount (W.failures out.old) }
+    // It is said only where some text, derivation and proofs are accepted.
+    ensures printed { IfOk result (λ b. IsTrue b → HasPrintedVerdict form.entry (W.contents out.old) (W.contents out.new)) }
+    // Else some conditions have no proof; what was found of these is true, all others hold, and a text went out.
+    ensures reported { IfOk result (λ b. b ≡ false → HasReportedUnverified (W.contents out.old) (W.contents out.new)) }
+    ensures failures { OnOk result (W.failures out.new ≡ W.failures out.old) }
+    ensures stopped { IfErr result (IsNotDone (IsSomeVerifyRefusal steps) (W.contents out.old) (W.contents out.new) (W.failures out.old) (W.failures out.new)) }
+{
+    let written = read_outline(context.alloc, outline)?;
+    let outlined = Outlined::of(context.alloc, outline, &written)?;
+    match verify_outlined(context, &outlined, form, steps, out, warnings) {
+        Ok(is_verified) => Ok(is_verified),
+        Err(refusal) => Err(NotDone::Refused(refusal)),
+    }
+}

@@ -1,0 +1,90 @@
+//! The verification of an outline: its text is read as any file is, and so is each piece of its derivation; proofs are looked for, and checked.
+
+ghost use Rattle.std.specs.Prelude.{◌≡◌, None, IfOk, IfErr, IfSome, OnOk};
+ghost use Rattle.rg_words.specs.Stopped.{IsStopped};
+ghost use Rattle.rg_words.specs.Written.{CanCount};
+ghost use Rattle.rg_hints.specs.Proved.{IsProofsRefusal};
+ghost use Rattle.rg_accept.specs.Accepted.{conditions_of};
+ghost use Rattle.rg_accept.specs.Stages.{derived_program, derived_lines};
+ghost use Rattle.rgc_outlines.specs.Refused.{IsVerifyRefusal};
+ghost use Rattle.rgc_outlines.specs.Unproved.{AreUnprovedOf};
+ghost use Rattle.rgc_outlines.specs.Verified.{HasPrintedVerdict, ShortDerivationsAreAccepted};
+ghost use Rattle.rgc_outlines.specs.Inner.Counts.{HasPrintedCounts};
+
+use crate::derive_outline;
+use crate::verdict::{VerdictForm, verdict_line};
+use rg_find::Watcher;
+use rg_outline_reports::OutlineFiles;
+use rg_pool::prove_all;
+use rg_words::{Out, Refusal, write_all};
+use rgc::{Derived, ProofsFound, Unproved, find_proofs};
+use rgc_answers::Context;
+use std::sync::Wait;
+use std::thread::Threads;
+
+/// How many sections a proofs file has: each begins with a line of its own.
+fn sections_in(proofs: &[u8]) -> usize {
+    proofs
+        .split(|byte| *byte == b'\n')
+        .filter(|line| line.starts_with(b"section "))
+        .count()
+}
+
+/// Prints how many conditions were proved, where the proofs prove them all.
+fn print_counts<R: Threads + Wait + Sync, W: Out, P>(
+    context: &Context<'_, R, P>,
+    derived: &Derived,
+    proofs: &[u8],
+    form: VerdictForm<'_>,
+    out: &mut W,
+) -> Result<(), Refusal>
+    requires { CanCount (W.failures out.old) }
+    ensures printed { OnOk result (HasPrintedCounts (derived_program derived.now) (derived_lines derived.now) proofs.now form.entry (W.contents out.old) (W.contents out.new)) }
+    ensures failures { OnOk result (W.failures out.new ≡ W.failures out.old) }
+    ensures stopped { IfErr result (IsStopped (IsProofsRefusal (conditions_of (derived_program derived.now) (derived_lines derived.now)) proofs.now) (W.contents out.old) (W.contents out.new) (W.failures out.old) (W.failures out.new)) }
+{
+    let conditions = derived.conditions(context.alloc)?;
+    let all = conditions.as_slice();
+    prove_all(context.rt, context.alloc, context.threads, all, proofs)?;
+    let line = verdict_line(context.alloc, form, all.len(), sections_in(proofs))?;
+    write_all(out, line.as_bytes())?;
+    Ok(())
+}
+
+/// Prints how many conditions of an outline's program were proved; else the conditions for which there is no proof, and then nothing is printed.
+/// Proofs are looked for and checked in threads, each search with a copy of the watcher.
+///
+/// # Errors
+///
+/// As `crate::derive_outline`; then as `rgc::find_proofs`. `Write` where the writer failed, `Memory` where memory is refused.
+pub fn print_verified<R: Threads + Wait + Sync, W: Out, P: Watcher + Copy + Sync>(
+    context: &Context<'_, R, P>,
+    files: &OutlineFiles,
+    steps: u64,
+    form: VerdictForm<'_>,
+    out: &mut W,
+) -> Result<Option<Vec<Unproved>>, Refusal>
+    requires { CanCount (W.failures out.old) }
+    ensures printed { IfOk result (λ unproved. unproved ≡ None → HasPrintedVerdict form.entry (W.contents out.old) (W.contents out.new)) }
+    ensures failures { OnOk result (W.failures out.new ≡ W.failures out.old) }
+    // What is handed back of conditions is true of them, and nothing was printed.
+    ensures unproved { IfOk result (λ found. IfSome found (λ unproved. AreUnprovedOf files.now.text.items files.now.derivation.items unproved.items)) }
+    ensures untouched { IfOk result (λ found. IfSome found (λ _. W.contents out.new ≡ W.contents out.old)) }
+    ensures stopped { IfErr result (IsStopped (IsVerifyRefusal files.now.text.items files.now.derivation.items steps) (W.contents out.old) (W.contents out.new) (W.failures out.old) (W.failures out.new)) }
+{
+    let derived = derive_outline(context.alloc, files)?;
+    let (rt, alloc, threads) = (context.rt, context.alloc, context.threads);
+    match find_proofs(rt, alloc, threads, &derived, steps, context.watcher)? {
+        ProofsFound::Proofs(proofs) => {
+            print_counts(context, &derived, proofs.as_bytes(), form, out)?;
+            Ok(None)
+        }
+        ProofsFound::Failures(unproved) => Ok(Some(unproved)),
+    }
+}
+
+/// Where a derivation is no longer than a file may be, what is said of its pieces where a verdict is printed is said of it: it is accepted with the
+/// text and the proofs, as `rgc::accept` accepts them.
+pub fn short_verdicts_are_accepted()
+    ensures { ShortDerivationsAreAccepted }
+{}

@@ -1,0 +1,193 @@
+//! The files that an outline stands for, written out.
+
+ghost use Rattle.std.specs.Prelude.{◌≡◌, IsTrue, false, IfOk, IfErr, OnOk};
+ghost use Rattle.rg_words.specs.Stopped.{IsFailure, IsStopped};
+ghost use Rattle.rg_words.specs.Written.{CanCount};
+ghost use Rattle.rg_accept.specs.Stages.{derived_program, derived_lines};
+ghost use Rattle.rgc_outlines.specs.Stopped.{IsNotDone, IsSearchRefusalWhere, IsSomeWriteRefusal};
+ghost use Rattle.rgc_outlines.specs.Written.{IsPut, IsPrinted, HasPut, AreFoundWhere, HasWritten, HasReportedMissing};
+
+use crate::NotDone;
+use crate::failures::print_unproved;
+use rg_find::Watcher;
+use rg_outline_reports::{OutlineFiles, OutlineSource, Outlined, read_outline};
+use rg_words::{Out, Refusal, write_all};
+use rgc::{Derived, ProofsFound, derive_program, find_proofs};
+use rgc_answers::Context;
+use std::alloc::{AllocError, Global};
+use std::sync::Wait;
+use std::thread::Threads;
+
+/// Which files are wanted beside the output.
+#[derive(Clone, Copy)]
+pub struct Wanted {
+    /// The program; it goes to the output where it isn't wanted beside it.
+    pub has_text: bool,
+    /// The lines that derive its parts.
+    pub has_derivation: bool,
+    /// The proofs of all conditions.
+    pub has_proofs: bool,
+    /// Which place of the outline each line of the derivation and each condition comes from.
+    pub has_map: bool,
+}
+
+/// The bytes of the files that are wanted beside the output.
+#[derive(Drop)]
+pub struct Sides {
+    pub text: Vec<u8>,
+    pub derivation: Vec<u8>,
+    pub proofs: Vec<u8>,
+    pub map: Vec<u8>,
+}
+
+impl Sides {
+    /// Files without bytes.
+    pub fn new(alloc: Global) -> Sides {
+        Sides {
+            text: Vec::new(alloc),
+            derivation: Vec::new(alloc),
+            proofs: Vec::new(alloc),
+            map: Vec::new(alloc),
+        }
+    }
+}
+
+/// Puts a file after what is there, where it is wanted.
+fn put_one(is_wanted: bool, file: &[u8], side: &mut Vec<u8>) -> Result<(), AllocError>
+    ensures { OnOk result (IsPut is_wanted file.now side.old.items side.new.items) }
+{
+    if is_wanted {
+        side.extend_from_slice(file)?;
+    }
+    Ok(())
+}
+
+/// Prints the text where it isn't put beside the output.
+fn print_text<W: Out>(is_put: bool, text: &[u8], out: &mut W) -> Result<(), Refusal>
+    requires { CanCount (W.failures out.old) }
+    ensures printed { OnOk result (IsPrinted is_put text.now (W.contents out.old) (W.contents out.new)) }
+    ensures failures { OnOk result (W.failures out.new ≡ W.failures out.old) }
+    ensures stopped { IfErr result (IsFailure (W.failures out.old) (W.failures out.new)) }
+{
+    if !is_put {
+        write_all(out, text)?;
+    }
+    Ok(())
+}
+
+/// Puts the files that are wanted after what is there, and prints the text where it isn't wanted so.
+fn put<W: Out>(
+    files: &OutlineFiles,
+    proofs: &[u8],
+    map: &[u8],
+    wanted: Wanted,
+    out: &mut W,
+    sides: &mut Sides,
+) -> Result<(), Refusal>
+    requires { CanCount (W.failures out.old) }
+    ensures put { OnOk result (HasPut files.now.text.items files.now.derivation.items proofs.now wanted sides.old sides.new (W.contents out.old) (W.contents out.new)) }
+    ensures failures { OnOk result (W.failures out.new ≡ W.failures out.old) }
+    ensures stopped { IfErr result (IsFailure (W.failures out.old) (W.failures out.new)) }
+{
+    put_one(wanted.has_text, &files.text, &mut sides.text)?;
+    put_one(
+        wanted.has_derivation,
+        &files.derivation,
+        &mut sides.derivation,
+    )?;
+    put_one(wanted.has_proofs, proofs, &mut sides.proofs)?;
+    put_one(wanted.has_map, map, &mut sides.map)?;
+    print_text(wanted.has_text, &files.text, out)
+}
+
+/// Looks for proofs where they are wanted; else there are none.
+fn proofs_where<R: Threads + Wait + Sync, P: Watcher + Copy + Sync>(
+    context: &Context<'_, R, P>,
+    derived: &Derived,
+    is_wanted: bool,
+    steps: u64,
+) -> Result<ProofsFound, Refusal>
+    ensures found { IfOk result (AreFoundWhere is_wanted (derived_program derived.now) (derived_lines derived.now)) }
+    ensures refused { IfErr result (IsSearchRefusalWhere is_wanted (derived_program derived.now) (derived_lines derived.now) steps) }
+{
+    let (rt, alloc, threads) = (context.rt, context.alloc, context.threads);
+    if is_wanted {
+        return find_proofs(rt, alloc, threads, derived, steps, context.watcher);
+    }
+    Ok(ProofsFound::Proofs(String::new(alloc)))
+}
+
+/// The map of an outline where it is wanted; else nothing.
+fn map_where(
+    alloc: Global,
+    outlined: &Outlined<'_>,
+    is_wanted: bool,
+) -> Result<Vec<u8>, AllocError> {
+    if is_wanted {
+        return outlined.map();
+    }
+    Ok(Vec::new(alloc))
+}
+
+/// Does what `write_outline` does with an outline that was worked out.
+fn write_outlined<R: Threads + Wait + Sync, W: Out, P: Watcher + Copy + Sync>(
+    context: &Context<'_, R, P>,
+    outlined: &Outlined<'_>,
+    wanted: Wanted,
+    steps: u64,
+    out: &mut W,
+    sides: &mut Sides,
+) -> Result<bool, Refusal>
+    requires { CanCount (W.failures out.old) }
+    ensures written { IfOk result (λ b. IsTrue b → HasWritten wanted sides.old sides.new (W.contents out.old) (W.contents out.new)) }
+    ensures reported { IfOk result (λ b. b ≡ false → HasReportedMissing wanted (W.contents out.old) (W.contents out.new)) }
+    ensures failures { OnOk result (W.failures out.new ≡ W.failures out.old) }
+    ensures stopped { IfErr result (IsStopped (IsSomeWriteRefusal wanted.has_proofs steps) (W.contents out.old) (W.contents out.new) (W.failures out.old) (W.failures out.new)) }
+{
+    let alloc = context.alloc;
+    let files = &outlined.files;
+    let map = map_where(alloc, outlined, wanted.has_map)?;
+    let derived = derive_program(alloc, &files.text, &files.derivation)?;
+    match proofs_where(context, &derived, wanted.has_proofs, steps)? {
+        ProofsFound::Proofs(proofs) => {
+            put(files, proofs.as_bytes(), &map, wanted, out, sides)?;
+            Ok(true)
+        }
+        ProofsFound::Failures(unproved) => {
+            print_unproved(alloc, outlined, &unproved, out)?;
+            Ok(false)
+        }
+    }
+}
+
+/// Puts the files that an outline stands for after what is there, those that are wanted, and prints the program's text where it isn't
+/// wanted so. Proofs are looked for only where they are wanted, in threads, each search with a copy of the watcher; they prove all conditions. Where
+/// they aren't found, it is printed which conditions have none, no file is put, and the answer is false. Of the map nothing is promised.
+///
+/// # Errors
+///
+/// - `NotDone::Outline` where the outline is refused, with what reports its first fault.
+/// - `NotDone::Refused` where its text or derivation is refused, as any files are; where proofs are wanted, as `rgc::find_proofs`; then
+///   `Write` where the writer failed. `Memory` where memory is refused.
+pub fn write_outline<R: Threads + Wait + Sync, W: Out, P: Watcher + Copy + Sync>(
+    context: &Context<'_, R, P>,
+    outline: OutlineSource<'_>,
+    wanted: Wanted,
+    steps: u64,
+    out: &mut W,
+    sides: &mut Sides,
+) -> Result<bool, NotDone>
+    requires { CanCount (W.failures out.old) }
+    ensures written { IfOk result (λ b. IsTrue b → HasWritten wanted sides.old sides.new (W.contents out.old) (W.contents out.new)) }
+    // Else proofs are wanted, and some conditions have none; what was found of these is true, all others hold, and a text went out.
+    ensures reported { IfOk result (λ b. b ≡ false → HasReportedMissing wanted (W.contents out.old) (W.contents out.new)) }
+    ensures failures { OnOk result (W.failures out.new ≡ W.failures out.old) }
+    ensures stopped { IfErr result (IsNotDone (IsSomeWriteRefusal wanted.has_proofs steps) (W.contents out.old) (W.contents out.new) (W.failures out.old) (W.failures out.new)) }
+{
+    let written = read_outline(context.alloc, outline)?;
+    let outlined = Outlined::of(context.alloc, outline, &written)?;
+    match write_outlined(context, &outlined, wanted, steps, out, sides) {
+        Ok(is_found) => Ok(is_found),
+        Err(refusal) => Err(NotDone::Refused(refusal)),
+    }
+}

@@ -1,3 +1,0 @@
-pub mod Done
-pub mod Stopped
-pub mod Inner

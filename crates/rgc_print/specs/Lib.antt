@@ -1,6 +1,0 @@
-pub mod Printed
-pub mod Numbers
-pub mod Conditions
-pub mod Answered
-pub mod Told
-pub mod Inner

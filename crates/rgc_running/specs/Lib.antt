@@ -1,3 +1,0 @@
-pub mod Running
-pub mod RunJson
-pub mod Refused

@@ -1,3 +1,0 @@
-pub mod Verified
-pub mod Refused
-pub mod Inner

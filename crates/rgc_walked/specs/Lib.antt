@@ -1,2 +1,0 @@
-pub mod NoVerdicts
-pub mod Refuted
