@@ -176,7 +176,9 @@ def copy(of, to, kept=(), whole=False):
     taken = [it for it in crates(root) if it.name in names]
     os.makedirs(f"{to}/crates")
     with open(f"{to}/crates.txt", "w", encoding="utf-8") as it:
-        it.writelines(f"{crate.name}: {' '.join([*crate.libraries, *crate.of_toolchain])}\n" for crate in taken)
+        # (as they stand, since what `rt ci` keeps of a crate rests on the order of its row too)
+        rows = [row for row in text_of(f"{root}/crates.txt").split("\n") if row.partition(":")[0] in names]
+        it.write("".join(f"{row}\n" for row in rows))
     if os.path.isfile(f"{root}/HANDLES"):
         shutil.copyfile(f"{root}/HANDLES", f"{to}/HANDLES")
     for crate in taken:
