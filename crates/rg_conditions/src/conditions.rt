@@ -5,10 +5,10 @@ ghost use Rattle.rg_words.specs.Layout.{widths_of};
 ghost use Rattle.rg_tree.specs.Trees.{negation};
 ghost use Rattle.rg_tree.specs.View.{formula};
 ghost use Rattle.rg_tree.specs.Typing.{IsTyped};
-ghost use Rattle.rg_tree.specs.ConditionTrees.{assignment, AllTyped, AssignmentsTyped};
+ghost use Rattle.rg_tree.specs.ConditionTrees.{assignment, AssignmentsTyped};
 ghost use Rattle.rg_tree.specs.Conditions.{condition_tree};
 ghost use Rattle.rg_tree.specs.TypedPrograms.{IsTypedSpecification, IsTypedStatement};
-ghost use Rattle.rg_tree.specs.RuleConditions.{as_condition};
+ghost use Rattle.rg_tree.specs.RuleConditions.{as_condition, keeps};
 ghost use Rattle.rg_tree.specs.ProgramView.{specification, statement};
 ghost use Rattle.rg_tree.specs.declared.line.Rule.TheVariants.{Basic};
 ghost use Rattle.rg_tree.specs.Lines.{line_tree, AreTypedLines};
@@ -52,25 +52,17 @@ fn without(alloc: Global, f: &Formula, g: &Formula) -> Result<Vec<Formula>, Allo
     two_formulas(alloc, f, &negated)
 }
 
-/// Adds the conditions of a line whose statement makes one step, where the given formulas hold; these come twice.
-fn add_step(
+/// Adds that the pre and the post stay true under the rely.
+fn add_stable(
     alloc: Global,
     all: &mut Vec<Condition>,
     layout: &Layout,
     spec: &Spec,
-    given: Vec<Formula>,
-    again: Vec<Formula>,
-    act: &[Assign],
 ) -> Result<(), AllocError>
-    requires spec { IsTypedSpecification layout.now (specification spec.now) }
-    requires given { AllTyped (widths_of layout.now) (map formula given.items) }
-    requires again { map formula again.items ≡ map formula given.items }
-    requires act { AssignmentsTyped (widths_of layout.now) (map assignment act.now) }
-    ensures { OnOk result (map condition_tree all.new.items ≡ map condition_tree all.old.items ++ map (as_condition layout.now) (step_conditions (specification spec.now) (map formula given.items) (map assignment act.now))) }
+    requires { IsTypedSpecification layout.now (specification spec.now) }
+    ensures { OnOk result (map condition_tree all.new.items ≡ map condition_tree all.old.items ++ map (as_condition layout.now) (keeps (formula spec.now.pre) (formula spec.now.rely) ∷ keeps (formula spec.now.post) (formula spec.now.rely) ∷ [])) }
 {
     let rely = &spec.rely;
-    add_reached(alloc, all, layout, given, act, &spec.post)?;
-    add_made(alloc, all, layout, again, act, &spec.guar)?;
     add_kept(alloc, all, layout, &spec.pre, rely)?;
     add_kept(alloc, all, layout, &spec.post, rely)
 }
@@ -124,8 +116,10 @@ fn add_act(
     ensures { OnOk result (map condition_tree all.new.items ≡ map condition_tree all.old.items ++ map (as_condition layout.now) (step_conditions (specification spec.now) (formula spec.now.pre ∷ []) (map assignment act.now))) }
 {
     let given = one_formula(alloc, &spec.pre)?;
-    let again = one_formula(alloc, &spec.pre)?;
-    add_step(alloc, all, layout, spec, given, again, act)
+    add_reached(alloc, all, layout, given, act, &spec.post)?;
+    let given = one_formula(alloc, &spec.pre)?;
+    add_made(alloc, all, layout, given, act, &spec.guar)?;
+    add_stable(alloc, all, layout, spec)
 }
 
 /// Adds the conditions of a line whose statement makes these assignments where the test holds.
@@ -143,8 +137,10 @@ fn add_await(
     ensures { OnOk result (map condition_tree all.new.items ≡ map condition_tree all.old.items ++ map (as_condition layout.now) (step_conditions (specification spec.now) (formula spec.now.pre ∷ formula test.now ∷ []) (map assignment act.now))) }
 {
     let given = two_formulas(alloc, &spec.pre, test)?;
-    let again = two_formulas(alloc, &spec.pre, test)?;
-    add_step(alloc, all, layout, spec, given, again, act)
+    add_reached(alloc, all, layout, given, act, &spec.post)?;
+    let given = two_formulas(alloc, &spec.pre, test)?;
+    add_made(alloc, all, layout, given, act, &spec.guar)?;
+    add_stable(alloc, all, layout, spec)
 }
 
 /// Adds the conditions of a line of `skip` or of an assignment.

@@ -59,13 +59,6 @@ any_in (c ∷ cs) [] s j less same = absurd (omega (arith, same))
 any_in (c ∷ cs) (k ∷ ks) s zero less same = refl
 any_in (c ∷ cs) (k ∷ ks) s (suc j) less same = any_in cs ks s j (omega arith) (omega (arith, same))
 
--- the parts from one on, and those after it
-pub ends_at : (cs : List (List BlockTree)) (ks : List ℕ) (i who : ℕ) → who ≡ i + 1 → i < length cs → length ks ≡ length cs → all_at_end (drop i cs) (drop i ks) ≡ (is_end (block_at cs ks who) && all_at_end (drop (i + 1) cs) (drop (i + 1) ks))
-ends_at cs ks i who is less same =
-    let j : who - 1 ≡ i = omega arith in
-    let k : i + 1 ≡ suc i = omega arith in
-    ends_in cs ks i less same ∙ (λ n. is_end (block_in cs ks (sym j n)) && all_at_end (drop (sym k n) cs) (drop (sym k n) ks))
-
 pub any_at : (cs : List (List BlockTree)) (ks : List ℕ) (s : State) (i who : ℕ) → who ≡ i + 1 → i < length cs → length ks ≡ length cs → any_can_go (drop i cs) (drop i ks) s ≡ (can_go (block_at cs ks who) s || any_can_go (drop (i + 1) cs) (drop (i + 1) ks) s)
 any_at cs ks s i who is less same =
     let j : who - 1 ≡ i = omega arith in

@@ -85,6 +85,11 @@ impl<'e> Closed<'e> {
         self
     }
 
+    /// The program that was run.
+    pub fn program(&self) -> &'e Program {
+        self.program
+    }
+
     /// Why the run is over.
     pub fn why(&self) -> Why
         ensures { result ≡ self.now.why }
@@ -175,14 +180,14 @@ fn record_at(
     let change = &changes[number - 1];
     let before = state_after(start, &changes[..number - 1])?;
     let after = after_change(&before, change)?;
-    let record = Record::of_states(
+    let record = Record::of(
         alloc,
         program,
         number as u64,
         change.who(),
         change.line(),
-        before,
-        after,
+        &before,
+        &after,
     )?;
     Ok(Some(record))
 }

@@ -39,7 +39,6 @@ use std::sync::ledger::{Blank, Book, Ledger};
 /// history is kept as the state at the start and what each step changed.
 #[derive(Drop)]
 pub struct Floor<'e, L: Round> {
-    alloc: Global,
     code: &'e Code,
     config: Config<'e>,
     // Equal to the first between calls: it makes a step before that is known to be kept.
@@ -154,7 +153,6 @@ impl<'e, L: Round> Floor<'e, L> {
         let (scratch, start) = states;
         start.facts();
         Floor {
-            alloc,
             code,
             config,
             ahead,
@@ -258,7 +256,6 @@ impl<'e, L: Round> Floor<'e, L> {
     {
         let part = seat.part();
         let record = make_step(
-            self.alloc,
             program,
             &mut self.config,
             &mut self.ahead,
@@ -280,7 +277,6 @@ impl<'e, L: Round> Floor<'e, L> {
         ensures { MoveGives L.program L.code self.old state.values result self.new }
     {
         try_move(
-            self.alloc,
             program,
             self.more,
             &mut self.config,
@@ -299,7 +295,6 @@ impl<'e, L: Round> Floor<'e, L> {
         replace(&mut self.scratch, self.config.words());
         give(values, &mut self.scratch);
         try_move(
-            self.alloc,
             program,
             self.more,
             &mut self.config,
@@ -398,7 +393,6 @@ impl<'e, L: Round> Floor<'e, L> {
             self.book.audit(&mut all);
         }
         let Floor {
-            alloc: _,
             code: _,
             config: _,
             ahead: _,

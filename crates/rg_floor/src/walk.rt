@@ -229,34 +229,41 @@ fn take_record(
     }
 }
 
+/// What a run began from: its program, the program's code, the state at the start, and how many steps parts may make.
+#[derive(Clone, Copy)]
+pub struct Origin<'a> {
+    pub program: &'a Program,
+    pub code: &'a Code,
+    pub start: &'a State,
+    pub limit: u64,
+}
+
 /// Whether the moves stand in a history, each made or refused, in order and where it was due. It takes memory for some states.
 pub fn moves_stand(
     alloc: Global,
-    program: &Program,
-    code: &Code,
-    start: State,
-    limit: u64,
+    origin: &Origin<'_>,
     steps: &[Record],
     moves: &[Move],
     passed: &[Passed],
 ) -> Result<bool, AllocError>
-    requires start { start.widths ≡ widths_of (program_tree program.now).words }
-    requires moves { AreMoves (program_tree program.now).words (map move_tree moves.now) }
-    ensures { IfOk result (λ b. IsTrue b → MovesStand (program_tree program.now).spec.rely limit (first_place (program_tree program.now).words (code_blocks code.now) start.values) 1 (map move_tree moves.now) passed.now steps.now) }
+    requires start { origin.now.start.now.widths ≡ widths_of (program_tree origin.now.program.now).words }
+    requires moves { AreMoves (program_tree origin.now.program.now).words (map move_tree moves.now) }
+    ensures { IfOk result (λ b. IsTrue b → MovesStand (program_tree origin.now.program.now).spec.rely origin.now.limit (first_place (program_tree origin.now.program.now).words (code_blocks origin.now.code.now) origin.now.start.now.values) 1 (map move_tree moves.now) passed.now steps.now) }
 {
-    if !code.layout.same(&program.layout) {
+    if !origin.code.layout.same(&origin.program.layout) {
         return Ok(false);
     }
-    let mut walk = begun(Config::new(alloc, code, start)?);
+    let start = origin.start.copy()?;
+    let mut walk = begun(Config::new(alloc, origin.code, start)?);
     for step in steps {
-        if !take_passed(program, &mut walk, limit, moves, passed)? {
+        if !take_passed(origin.program, &mut walk, origin.limit, moves, passed)? {
             return Ok(false);
         }
-        if !take_record(&mut walk, limit, moves, step)? {
+        if !take_record(&mut walk, origin.limit, moves, step)? {
             return Ok(false);
         }
     }
-    if !take_passed(program, &mut walk, limit, moves, passed)? {
+    if !take_passed(origin.program, &mut walk, origin.limit, moves, passed)? {
         return Ok(false);
     }
     if walk.moves != moves.len() {

@@ -7,10 +7,8 @@ use Rattle.std.proofs.lemmas.Bool.Decides.{nat_tests}
 use Rattle.std.proofs.lemmas.List.{get_or_append_left, get_or_push}
 use Rattle.std.proofs.lemmas.List.Sums.{fails_before_first, passes_at_first, prefix_len-le-length}
 use Rattle.rg_gates.specs.declared.Gate.{Gate}
-use Rattle.rg_gates.specs.declared.Lit.TheVariants.{Variable}
 use Rattle.rg_words.specs.declared.limits.TheConstants.{MOST_VARIABLES}
 use Rattle.rg_gates.specs.Circuit.{Circuit, IsCircuit, IsOperand, variable_count, no_gate}
-use Rattle.rg_gates.specs.And.{TakesGate}
 use Rattle.rg_gates.specs.Table.{IsMissing, IsFirst, IsPlaced, AreDistinct}
 
 lt-zero : (n : ℕ) → nat_lt 0 (suc n) ≡ true
@@ -60,22 +58,6 @@ module _ (p : Gate → Bool) (g : Gate) (reads : (h : Gate) → p h ≡ true →
             let h : length xs ≤ position_or_len p xs = grind (arith, nat_tests) in
             inr (missing_is h, omega (arith, bound), ap (λ b. cond b xs (xs ++ g ∷ [])) (any_is p xs ∙ e))
       ] refl
-
-  -- where none passes
-  pub missing_at : list_any p xs ≡ false → IsMissing xs g
-  missing_at e =
-      let f = sym (any_is p xs) ∙ e in
-      missing_is (grind (arith, nat_tests))
-
--- a gate that has its place in the table is taken by its circuit
-pub taken_by : (old new : Circuit) (g : Gate) (k : ℕ) → new.inputs ≡ old.inputs → IsPlaced old.gates g k new.gates → TakesGate old g (Variable (old.inputs + k + 1) false) new
-taken_by old new g k inputs placed =
-    let same : new.gates ≡ old.gates → new ≡ old = λ e. (λ i. record { inputs = inputs i; gates = e i }) in
-    let more : new.gates ≡ old.gates ++ g ∷ [] → new ≡ record { inputs = old.inputs; gates = old.gates ++ g ∷ [] } = λ e. (λ i. record { inputs = inputs i; gates = e i }) in
-    ⊎_elim
-    (λ w. inl (k, w.0, refl, same w.1))
-    (λ w. inr (w.0, ap (λ (j : ℕ). Variable (old.inputs + j + 1) false) w.1, more w.2))
-    placed
 
 distinct_push : (xs : List Gate) (g : Gate) → IsMissing xs g → AreDistinct xs → AreDistinct (xs ++ g ∷ [])
 distinct_push xs g missing distinct j k less small same =

@@ -60,25 +60,6 @@ impl Record {
     {
         let before = before.copy()?;
         let after = after.copy()?;
-        Record::of_states(alloc, program, number, who, line, before, after)
-    }
-
-    /// The record of a step, as `of` makes it; its states are taken and not copied.
-    ///
-    /// An error comes only where memory was refused.
-    pub fn of_states(
-        alloc: Global,
-        program: &Program,
-        number: u64,
-        who: usize,
-        line: u32,
-        before: State,
-        after: State,
-    ) -> Result<Record, AllocError>
-        requires before { before.widths ≡ widths_of program.now.layout }
-        requires after { after.widths ≡ widths_of program.now.layout }
-        ensures { IfOk result (λ r. r ≡ entry_of (program_tree program.now) number who line before.values after.values) }
-    {
         let cover = cover_of(alloc, program, &before, &after)?;
         Ok(Record {
             number,

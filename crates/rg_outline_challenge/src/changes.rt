@@ -3,7 +3,7 @@
 use crate::blocks::{Placed, extent, is_wait, statements_of};
 use crate::change::{Change, ChangeGroup, Edit, Replacement};
 use crate::words::Words;
-use rg_outline_syntax::{Fault, ItemKind, List, Span, Tokens, parse};
+use rg_outline_syntax::{ItemKind, List, Span, Tokens, Written};
 use std::alloc::{AllocError, Global};
 
 /// The changes of an outline's program.
@@ -136,12 +136,21 @@ impl Changing<'_> {
     }
 }
 
-/// The changes of an outline whose words are known.
-fn changes_with(alloc: Global, words: &Words<'_>, tokens: &Tokens) -> Result<Changes, AllocError> {
+/// The small changes of an outline's program, one after the other as the outline has them: of each statement that it is left out, and that it is
+/// exchanged with the next one; of each test, of each number in a test or a value, and of each step what is small there.
+///
+/// An error comes only where memory was refused.
+pub fn changes_of(
+    alloc: Global,
+    source: &[u8],
+    tokens: &Tokens,
+    written: &Written,
+) -> Result<Changes, AllocError> {
+    let words = Words::of(alloc, source, written)?;
     let unspoken = words.unspoken()?;
     let statements = statements_of(alloc, words.written)?;
     let mut changing = Changing {
-        words,
+        words: &words,
         tokens,
         changes: Vec::new(alloc),
         statement: Span { start: 0, end: 0 },
@@ -155,18 +164,4 @@ fn changes_with(alloc: Global, words: &Words<'_>, tokens: &Tokens) -> Result<Cha
         changes: changing.changes,
         unspoken,
     })
-}
-
-/// The small changes of an outline's program, one after the other as the outline has them: of each statement that it is left out, and that it is
-/// exchanged with the next one; of each test, of each number in a test or a value, and of each step what is small there.
-///
-/// # Errors
-///
-/// - The first fault of the outline's tokens, else of its shape.
-/// - `FaultKind::Memory` where memory is refused.
-pub fn changes_of(alloc: Global, source: &[u8]) -> Result<Changes, Fault> {
-    let tokens = Tokens::read(alloc, source)?;
-    let written = parse(alloc, source, &tokens)?;
-    let words = Words::of(alloc, source, &written)?;
-    Ok(changes_with(alloc, &words, &tokens)?)
 }

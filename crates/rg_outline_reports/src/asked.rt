@@ -18,7 +18,9 @@ pub(crate) enum OfLine {
     Exit,
     /// The assertion before the line that this one follows from follows from this line's own.
     PreFollows,
+    /// The rely of the line that this one follows from follows from this line's own.
     RelyFollows,
+    /// This line's guarantee follows from that of the line that it follows from.
     GuarFollows,
     /// The assertion after the line follows from the one after the line that this one follows from.
     PostFollows,

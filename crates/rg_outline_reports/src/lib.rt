@@ -32,6 +32,6 @@ mod words;
 
 pub use failures::{Failed, Failing};
 pub use files::{Failures, Format, NoFiles, OutlineFiles, OutlineSource, Places};
-pub use outlined::{Outlined, read_outline};
+pub use outlined::{Outlined, ReadOutline, read_outline};
 pub use reports::Claim;
 pub use values::values_of;

@@ -14,21 +14,29 @@ use rg_outline_syntax::{Fault, Tokens, Written, parse};
 use rg_walk::{BreakingRun, Walked};
 use std::alloc::{AllocError, Global};
 
-/// The tree that is written in an outline.
-fn written_in(alloc: Global, source: &[u8]) -> Result<Written, Fault> {
-    let tokens = Tokens::read(alloc, source)?;
-    parse(alloc, source, &tokens)
+/// What is written in an outline: its tokens, and the tree over them.
+#[derive(Drop)]
+pub struct ReadOutline {
+    pub tokens: Tokens,
+    pub written: Written,
 }
 
-/// The tree that is written in an outline, as `Outlined::of` takes it.
+/// What is written in these bytes.
+fn read_in(alloc: Global, source: &[u8]) -> Result<ReadOutline, Fault> {
+    let tokens = Tokens::read(alloc, source)?;
+    let written = parse(alloc, source, &tokens)?;
+    Ok(ReadOutline { tokens, written })
+}
+
+/// What is written in an outline, as `Outlined::of` takes it.
 ///
 /// # Errors
 ///
 /// - `NoFiles::Reported`, with the first fault of the tokens, else of the shape.
 /// - `NoFiles::Memory` where memory is refused.
-pub fn read_outline(alloc: Global, outline: OutlineSource<'_>) -> Result<Written, NoFiles> {
-    match written_in(alloc, outline.source) {
-        Ok(written) => Ok(written),
+pub fn read_outline(alloc: Global, outline: OutlineSource<'_>) -> Result<ReadOutline, NoFiles> {
+    match read_in(alloc, outline.source) {
+        Ok(read) => Ok(read),
         Err(fault) => Err(refused_source(alloc, outline, fault)),
     }
 }
@@ -52,11 +60,11 @@ impl<'a> Outlined<'a> {
     pub fn of(
         alloc: Global,
         outline: OutlineSource<'a>,
-        written: &'a Written,
+        read: &'a ReadOutline,
     ) -> Result<Outlined<'a>, NoFiles> {
         let mut outlined = Outlined {
             outline,
-            expansion: Expansion::new(alloc, outline.source, written),
+            expansion: Expansion::new(alloc, outline.source, &read.written),
             files: OutlineFiles {
                 text: Vec::new(alloc),
                 derivation: Vec::new(alloc),

@@ -1,4 +1,5 @@
-//! What a condition says, in one sentence, and where.
+//! What a condition says, in one sentence, and where: for one without an answer, and for the map. What is reported of one that
+//! fails is made in `step.rt`, `steady.rt` and `failures.rt`.
 
 use crate::asked::{Asked, OfLine, OfParts};
 use crate::subject::line_of;

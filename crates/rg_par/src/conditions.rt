@@ -77,21 +77,20 @@ fn add_guars(
     Ok(())
 }
 
-/// The guarantee of part `j` gives this rely, but for the rely's own part `i`.
+/// The guarantee of a part gives this rely, but where the rely is the part's own.
 fn add_other(
     alloc: Global,
     all: &mut Vec<Condition>,
     layout: &Layout,
-    i: usize,
     rely: &Formula,
-    j: usize,
     part: &Part,
+    is_own: bool,
 ) -> Result<(), AllocError>
     requires rely { IsTyped (widths_of layout.now) (formula rely.now) }
     requires part { IsTypedSpecification layout.now (specification part.now.spec) }
-    ensures { OnOk result (map condition_tree all.new.items ≡ map condition_tree all.old.items ++ map (as_condition layout.now) (if i == j then [] else allows_of (formula part.now.spec.guar) (formula rely.now) ∷ [])) }
+    ensures { OnOk result (map condition_tree all.new.items ≡ map condition_tree all.old.items ++ map (as_condition layout.now) (if is_own then [] else allows_of (formula part.now.spec.guar) (formula rely.now) ∷ [])) }
 {
-    if i != j {
+    if !is_own {
         all.push(allows(alloc, layout.copy()?, &part.spec.guar, rely)?)?;
     }
     Ok(())
@@ -112,7 +111,7 @@ fn add_others(
     ensures { OnOk result (map condition_tree all.new.items ≡ map condition_tree all.old.items ++ map (as_condition layout.now) (other_conditions i (formula rely.now) 1 (map part parts.now))) }
 {
     for (j, part) in parts.iter().enumerate() {
-        add_other(alloc, all, layout, i, rely, j + 1, part)?;
+        add_other(alloc, all, layout, rely, part, i == j + 1)?;
     }
     Ok(())
 }

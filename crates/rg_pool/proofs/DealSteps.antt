@@ -17,10 +17,6 @@ pub others_in : {X : Type 0} (xs ys : List X) (a : X) → xs ≡ ys ++ a ∷ [] 
 others_in xs ys a e b h = subst (λ zs. Contains zs b) (sym e) (Contains-append_left ys (a ∷ []) b h)
 
 module _ {X : Type 0} (answers : List (ℕ × X)) (old mid : List (Option X)) where
-  -- nothing is put yet
-  pub fills_none : Fills answers old old
-  fills_none = record { size = refl; each = λ i. inl refl }
-
   -- one more answer
   pub fills_more : Fills answers old mid → (k : ℕ) (x : X) → Contains answers (k, x) → k < length mid → Fills answers old (set mid k (Some x))
   fills_more f k x in_ small = record {

@@ -6,8 +6,7 @@ use Rattle.rg_tree.specs.ConditionTrees.{ConditionTree}
 use Rattle.rg_tree.specs.Conditions.{ConditionHolds}
 use Rattle.rg_tree.specs.RuleConditions.{AllConditionsHold}
 use Rattle.rg_hints.specs.Sections.{SectionText}
-use Rattle.rg_hints.specs.Proved.{section_for, IsProvedBy, AllProvedFrom, AreProved, IsConditionRefusal, IsFirstRefusal, IsProofsRefusal}
-use Rattle.rg_pool.specs.Parts.{ArePartProved, IsPartRefusal}
+use Rattle.rg_hints.specs.Proved.{section_for, IsProvedBy, AllProvedFrom, IsConditionRefusal, IsFirstRefusal}
 
 -- the condition at this place, from 0, is proved, where so many conditions stand before the first
 abbrev pub IsProvedAt : List SectionText → ℕ → List ConditionTree → ℕ → Type 0
@@ -60,17 +59,3 @@ module _ (sections : List SectionText) where
 pub all_hold : (cs : List ConditionTree) → ((i : ℕ) → i < length cs → (d : ConditionTree) → ConditionHolds (get_or cs i d)) → AllConditionsHold cs
 all_hold [] each = tt
 all_hold (c ∷ cs) each = (each 0 (omega arith) c, all_hold cs (λ i small d. each (suc i) (omega (arith, small)) d))
-
--- a part that is all conditions
-pub whole_proved : (cs : List ConditionTree) (proofs : List ℕ) → ArePartProved (length cs) 0 cs proofs → AreProved cs proofs
-whole_proved cs proofs p = record { size = p.file.size; sections = p.sections; heads = p.file.heads; each = p.each }
-
-pub whole_accepted : (cs : List ConditionTree) (proofs : List ℕ) → AreProved cs proofs → ArePartProved (length cs) 0 cs proofs
-whole_accepted cs proofs p = record { sections = p.sections; file = record { size = p.size; heads = p.heads }; each = p.each }
-
-pub whole_refused : (cs : List ConditionTree) (proofs : List ℕ) (e : Refusal) → IsPartRefusal (length cs) 0 cs proofs e → IsProofsRefusal cs proofs e
-whole_refused cs proofs e r =
-    ⊎_elim
-    (λ heads. ⊎_elim (λ m. inl m) (λ other. ⊎_elim (λ large. inr (inl large)) (λ faulty. inr (inr (faulty.0, inl faulty.1))) other) heads)
-    (λ first. inr (inr (first.1.size, inr (first.0, first.1.heads, first.2))))
-    r

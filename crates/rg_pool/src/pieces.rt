@@ -46,15 +46,15 @@ fn joined(
     from: usize,
     middle: usize,
     to: usize,
-    first: Result<(), Refusal>,
-    second: Result<(), Refusal>,
+    answers: (Result<(), Refusal>, Result<(), Refusal>),
 ) -> Result<(), Refusal>
     requires front { from ≤ middle }
     requires back { middle ≤ to }
-    requires first { IsPieceAnswer clauses.now.clauses lines.now from middle first }
-    requires second { IsPieceAnswer clauses.now.clauses lines.now middle to second }
+    requires first { IsPieceAnswer clauses.now.clauses lines.now from middle answers.0 }
+    requires second { IsPieceAnswer clauses.now.clauses lines.now middle to answers.1 }
     ensures { IsPieceAnswer clauses.now.clauses lines.now from to result }
 {
+    let (first, second) = answers;
     if ran_out(&second) {
         return Err(Refusal::from(AllocError));
     }
@@ -153,9 +153,16 @@ fn check_in<'s, E, R: Threads, P: Pieces + Sync>(
     let fourth = begin(alloc, scope, pieces, 4, piece)?;
     let (first, second) = (first.join(rt), second.join(rt));
     let (third, fourth) = (third.join(rt), fourth.join(rt));
-    let front = joined(clauses, lines, 0, quarter, 2 * quarter, first, second);
-    let back = joined(clauses, lines, 2 * quarter, 3 * quarter, all, third, fourth);
-    joined(clauses, lines, 0, 2 * quarter, all, front, back)
+    let front = joined(clauses, lines, 0, quarter, 2 * quarter, (first, second));
+    let back = joined(
+        clauses,
+        lines,
+        2 * quarter,
+        3 * quarter,
+        all,
+        (third, fourth),
+    );
+    joined(clauses, lines, 0, 2 * quarter, all, (front, back))
 }
 
 /// Checks the four pieces in a scope of its own: all threads are joined when it returns.

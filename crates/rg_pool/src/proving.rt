@@ -23,51 +23,53 @@ use std::sync::Wait;
 use std::sync::atomic::{AtomicBool, Ordering};
 use std::thread::Threads;
 
+/// Some conditions of many, and the sections of a proofs file: `before` conditions stand before the first of these. At each
+/// place of `placed`, which counts from 0 over all of the conditions, stands the section of the condition there, if it has one.
+#[derive(Clone, Copy)]
+struct PlacedPart<'p, 's> {
+    before: usize,
+    conditions: &'p [Condition],
+    sections: &'p [SectionBytes<'s>],
+    placed: &'p [Option<SectionBytes<'s>>],
+}
+
 /// What is reported of the condition at this place, from 0.
 fn prove_at<R: Threads + Wait + Sync>(
-    rt: &R,
+    checker: &InThreads<'_, R>,
     alloc: Global,
-    threads: usize,
-    before: usize,
-    conditions: &[Condition],
-    sections: &[SectionBytes<'_>],
-    placed: &[Option<SectionBytes<'_>>],
+    part: &PlacedPart<'_, '_>,
     index: usize,
 ) -> Result<(), Refusal>
-    requires index { index < length conditions.now }
-    requires len { before + length conditions.now ≤ length placed.now }
-    requires placed { ArePlaced sections.now placed.now }
-    ensures { IsVerdictAt (map text_of sections.now) before (map condition_tree conditions.now) index result }
+    requires index { index < length part.now.conditions.now }
+    requires len { part.now.before + length part.now.conditions.now ≤ length part.now.placed.now }
+    requires placed { ArePlaced part.now.sections.now part.now.placed.now }
+    ensures { IsVerdictAt (map text_of part.now.sections.now) part.now.before (map condition_tree part.now.conditions.now) index result }
 {
+    let conditions = part.conditions;
+    let placed = part.placed;
+    let before = part.before;
     let place = before + index;
     let number = place as u64 + 1;
-    let checker = InThreads { rt, threads };
-    prove_condition(&checker, alloc, &conditions[index], number, placed[place])
+    prove_condition(checker, alloc, &conditions[index], number, placed[place])
 }
 
 /// Proves the condition at a place; nothing, where another condition was refused before.
 fn prove_one<R: Threads + Wait + Sync>(
-    rt: &R,
+    checker: &InThreads<'_, R>,
     alloc: Global,
-    threads: usize,
-    before: usize,
-    conditions: &[Condition],
-    sections: &[SectionBytes<'_>],
-    placed: &[Option<SectionBytes<'_>>],
+    part: &PlacedPart<'_, '_>,
     refused: &AtomicBool,
     index: usize,
 ) -> Option<Result<(), Refusal>>
-    requires index { index < length conditions.now }
-    requires len { before + length conditions.now ≤ length placed.now }
-    requires placed { ArePlaced sections.now placed.now }
-    ensures { IfSome result (IsVerdictAt (map text_of sections.now) before (map condition_tree conditions.now) index) }
+    requires index { index < length part.now.conditions.now }
+    requires len { part.now.before + length part.now.conditions.now ≤ length part.now.placed.now }
+    requires placed { ArePlaced part.now.sections.now part.now.placed.now }
+    ensures { IfSome result (IsVerdictAt (map text_of part.now.sections.now) part.now.before (map condition_tree part.now.conditions.now) index) }
 {
     if refused.load(Ordering::SeqCst) {
         return None;
     }
-    let proved = prove_at(
-        rt, alloc, threads, before, conditions, sections, placed, index,
-    );
+    let proved = prove_at(checker, alloc, part, index);
     if proved.is_err() {
         refused.store(true, Ordering::SeqCst);
     }
@@ -76,55 +78,43 @@ fn prove_one<R: Threads + Wait + Sync>(
 
 /// What is reported of the condition at this place, from 0: what is known of it, and else what is found now.
 fn verdict_at<R: Threads + Wait + Sync>(
-    rt: &R,
+    checker: &InThreads<'_, R>,
     alloc: Global,
-    threads: usize,
-    before: usize,
-    conditions: &[Condition],
-    sections: &[SectionBytes<'_>],
-    placed: &[Option<SectionBytes<'_>>],
+    part: &PlacedPart<'_, '_>,
     known: &[Option<Result<(), Refusal>>],
     index: usize,
 ) -> Result<(), Refusal>
-    requires index { index < length conditions.now }
-    requires len { before + length conditions.now ≤ length placed.now }
-    requires placed { ArePlaced sections.now placed.now }
-    requires count { length known.now ≡ length conditions.now }
-    requires known { AreVerdicts (map text_of sections.now) before (map condition_tree conditions.now) known.now }
-    ensures { IsVerdictAt (map text_of sections.now) before (map condition_tree conditions.now) index result }
+    requires index { index < length part.now.conditions.now }
+    requires len { part.now.before + length part.now.conditions.now ≤ length part.now.placed.now }
+    requires placed { ArePlaced part.now.sections.now part.now.placed.now }
+    requires count { length known.now ≡ length part.now.conditions.now }
+    requires known { AreVerdicts (map text_of part.now.sections.now) part.now.before (map condition_tree part.now.conditions.now) known.now }
+    ensures { IsVerdictAt (map text_of part.now.sections.now) part.now.before (map condition_tree part.now.conditions.now) index result }
 {
     if let Some(verdict) = known[index] {
         return verdict;
     }
-    prove_at(
-        rt, alloc, threads, before, conditions, sections, placed, index,
-    )
+    prove_at(checker, alloc, part, index)
 }
 
 /// Whether each condition is proved, where something is known of some of them.
 fn settle<R: Threads + Wait + Sync>(
-    rt: &R,
+    checker: &InThreads<'_, R>,
     alloc: Global,
-    threads: usize,
-    before: usize,
-    conditions: &[Condition],
-    sections: &[SectionBytes<'_>],
-    placed: &[Option<SectionBytes<'_>>],
+    part: &PlacedPart<'_, '_>,
     known: &[Option<Result<(), Refusal>>],
 ) -> Result<(), Refusal>
-    requires len { before + length conditions.now ≤ length placed.now }
-    requires placed { ArePlaced sections.now placed.now }
-    requires count { length known.now ≡ length conditions.now }
-    requires known { AreVerdicts (map text_of sections.now) before (map condition_tree conditions.now) known.now }
-    ensures proved { OnOk result (AllProvedFrom (map text_of sections.now) (before + 1) (map condition_tree conditions.now)) }
-    ensures holds { OnOk result (AllConditionsHold (map condition_tree conditions.now)) }
-    ensures refused { IfErr result (λ e. (e ≡ no_memory) ⊎ IsFirstRefusal (map text_of sections.now) (before + 1) (map condition_tree conditions.now) e) }
-    ensures accepts { AllProvedFrom (map text_of sections.now) (before + 1) (map condition_tree conditions.now) → IfErr result (λ e. e ≡ no_memory) }
+    requires len { part.now.before + length part.now.conditions.now ≤ length part.now.placed.now }
+    requires placed { ArePlaced part.now.sections.now part.now.placed.now }
+    requires count { length known.now ≡ length part.now.conditions.now }
+    requires known { AreVerdicts (map text_of part.now.sections.now) part.now.before (map condition_tree part.now.conditions.now) known.now }
+    ensures proved { OnOk result (AllProvedFrom (map text_of part.now.sections.now) (part.now.before + 1) (map condition_tree part.now.conditions.now)) }
+    ensures holds { OnOk result (AllConditionsHold (map condition_tree part.now.conditions.now)) }
+    ensures refused { IfErr result (λ e. (e ≡ no_memory) ⊎ IsFirstRefusal (map text_of part.now.sections.now) (part.now.before + 1) (map condition_tree part.now.conditions.now) e) }
+    ensures accepts { AllProvedFrom (map text_of part.now.sections.now) (part.now.before + 1) (map condition_tree part.now.conditions.now) → IfErr result (λ e. e ≡ no_memory) }
 {
-    for index in 0..conditions.len() {
-        if let Err(refusal) = verdict_at(
-            rt, alloc, threads, before, conditions, sections, placed, known, index,
-        ) {
+    for index in 0..part.conditions.len() {
+        if let Err(refusal) = verdict_at(checker, alloc, part, known, index) {
             return Err(refusal);
         }
     }
@@ -133,21 +123,23 @@ fn settle<R: Threads + Wait + Sync>(
 
 /// What is reported of each condition, in so many threads; nothing of some of them, where one is refused.
 fn prove_some<R: Threads + Wait + Sync>(
-    rt: &R,
+    checker: &InThreads<'_, R>,
     alloc: Global,
-    threads: usize,
-    before: usize,
-    conditions: &[Condition],
-    sections: &[SectionBytes<'_>],
-    placed: &[Option<SectionBytes<'_>>],
+    part: &PlacedPart<'_, '_>,
 ) -> Result<Vec<Option<Result<(), Refusal>>>, AllocError>
-    requires len { before + length conditions.now ≤ length placed.now }
-    requires placed { ArePlaced sections.now placed.now }
-    ensures count { IfOk result (λ known. length known.items ≡ length conditions.now) }
-    ensures known { IfOk result (λ known. AreVerdicts (map text_of sections.now) before (map condition_tree conditions.now) known.items) }
+    requires len { part.now.before + length part.now.conditions.now ≤ length part.now.placed.now }
+    requires placed { ArePlaced part.now.sections.now part.now.placed.now }
+    ensures count { IfOk result (λ known. length known.items ≡ length part.now.conditions.now) }
+    ensures known { IfOk result (λ known. AreVerdicts (map text_of part.now.sections.now) part.now.before (map condition_tree part.now.conditions.now) known.items) }
 {
     let refused = AtomicBool::new(false);
     let reported = &refused;
+    let rt = checker.rt;
+    let threads = checker.threads;
+    let before = part.before;
+    let conditions = part.conditions;
+    let sections = part.sections;
+    let placed = part.placed;
     deal(
         rt,
         alloc,
@@ -157,18 +149,34 @@ fn prove_some<R: Threads + Wait + Sync>(
             requires { (index < length conditions.now) × (before + length conditions.now ≤ length placed.now) × ArePlaced sections.now placed.now }
             ensures { IfSome result (IsVerdictAt (map text_of sections.entry.now) before (map condition_tree conditions.entry.now) index) }
         {
-            prove_one(
-                rt, alloc, threads, before, conditions, sections, placed, reported, index,
-            )
+            let checker = InThreads { rt, threads };
+            let part = PlacedPart {
+                before,
+                conditions,
+                sections,
+                placed,
+            };
+            prove_one(&checker, alloc, &part, reported, index)
         },
     )
 }
 
+/// Whether memory was refused for one of these.
+fn any_ran_out(known: &[Option<Result<(), Refusal>>]) -> bool {
+    for verdict in known {
+        if let Some(verdict) = verdict
+            && ran_out(verdict)
+        {
+            return true;
+        }
+    }
+    false
+}
+
 /// Whether each of these conditions, of so many in all, is proved by its section, or without one, in so many threads.
 fn prove_each_all<R: Threads + Wait + Sync>(
-    rt: &R,
+    checker: &InThreads<'_, R>,
     alloc: Global,
-    threads: usize,
     count: usize,
     before: usize,
     conditions: &[Condition],
@@ -182,17 +190,17 @@ fn prove_each_all<R: Threads + Wait + Sync>(
     ensures accepts { AllProvedFrom (map text_of sections.now) (before + 1) (map condition_tree conditions.now) → IfErr result (λ e. e ≡ no_memory) }
 {
     let placed = place_sections(alloc, sections, count)?;
-    let known = prove_some(rt, alloc, threads, before, conditions, sections, &placed)?;
-    for verdict in &known {
-        if let Some(verdict) = verdict
-            && ran_out(verdict)
-        {
-            return Err(Refusal::from(AllocError));
-        }
+    let part = PlacedPart {
+        before,
+        conditions,
+        sections,
+        placed: &placed,
+    };
+    let known = prove_some(checker, alloc, &part)?;
+    if any_ran_out(&known) {
+        return Err(Refusal::from(AllocError));
     }
-    settle(
-        rt, alloc, threads, before, conditions, sections, &placed, &known,
-    )
+    settle(checker, alloc, &part, &known)
 }
 
 /// Whether a proofs file for `count` conditions proves these, which stand after so many others: condition by condition, in
@@ -207,9 +215,8 @@ fn prove_each_all<R: Threads + Wait + Sync>(
 /// their order, as `rg_hints::prove_condition` reports it. `Memory` where memory is refused in any thread, or a piece of a section has no
 /// thread; all threads are joined then too.
 pub fn prove_part<R: Threads + Wait + Sync>(
-    rt: &R,
+    checker: &InThreads<'_, R>,
     alloc: Global,
-    threads: usize,
     count: usize,
     before: usize,
     conditions: &[Condition],
@@ -225,7 +232,7 @@ pub fn prove_part<R: Threads + Wait + Sync>(
         Ok(sections) => sections,
         Err(refusal) => return Err(refusal),
     };
-    prove_each_all(rt, alloc, threads, count, before, conditions, &sections)
+    prove_each_all(checker, alloc, count, before, conditions, &sections)
 }
 
 /// Whether a proofs file proves these conditions, which count from 1: the answer of `rg_hints::prove`, found as by
@@ -250,7 +257,8 @@ pub fn prove_all<R: Threads + Wait + Sync>(
     if threads < 2 {
         return prove(alloc, conditions, proofs);
     }
-    prove_part(rt, alloc, threads, conditions.len(), 0, conditions, proofs)
+    let checker = InThreads { rt, threads };
+    prove_part(&checker, alloc, conditions.len(), 0, conditions, proofs)
 }
 
 /// Checks and proves in threads: conditions side by side, and large sections in pieces. With fewer than two threads all is

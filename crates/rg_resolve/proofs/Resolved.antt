@@ -12,7 +12,7 @@ use Rattle.rg_resolve.specs.Programs.{spec_faults, parts_faults, program_faults}
 use Rattle.rg_resolve.specs.Inner.ProgramTrees.{spec_tree, part_tree}
 use Rattle.rg_resolve.specs.ProgramTyping.{ProgramStandsFor}
 use Rattle.rg_syntax.specs.ProgramLimits.{IsWithinLimits}
-use Rattle.rg_leaves.proofs.Refusals.{of_first, of_rest, no_faults}
+use Rattle.rg_leaves.proofs.Refusals.{of_first, of_rest}
 use Rattle.rg_resolve.proofs.ResolvedTyping.{program_typed}
 use Rattle.rg_resolve.proofs.ResolvedStands.{program_stands}
 use Rattle.rg_resolve.proofs.WholeTrees.{program_tree}
@@ -21,9 +21,6 @@ abbrev pub a_program : List Word → tree.Specification → List tree.PartTree �
 a_program words spec parts = record { words = words; spec = spec; parts = parts }
 
 module _ (p : WrittenProgram) where
-  pub words_refused : (file : SourceFile) (refusal : Refusal) → IsRefusal file (declaration_faults p.words) refusal → IsRefusal file (program_faults p) refusal
-  words_refused file refusal r = of_first file _ _ refusal r
-
   module _ (words : List Word) (same : words ≡ words_of p.words) (declared : declaration_faults p.words ≡ []) where
     pub whole_spec_refused : (file : SourceFile) (refusal : Refusal) → IsRefusal file (spec_faults words p.spec) refusal → IsRefusal file (program_faults p) refusal
     whole_spec_refused file refusal r = of_rest file _ _ refusal declared (of_first file _ _ refusal (subst (λ ws. IsRefusal file (spec_faults ws p.spec) refusal) same r))
@@ -38,9 +35,6 @@ module _ (p : WrittenProgram) where
       module _ (parts_fine : parts_faults words p.parts ≡ []) where
         parts_none : parts_faults (words_of p.words) p.parts ≡ []
         parts_none = subst (λ ws. parts_faults ws p.parts ≡ []) same parts_fine
-
-        pub whole_faultless : program_faults p ≡ []
-        whole_faultless = no_faults _ _ declared (no_faults _ _ spec_none parts_none)
 
         module _ (spec : tree.Specification) (parts : List tree.PartTree) (spec_is : spec ≡ spec_tree words p.spec) (parts_are : parts ≡ map (part_tree words) p.parts) (layout : IsLayout words) (within : IsWithinLimits p) where
           tree_is : program_tree p ≡ a_program words spec parts

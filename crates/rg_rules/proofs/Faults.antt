@@ -1,5 +1,5 @@
 -- Lines and parts, one after another: which of them are without fault.
-use Rattle.std.proofs.Common.{◌≡◌, ℕ, zero, suc, ◌<◌, List, [], ◌∷◌, Some, None, ◌↔◌, refl, ap, subst, ◌∙◌, sym, ⊎_elim, ◌⊎◌, inl, inr, arith}
+use Rattle.std.proofs.Common.{◌≡◌, ℕ, zero, suc, ◌<◌, List, ◌∷◌, Some, None, ◌↔◌, refl, ap, subst, ◌∙◌, sym, ⊎_elim, ◌⊎◌, inl, inr, arith}
 use Rattle.rg_tree.specs.Statements.{Statement, Specification}
 use Rattle.rg_tree.specs.Programs.{nth}
 use Rattle.rg_tree.specs.Lines.{LineTree}
@@ -28,17 +28,6 @@ derived_rest x lines n spec other d = by_place d.place d.found
 -- what isn't derived by the first line is derived by the others or not at all
 pub derived_else : (x : LineTree) (lines : List LineTree) (n : ℕ) (spec : Specification) → (x.number ≡ n → x.spec ≡ spec → ⊥) → IsDerived (x ∷ lines) n spec ↔ IsDerived lines n spec
 derived_else x lines n spec other = (derived_rest x lines n spec other, derived_later x lines n spec)
-
-pub derived_none : (n : ℕ) (spec : Specification) → IsDerived [] n spec → ⊥
-derived_none n spec d = by_place d.place d.found
-  where
-    by_place : (k : ℕ) → nth [] k ≡ Some d.line → ⊥
-    by_place zero h = cc h
-    by_place (suc k) h = cc h
-
-pub faultless_first : (all : List Statement) (lines : List LineTree) → AreFaultlessBefore all lines 1
-faultless_first all lines zero line less found = cc found
-faultless_first all lines (suc i) line less found = absurd (omega arith)
 
 pub faultless_more : (all : List Statement) (lines : List LineTree) (k : ℕ) (x : LineTree) → AreFaultlessBefore all lines k → nth lines k ≡ Some x → IsLineAnswer all lines k x None → AreFaultlessBefore all lines (suc k)
 faultless_more all lines k x before at answer i line less found =

@@ -12,13 +12,12 @@ ghost use Rattle.rg_runner.specs.Running.{IsRunOf, IsPlayed};
 
 use crate::gate::Gate;
 use crate::runner::run;
+use crate::stage::Stage;
 use rg_code::checked::Checked;
 use rg_floor::closed::Closed;
 use rg_floor::floor::Floor;
 use rg_floor::round::Round;
-use rg_tree::moves::Move;
 use rg_words::{Out, Refusal, State};
-use std::alloc::Global;
 use std::marker::Brand;
 use std::sync::Wait;
 use std::sync::ledger::{Blank, Ledger};
@@ -33,14 +32,11 @@ fn play_at<
     W: Out,
     R: Threads + Wait + Sync,
 >(
-    rt: &R,
-    alloc: Global,
+    stage: &Stage<'_, G, R>,
     checked: &'e E,
     start: State,
     limit: u64,
     blank: Blank,
-    gate: &G,
-    moves: &[Move],
     writer: &mut W,
 ) -> Result<Closed<'e>, Refusal>
     requires program { program_tree (E.program_of checked.now) ≡ L.program }
@@ -50,24 +46,15 @@ fn play_at<
     requires limit { limit ≡ L.limit }
     requires blank { (blank.name ≡ L.name) × (blank.parts ≡ L.parts) × (L.parts ≡ length L.code) }
     requires some { 0 < L.parts }
-    requires moves { AreMoves L.program.words (map move_tree moves.now) }
+    requires moves { AreMoves L.program.words (map move_tree stage.now.moves.now) }
     requires writer { CanCount (W.failures writer.old) }
-    ensures run { IfOk result (λ c. IsRunOf L.program L.code L.start L.limit (map move_tree moves.now) (W.contents writer.old) (W.contents writer.new) c) }
+    ensures run { IfOk result (λ c. IsRunOf L.program L.code L.start L.limit (map move_tree stage.now.moves.now) (W.contents writer.old) (W.contents writer.new) c) }
     ensures failures { W.failures writer.new ≡ W.failures writer.old + failures_in result }
     ensures faults { IsPlayed (open_fault L.program L.start L.limit) result }
     ensures unopened { IfSome (open_fault L.program L.start L.limit) (λ _. (W.contents writer.new ≡ W.contents writer.old) × (W.failures writer.new ≡ W.failures writer.old)) }
 {
-    let (floor, seats) = Floor::<L>::open(alloc, checked, start, limit, blank)?;
-    run(
-        rt,
-        alloc,
-        checked.program(),
-        floor,
-        seats,
-        gate,
-        moves,
-        writer,
-    )
+    let (floor, seats) = Floor::<L>::open(stage.alloc, checked, start, limit, blank)?;
+    run(stage, checked.program(), floor, seats, writer)
 }
 
 /// Plays a checked program from a start, with so many steps by parts at most, as `run` does.
@@ -75,23 +62,20 @@ fn play_at<
 /// Refused, beside what `run` refuses: `Limit` where the limit is above 1,000,000, else `StartOutsidePre` where the start isn't in the
 /// program's pre; nothing is printed then.
 pub fn play<'e, E: Checked, G: Gate + Sync, W: Out, R: Threads + Wait + Sync>(
-    rt: &R,
-    alloc: Global,
+    stage: &Stage<'_, G, R>,
     checked: &'e E,
     start: State,
     limit: u64,
-    gate: &G,
-    moves: &[Move],
     writer: &mut W,
 ) -> Result<Closed<'e>, Refusal>
     requires start { start.widths ≡ widths_of (program_tree (E.program_of checked.now)).words }
-    requires moves { AreMoves (program_tree (E.program_of checked.now)).words (map move_tree moves.now) }
+    requires moves { AreMoves (program_tree (E.program_of checked.now)).words (map move_tree stage.now.moves.now) }
     requires writer { CanCount (W.failures writer.old) }
-    ensures run { IfOk result (λ c. IsRunOf (program_tree (E.program_of checked.now)) (code_blocks (E.code_of checked.now)) start.values limit (map move_tree moves.now) (W.contents writer.old) (W.contents writer.new) c) }
+    ensures run { IfOk result (λ c. IsRunOf (program_tree (E.program_of checked.now)) (code_blocks (E.code_of checked.now)) start.values limit (map move_tree stage.now.moves.now) (W.contents writer.old) (W.contents writer.new) c) }
     ensures failures { W.failures writer.new ≡ W.failures writer.old + failures_in result }
     ensures faults { IsPlayed (open_fault (program_tree (E.program_of checked.now)) start.values limit) result }
     ensures unopened { IfSome (open_fault (program_tree (E.program_of checked.now)) start.values limit) (λ _. (W.contents writer.new ≡ W.contents writer.old) × (W.failures writer.new ≡ W.failures writer.old)) }
 {
     let blank = Blank::new(checked.code().parts.len() as u64);
-    play_at::<Brand, E, G, W, R>(rt, alloc, checked, start, limit, blank, gate, moves, writer)
+    play_at::<Brand, E, G, W, R>(stage, checked, start, limit, blank, writer)
 }

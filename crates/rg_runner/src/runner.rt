@@ -15,20 +15,20 @@ ghost use Rattle.rg_runner.specs.Running.{IsLeftOf, IsRunOf};
 
 use crate::gate::Gate;
 use crate::log::print_all;
+use crate::stage::Stage;
 use crate::table::{Table, stop};
-use crate::threads::{Played, play_beside};
+use crate::threads::{Played, Shared, play_beside};
 use crossbeam_channel::Receiver;
-use rg_code::code::Code;
 use rg_floor::closed::{Closed, Passed};
 use rg_floor::floor::Floor;
 use rg_floor::round::Round;
 use rg_floor::seat::Seat;
 use rg_floor::turn::Why;
-use rg_floor::walk::moves_stand;
+use rg_floor::walk::{Origin, moves_stand};
 use rg_monitor::record::Record;
 use rg_tree::moves::Move;
 use rg_tree::program::Program;
-use rg_words::{Out, Refusal, RefusalNumber, State};
+use rg_words::{Out, Refusal, RefusalNumber};
 use std::alloc::{AllocError, Global};
 use std::sync::{Condvar, Mutex, Wait};
 use std::thread::Threads;
@@ -72,31 +72,28 @@ fn both<L: Round>(
 
 /// The threads play, and the calling thread prints.
 fn play_and_print<L: Round + Send + Sync, G: Gate + Sync, W: Out, R: Threads + Wait + Sync>(
-    rt: &R,
-    alloc: Global,
-    program: &Program,
-    table: &Table<'_, L>,
-    gate: &G,
-    moves: &[Move],
+    shared: &Shared<'_, '_, L, G, R>,
     seats: Vec<Seat<L>>,
     writer: &mut W,
 ) -> Result<(Played<L>, Vec<Record>), Refusal>
-    requires program { program_tree program.now ≡ L.program }
-    requires moves { AreMoves L.program.words (map move_tree moves.now) }
+    requires program { program_tree shared.now.program.now ≡ L.program }
+    requires moves { AreMoves L.program.words (map move_tree shared.now.moves.now) }
     requires writer { CanCount (W.failures writer.old) }
     ensures seats { IfOk result (λ r. vec_len r.0.seats ≡ vec_len seats) }
     ensures text { IfOk result (λ r. Appends (W.contents writer.old) (W.contents writer.new) (lines_of L.program r.1.items)) }
     ensures failures { W.failures writer.new ≡ W.failures writer.old + failures_in result }
     ensures faults { IfErr result IsRunFault }
 {
-    let (to, from) = crossbeam_channel::unbounded(alloc)?;
-    let (played, printed) = play_beside(
+    let Shared {
         rt,
         alloc,
         program,
         table,
-        gate,
-        moves,
+        ..
+    } = *shared;
+    let (to, from) = crossbeam_channel::unbounded(alloc)?;
+    let (played, printed) = play_beside(
+        shared,
         seats,
         to,
         &mut || print_or_stop(rt, alloc, program, table, &from, writer),
@@ -107,26 +104,23 @@ fn play_and_print<L: Round + Send + Sync, G: Gate + Sync, W: Out, R: Threads + W
 /// Whether what is left of a run is as promised: it wasn't stopped, and the moves stand in its history.
 fn check_moves(
     alloc: Global,
-    program: &Program,
-    code: &Code,
-    start: State,
-    limit: u64,
+    origin: &Origin<'_>,
     closed: &Closed<'_>,
     printed: &[Record],
     moves: &[Move],
     passed: &[Passed],
 ) -> Result<(), Refusal>
-    requires start { start.widths ≡ widths_of (program_tree program.now).words }
-    requires moves { AreMoves (program_tree program.now).words (map move_tree moves.now) }
+    requires start { origin.now.start.now.widths ≡ widths_of (program_tree origin.now.program.now).words }
+    requires moves { AreMoves (program_tree origin.now.program.now).words (map move_tree moves.now) }
     ensures over { OnOk result (closed.now.why ≢ Stopped) }
-    ensures moves { OnOk result (MovesStand (program_tree program.now).spec.rely limit (first_place (program_tree program.now).words (code_blocks code.now) start.values) 1 (map move_tree moves.now) passed.now printed.now) }
+    ensures moves { OnOk result (MovesStand (program_tree origin.now.program.now).spec.rely origin.now.limit (first_place (program_tree origin.now.program.now).words (code_blocks origin.now.code.now) origin.now.start.now.values) 1 (map move_tree moves.now) passed.now printed.now) }
     ensures quiet { failures_in result ≡ 0 }
     ensures faults { IfErr result IsRunFault }
 {
     if matches!(closed.why(), Why::Stopped) {
         return Err(Refusal::new(RefusalNumber::Mismatch));
     }
-    if !moves_stand(alloc, program, code, start, limit, printed, moves, passed)? {
+    if !moves_stand(alloc, origin, printed, moves, passed)? {
         return Err(Refusal::new(RefusalNumber::Mismatch));
     }
     Ok(())
@@ -137,13 +131,11 @@ fn finish<'e, L: Round>(
     alloc: Global,
     program: &'e Program,
     floor: Floor<'e, L>,
-    start: State,
     moves: &[Move],
     played: Played<L>,
     printed: &[Record],
 ) -> Result<Closed<'e>, Refusal>
     requires program { program_tree program.now ≡ L.program }
-    requires start { (start.widths ≡ widths_of L.program.words) × (start.values ≡ L.start) }
     requires seats { (vec_len played.seats ≡ L.parts) × (0 < L.parts) }
     requires moves { AreMoves L.program.words (map move_tree moves.now) }
     ensures left { IfOk result (λ c. IsLeftOf L.program L.code L.start L.limit (map move_tree moves.now) c) }
@@ -151,13 +143,18 @@ fn finish<'e, L: Round>(
     ensures quiet { failures_in result ≡ 0 }
     ensures faults { IfErr result IsRunFault }
 {
+    let start = floor.start().copy()?;
     let code = floor.code();
     let limit = floor.limit();
     let Played { seats, passed } = played;
     let closed = floor.close(alloc, program, seats, printed)?;
-    check_moves(
-        alloc, program, code, start, limit, &closed, printed, moves, &passed,
-    )?;
+    let origin = Origin {
+        program,
+        code,
+        start: &start,
+        limit,
+    };
+    check_moves(alloc, &origin, &closed, printed, moves, &passed)?;
     Ok(closed.with_refused(passed))
 }
 
@@ -171,37 +168,40 @@ fn finish<'e, L: Round>(
 /// `Memory` where memory or a thread was refused in any of them; `Mismatch` and `Stranger` where the records that came aren't those of the
 /// history, or the history isn't as promised, which no test has seen.
 pub fn run<'e, L: Round + Send + Sync, G: Gate + Sync, W: Out, R: Threads + Wait + Sync>(
-    rt: &R,
-    alloc: Global,
+    stage: &Stage<'_, G, R>,
     program: &'e Program,
     floor: Floor<'e, L>,
     seats: Vec<Seat<L>>,
-    gate: &G,
-    moves: &[Move],
     writer: &mut W,
 ) -> Result<Closed<'e>, Refusal>
     requires program { program_tree program.now ≡ L.program }
     requires seats { (vec_len seats ≡ L.parts) × (0 < L.parts) }
-    requires moves { AreMoves L.program.words (map move_tree moves.now) }
+    requires moves { AreMoves L.program.words (map move_tree stage.now.moves.now) }
     requires writer { CanCount (W.failures writer.old) }
-    ensures run { IfOk result (λ c. IsRunOf L.program L.code L.start L.limit (map move_tree moves.now) (W.contents writer.old) (W.contents writer.new) c) }
+    ensures run { IfOk result (λ c. IsRunOf L.program L.code L.start L.limit (map move_tree stage.now.moves.now) (W.contents writer.old) (W.contents writer.new) c) }
     ensures failures { W.failures writer.new ≡ W.failures writer.old + failures_in result }
     ensures faults { IfErr result IsRunFault }
 {
-    let start = floor.start().copy()?;
+    let Stage {
+        rt,
+        alloc,
+        gate,
+        moves,
+    } = *stage;
     let table = Table {
         floor: Mutex::new(floor),
         changed: Condvar::new(),
     };
-    let (played, printed) = play_and_print(rt, alloc, program, &table, gate, moves, seats, writer)?;
-    let Table { floor, changed: _ } = table;
-    finish(
+    let shared = Shared {
+        rt,
         alloc,
         program,
-        floor.into_inner(),
-        start,
+        table: &table,
+        gate,
         moves,
-        played,
-        &printed,
-    )
+    };
+    let (played, printed) = play_and_print(&shared, seats, writer)?;
+    let Table { floor, changed: _ } = table;
+    let floor = floor.into_inner();
+    finish(alloc, program, floor, moves, played, &printed)
 }

@@ -26,20 +26,37 @@ pub struct Played<L: Round> {
     pub passed: Vec<Passed>,
 }
 
+/// What the threads of a run share.
+#[derive(Drop)]
+pub struct Shared<'s, 'e, L: Round, G, R> {
+    pub rt: &'s R,
+    pub alloc: Global,
+    pub program: &'s Program,
+    pub table: &'s Table<'e, L>,
+    /// It is called before each turn.
+    pub gate: &'s G,
+    /// The moves of the environment, in their order.
+    pub moves: &'s [Move],
+}
+
 /// Starts a worker for each seat.
 fn start_workers<'s, 'e, E, L: Round + Send + Sync, G: Gate + Sync, R: Threads + Wait + Sync>(
-    rt: &'s R,
-    alloc: Global,
     scope: &Scope<'s, E>,
-    program: &'s Program,
-    table: &'s Table<'e, L>,
-    gate: &'s G,
+    shared: &Shared<'s, 'e, L, G, R>,
     seats: &mut Vec<Seat<L>>,
     to: &Sender<Record>,
 ) -> Result<Vec<JoinHandle<Left<L>>>, AllocError>
-    requires { program_tree program.now ≡ L.program }
+    requires { program_tree shared.now.program.now ≡ L.program }
     ensures { IfOk result (λ v. vec_len v ≡ vec_len seats.old) }
 {
+    let Shared {
+        rt,
+        alloc,
+        program,
+        table,
+        gate,
+        ..
+    } = *shared;
     let mut workers = Vec::new(alloc);
     while let Some(seat) = seats.pop() {
         let to = to.clone()?;
@@ -81,22 +98,25 @@ fn join_workers<L: Round, R: Threads>(
 
 /// Starts a worker for each seat, and the mover. All senders are theirs then.
 fn start_all<'s, 'e, E, L: Round + Send + Sync, G: Gate + Sync, R: Threads + Wait + Sync>(
-    rt: &'s R,
-    alloc: Global,
     scope: &Scope<'s, E>,
-    program: &'s Program,
-    table: &'s Table<'e, L>,
-    gate: &'s G,
-    moves: &'s [Move],
+    shared: &Shared<'s, 'e, L, G, R>,
     seats: Vec<Seat<L>>,
     to: Sender<Record>,
 ) -> Result<(Vec<JoinHandle<Left<L>>>, JoinHandle<Moved>), AllocError>
-    requires program { program_tree program.now ≡ L.program }
-    requires moves { AreMoves L.program.words (map move_tree moves.now) }
+    requires program { program_tree shared.now.program.now ≡ L.program }
+    requires moves { AreMoves L.program.words (map move_tree shared.now.moves.now) }
     ensures { IfOk result (λ r. vec_len r.0 ≡ vec_len seats) }
 {
     let mut seats = seats;
-    let workers = start_workers(rt, alloc, scope, program, table, gate, &mut seats, &to)?;
+    let workers = start_workers(scope, shared, &mut seats, &to)?;
+    let Shared {
+        rt,
+        alloc,
+        program,
+        table,
+        moves,
+        ..
+    } = *shared;
     let mover = scope.spawn(
         move || -> Moved
             requires { (program_tree program.now ≡ L.program) × AreMoves L.program.words (map move_tree moves.now) }
@@ -131,30 +151,25 @@ fn join_all<L: Round, R: Threads>(
 /// Starts all threads, does the task in this one, and waits for all of them. Where a thread can't be had the run is stopped, and the
 /// task is done all the same.
 fn play_in<'s, 'e, E, L: Round + Send + Sync, G: Gate + Sync, T: Task, R: Threads + Wait + Sync>(
-    rt: &'s R,
-    alloc: Global,
     scope: &Scope<'s, E>,
-    program: &'s Program,
-    table: &'s Table<'e, L>,
-    gate: &'s G,
-    moves: &'s [Move],
+    shared: &Shared<'s, 'e, L, G, R>,
     seats: Vec<Seat<L>>,
     to: Sender<Record>,
     task: T,
 ) -> (Result<Played<L>, AllocError>, T::Output)
-    requires program { program_tree program.now ≡ L.program }
-    requires moves { AreMoves L.program.words (map move_tree moves.now) }
+    requires program { program_tree shared.now.program.now ≡ L.program }
+    requires moves { AreMoves L.program.words (map move_tree shared.now.moves.now) }
     requires task { T.can_run task }
     ensures played { IfOk result.0 (λ p. vec_len p.seats ≡ vec_len seats) }
     ensures ran { T.run_gives task result.1 }
 {
-    let started = start_all(rt, alloc, scope, program, table, gate, moves, seats, to);
+    let started = start_all(scope, shared, seats, to);
     if started.is_err() {
-        stop(rt, table);
+        stop(shared.rt, shared.table);
     }
     let done = task.run();
     let played = match started {
-        Ok((workers, mover)) => join_all(rt, alloc, workers, mover),
+        Ok((workers, mover)) => join_all(shared.rt, shared.alloc, workers, mover),
         Err(error) => Err(error),
     };
     (played, done)
@@ -162,22 +177,25 @@ fn play_in<'s, 'e, E, L: Round + Send + Sync, G: Gate + Sync, T: Task, R: Thread
 
 /// Plays all seats in a scope of its own: all threads are joined when it returns.
 fn play_all<L: Round + Send + Sync, G: Gate + Sync, T: Task + Drop, R: Threads + Wait + Sync>(
-    rt: &R,
-    alloc: Global,
-    program: &Program,
-    table: &Table<'_, L>,
-    gate: &G,
-    moves: &[Move],
+    shared: &Shared<'_, '_, L, G, R>,
     seats: Vec<Seat<L>>,
     to: Sender<Record>,
     task: T,
 ) -> (Result<Played<L>, AllocError>, T::Output)
-    requires program { program_tree program.now ≡ L.program }
-    requires moves { AreMoves L.program.words (map move_tree moves.now) }
+    requires program { program_tree shared.now.program.now ≡ L.program }
+    requires moves { AreMoves L.program.words (map move_tree shared.now.moves.now) }
     requires task { T.can_run task }
     ensures played { IfOk result.0 (λ p. vec_len p.seats ≡ vec_len seats) }
     ensures ran { T.run_gives task result.1 }
 {
+    let Shared {
+        rt,
+        alloc,
+        program,
+        table,
+        gate,
+        moves,
+    } = *shared;
     thread::scope(
         thread::scope_env(),
         rt,
@@ -185,9 +203,15 @@ fn play_all<L: Round + Send + Sync, G: Gate + Sync, T: Task + Drop, R: Threads +
             requires { (program_tree program.now ≡ L.program) × AreMoves L.program.words (map move_tree moves.now) × T.can_run task }
             ensures { IfOk result.0 (λ p. vec_len p.seats ≡ vec_len seats) × T.run_gives task result.1 }
         {
-            play_in(
-                rt, alloc, scope, program, table, gate, moves, seats, to, task,
-            )
+            let shared = Shared {
+                rt,
+                alloc,
+                program,
+                table,
+                gate,
+                moves,
+            };
+            play_in(scope, &shared, seats, to, task)
         },
     )
 }
@@ -201,33 +225,18 @@ pub fn play_beside<
     A,
     R: Threads + Wait + Sync,
 >(
-    rt: &R,
-    alloc: Global,
-    program: &Program,
-    table: &Table<'_, L>,
-    gate: &G,
-    moves: &[Move],
+    shared: &Shared<'_, '_, L, G, R>,
     seats: Vec<Seat<L>>,
     to: Sender<Record>,
     work: &mut F,
 ) -> (Result<Played<L>, AllocError>, A)
-    requires program { program_tree program.now ≡ L.program }
-    requires moves { AreMoves L.program.words (map move_tree moves.now) }
+    requires program { program_tree shared.now.program.now ≡ L.program }
+    requires moves { AreMoves L.program.words (map move_tree shared.now.moves.now) }
     requires work { F.pre work.old }
     ensures played { IfOk result.0 (λ p. vec_len p.seats ≡ vec_len seats) }
     ensures worked { F.step work.old result.1 work.new }
 {
-    let (played, (work, done)) = play_all(
-        rt,
-        alloc,
-        program,
-        table,
-        gate,
-        moves,
-        seats,
-        to,
-        Lent { work },
-    );
+    let (played, (work, done)) = play_all(shared, seats, to, Lent { work });
     take_back(work);
     (played, done)
 }

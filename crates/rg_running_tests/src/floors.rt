@@ -18,59 +18,65 @@ use std::marker::Brand;
 use std::sync::ledger::{Blank, Ledger};
 use std::test::Fail;
 
+/// A floor by its limit, the calls on it with their answers, and what is printed of its records where it is closed.
+#[derive(Clone, Copy)]
+struct Trial<'a> {
+    limit: u64,
+    calls: &'a [AnsweredCall<'a>],
+    printed: Option<Printed>,
+}
+
 /// Whether a floor of this name answers the calls so, and closes as it should with what is printed of its records, if that is asked.
 fn tries<L: Round, E: Checked>(
     alloc: Global,
     checked: &E,
     first: State,
-    limit: u64,
     blank: Blank,
-    calls: &[AnsweredCall<'_>],
-    printed: Option<Printed>,
+    trial: &Trial<'_>,
 ) -> Result<bool, Refusal>
     requires program { program_tree (E.program_of checked.now) ≡ L.program }
     requires code { code_blocks (E.code_of checked.now) ≡ L.code }
     requires widths { first.widths ≡ widths_of L.program.words }
     requires start { first.values ≡ L.start }
-    requires limit { limit ≡ L.limit }
+    requires limit { trial.now.limit ≡ L.limit }
     requires blank { (blank.name ≡ L.name) × (blank.parts ≡ L.parts) × (L.parts ≡ length L.code) }
 {
     let program = checked.program();
-    let (mut floor, mut seats) = Floor::<L>::open(alloc, checked, first, limit, blank)?;
+    let (mut floor, mut seats) = Floor::<L>::open(alloc, checked, first, trial.limit, blank)?;
     let mut records = Vec::new(alloc);
-    let all = answers(alloc, program, &mut floor, &mut seats, calls, &mut records)?;
-    let Some(printed) = printed else {
+    let all = answers(
+        alloc,
+        program,
+        &mut floor,
+        &mut seats,
+        trial.calls,
+        &mut records,
+    )?;
+    let Some(printed) = trial.printed else {
         return Ok(all);
     };
     print_so(alloc, program, &mut records, printed)?;
     Ok(is_closed(alloc, program, floor, seats, &records, printed)? && all)
 }
 
-/// Tries these calls on a fresh floor of a checked program.
+/// Tries a fresh floor of a checked program.
 fn begins<E: Checked>(
     alloc: Global,
     checked: &E,
     first: State,
-    limit: u64,
-    calls: &[AnsweredCall<'_>],
-    printed: Option<Printed>,
+    trial: &Trial<'_>,
 ) -> Result<bool, Refusal>
     requires { first.widths ≡ widths_of (program_tree (E.program_of checked.now)).words }
 {
     let blank = Blank::new(checked.code().parts.len() as u64);
-    tries::<Brand, E>(alloc, checked, first, limit, blank, calls, printed)
+    tries::<Brand, E>(alloc, checked, first, blank, trial)
 }
 
-/// Tries these calls on a fresh floor of the two parts, whose words are 0.
-fn holds(
-    alloc: Global,
-    limit: u64,
-    calls: &[AnsweredCall<'_>],
-    printed: Option<Printed>,
-) -> Result<bool, Refusal> {
+/// Tries a fresh floor of the two parts, whose words are 0.
+fn holds(alloc: Global, trial: &Trial<'_>) -> Result<bool, Refusal> {
     let emitted = built(alloc, TWO_PARTS)?;
     let first = State::zero(alloc, &emitted.program().layout)?;
-    begins(alloc, &emitted, first, limit, calls, printed)
+    begins(alloc, &emitted, first, trial)
 }
 
 const OUTSIDE: Answer = Answer::Refused(RefusalNumber::OutsideRely);
@@ -83,12 +89,12 @@ const BOTH_STEP: &[AnsweredCall<'static>] = &[
     (Call::Turn(2), Answer::Recorded, "x = 1 y = 1", 2),
 ];
 
-/// Floors by their limits, each with its calls and what is printed of its records where it is closed.
-const FLOORS: &[(u64, &[AnsweredCall<'static>], Option<Printed>)] = &[
+/// Floors, each with its calls and what is printed of its records where it is closed.
+const FLOORS: &[Trial<'static>] = &[
     // A move outside the rely changes nothing.
-    (
-        2,
-        &[
+    Trial {
+        limit: 2,
+        calls: &[
             (Call::Move("x = 1"), OUTSIDE, "", 0),
             (Call::NoMoreMoves, Answer::Nothing, "", 0),
             (Call::Turn(1), Answer::Recorded, "x = 1", 1),
@@ -96,12 +102,12 @@ const FLOORS: &[(u64, &[AnsweredCall<'static>], Option<Printed>)] = &[
             (Call::Turn(1), Answer::Over(Why::Ended), "x = 1 y = 1", 2),
             (Call::Turn(2), Answer::Over(Why::Ended), "x = 1 y = 1", 2),
         ],
-        Some(Printed::Both),
-    ),
+        printed: Some(Printed::Both),
+    },
     // No move comes when no more come, also none outside the rely.
-    (
-        2,
-        &[
+    Trial {
+        limit: 2,
+        calls: &[
             (Call::Move(""), Answer::Recorded, "", 1),
             (Call::NoMoreMoves, Answer::Nothing, "", 1),
             (Call::Move(""), MOVES_ENDED, "", 1),
@@ -109,12 +115,12 @@ const FLOORS: &[(u64, &[AnsweredCall<'static>], Option<Printed>)] = &[
             (Call::Turn(2), Answer::Recorded, "y = 1", 2),
             (Call::Turn(2), Answer::Ended, "y = 1", 2),
         ],
-        None,
-    ),
+        printed: None,
+    },
     // A floor is over at its limit and where it is stopped.
-    (
-        1,
-        &[
+    Trial {
+        limit: 1,
+        calls: &[
             (Call::Turn(2), Answer::Recorded, "y = 1", 1),
             (Call::Turn(1), Answer::Over(Why::Limit), "y = 1", 1),
             (Call::Turn(2), Answer::Over(Why::Limit), "y = 1", 1),
@@ -122,22 +128,33 @@ const FLOORS: &[(u64, &[AnsweredCall<'static>], Option<Printed>)] = &[
             (Call::Stop, Answer::Nothing, "y = 1", 2),
             (Call::Turn(1), Answer::Over(Why::Stopped), "y = 1", 2),
         ],
-        None,
-    ),
-    // Only its history closes a floor.
-    (2, BOTH_STEP, Some(Printed::Both)),
-    (2, BOTH_STEP, Some(Printed::First)),
-    (2, BOTH_STEP, Some(Printed::SecondTwice)),
-    (2, BOTH_STEP, Some(Printed::SecondWithOtherLine)),
-    (2, BOTH_STEP, Some(Printed::Exchanged)),
+        printed: None,
+    },
+];
+
+/// What may be printed of the records of a floor; only its history closes it.
+const PRINTED: &[Printed] = &[
+    Printed::Both,
+    Printed::First,
+    Printed::SecondTwice,
+    Printed::SecondWithOtherLine,
+    Printed::Exchanged,
 ];
 
 #[test]
 fn floors_answer_record_by_record_and_close_with_their_history(
     rt: HostRuntime,
 ) -> Result<(), Fail> {
-    for (limit, calls, printed) in FLOORS {
-        assert!(rt; holds(rt.alloc(), *limit, calls, *printed)?);
+    for trial in FLOORS {
+        assert!(rt; holds(rt.alloc(), trial)?);
+    }
+    for printed in PRINTED {
+        let trial = Trial {
+            limit: 2,
+            calls: BOTH_STEP,
+            printed: Some(*printed),
+        };
+        assert!(rt; holds(rt.alloc(), &trial)?);
     }
     Ok(())
 }

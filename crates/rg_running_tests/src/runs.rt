@@ -7,6 +7,7 @@ use rg_floor::turn::Why;
 use rg_parse::moves;
 use rg_runner::gate::Open;
 use rg_runner::player::play;
+use rg_runner::stage::Stage;
 use rg_words::{Fuse, Refusal, RefusalNumber, State, Taker};
 use std::alloc::Global;
 use std::sync::Wait;
@@ -32,7 +33,13 @@ fn lists_its_move<R: Threads + Wait + Sync>(rt: &R, alloc: Global) -> Result<boo
     let first = State::zero(alloc, &emitted.program().layout)?;
     let moves = moves(alloc, &emitted.program().layout, b"at 0 x = 1")?;
     let mut out = Taker::new(alloc, 100);
-    let closed = play(rt, alloc, &emitted, first, 0, &Open, &moves, &mut out)?;
+    let stage = Stage {
+        rt,
+        alloc,
+        gate: &Open,
+        moves: &moves,
+    };
+    let closed = play(&stage, &emitted, first, 0, &mut out)?;
     Ok(lists_one(&closed) && out.bytes().is_empty())
 }
 
@@ -48,7 +55,13 @@ fn fails_at_once<R: Threads + Wait + Sync>(rt: &R, alloc: Global) -> Result<bool
     let emitted = built(alloc, ENDLESS)?;
     let first = State::zero(alloc, &emitted.program().layout)?;
     let mut out = Fuse::new(Taker::new(alloc, 1), 0);
-    let fault = play(rt, alloc, &emitted, first, 1_000_000, &Open, &[], &mut out).err();
+    let stage = Stage {
+        rt,
+        alloc,
+        gate: &Open,
+        moves: &[],
+    };
+    let fault = play(&stage, &emitted, first, 1_000_000, &mut out).err();
     Ok(fault == Some(Refusal::new(RefusalNumber::Write)) && out.inner().bytes().is_empty())
 }
 

@@ -18,9 +18,6 @@ and_all : (a e b : Bool) → (a && e) && b ≡ a && (e && b)
 and_all true e b = refl
 and_all false e b = refl
 
-some_same : {A : Type 0} (a b : A) → Some a ≡ Some b → a ≡ b
-some_same a b h = cc h
-
 -- the flags of all parts, from the verdict
 pub flags_from : FollowingDecides → (i : ℕ) (so_far : Bool) (ps : List PartTree) (s : State) (xs : List Step) (ended : Bool) → verdict i so_far ps s xs ≡ Some ended → (flags : List Bool) × ViewsRun i ps flags s xs × (ended ≡ so_far && all_true flags)
 flags_from law i so_far [] s xs ended h = ([], tt, and_none so_far ended h)

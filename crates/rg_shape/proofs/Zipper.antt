@@ -10,7 +10,6 @@ use Rattle.rg_text.specs.declared.kind.Junction.{Junction}
 use Rattle.rg_text.specs.declared.kind.Conditional.{Conditional}
 use Rattle.rg_text.specs.declared.kind.Keyword.TheVariants as keywords
 use Rattle.rg_tree.specs.declared.line.Rule.{Rule}
-use Rattle.rg_syntax.specs.Written.{DeclaredWord}
 use Rattle.rg_syntax.specs.declared.text_kind.TextKind.{TextKind}
 use Rattle.rg_syntax.specs.declared.text_kind.TextKind.TheVariants as texts
 use Rattle.rg_shape.specs.declared.point.Sort.TheVariants.{Formula, Expression}
@@ -23,7 +22,7 @@ use Rattle.rg_shape.specs.declared.point.Clause.{Clause}
 use Rattle.rg_shape.specs.declared.point.Clause.TheVariants as clauses
 use Rattle.rg_shape.specs.declared.point.BlockKind.{BlockKind}
 use Rattle.rg_shape.specs.declared.point.BlockKind.TheVariants as blocks
-use Rattle.rg_syntax.specs.Grammar.{Lexeme, fixed, name, number, FormulaSpelling, ChainSpelling, ExpressionSpelling, WordsSpelling, negation, pair, longer, inverse, one, more, formula, chain, expression, marked, words, SettingsSpelling, MovesSpelling, settings, moves, opening, an_if, an_await, a_while, a_line, lexeme_as, rule_terminal, PremisesSpelling, some_premises, premises, LineSpelling, DerivationSpelling, derivation, AssignmentsSpelling, one_assignment, and_assignment, BlockSpelling, assigning, one_statement, and_statement, SpecSpelling, PartsSpelling, assignments, block, specification, parts}
+use Rattle.rg_syntax.specs.Grammar.{Lexeme, fixed, name, number, FormulaSpelling, ChainSpelling, ExpressionSpelling, WordsSpelling, negation, pair, longer, inverse, formula, chain, expression, marked, words, SettingsSpelling, MovesSpelling, settings, moves, opening, an_if, an_await, a_while, a_line, lexeme_as, rule_terminal, PremisesSpelling, some_premises, premises, LineSpelling, DerivationSpelling, derivation, AssignmentsSpelling, one_assignment, and_assignment, BlockSpelling, assigning, one_statement, and_statement, SpecSpelling, PartsSpelling, assignments, block, specification, parts}
 use Rattle.rg_words.specs.declared.operators.Comparison.TheVariants as comparisons
 use Rattle.rg_shape.specs.Inner.Machine.{only_formula, only_expression, takes, complete, one_more, one_more_line}
 use Rattle.rg_shape.proofs.Spellings.{count_of, count_of_words, count_of_assignments, count_of_parts, count_of_lines}
@@ -40,10 +39,6 @@ operands j (several c) r = chain j c r
 abbrev pub operand_count : Operands → ℕ
 operand_count (single f) = 1
 operand_count (several c) = count_of c
-
-abbrev pub with_operand : Operands → FormulaSpelling → ChainSpelling
-with_operand (single f) g = pair f g
-with_operand (several c) g = longer c g
 
 -- an open part of the text, up to an item that is wanted
 pub data Frame : Type 0 where
@@ -276,10 +271,6 @@ before_all (within f fs) r = before_all fs (before f r)
 abbrev pub before_word : Previous → List Lexeme → List Lexeme
 before_word None r = fixed Words ∷ r
 before_word (Some ws) r = words ws r
-
-abbrev pub with_word : Previous → DeclaredWord → WordsSpelling
-with_word None w = one w
-with_word (Some ws) w = more ws w
 
 abbrev pub before_head : Head → List Lexeme → List Lexeme
 before_head unread r = r

@@ -23,7 +23,7 @@ use Rattle.rg_find.specs.declared.judgement.Judged.TheVariants.{Holds, Fails, Ga
 use Rattle.rgc.specs.declared.proofs_found.Unproved.{Unproved}
 use Rattle.rgc.specs.declared.proofs_found.Sought.{Sought}
 use Rattle.rg_pool.specs.Parts.{ArePartProved, IsPartRefusal}
-use Rattle.rgc.specs.Proofs.{IsUnproved, HoldFrom, AreReportedOrHold, AreUnproved, IsRange, in_range, outside, KeepLimit, IsFirstUnjudged, IsSearchRefusal, IsPartSearchRefusal}
+use Rattle.rgc.specs.Proofs.{IsUnproved, HoldFrom, AreReportedOrHold, IsRange, in_range, outside, KeepLimit, IsFirstUnjudged, IsSearchRefusal, IsPartSearchRefusal}
 use Rattle.rgc.specs.Inner.Search.{IsKept, IsHolding, Takes, IsJudgedAt, IsSoughtAt, IsUnsoughtAt, IsAnswerAt, AreSought}
 
 -- what is kept of a condition is true of the condition of its number
@@ -62,10 +62,6 @@ unjudged_there xs place steps x e small at why = (condition_tree x, nth-at condi
 -- the first condition that isn't judged, where those before it keep the limit
 pub first_unjudged : (cs : List ConditionTree) (first number steps : ℕ) (e : Refusal) → KeepLimit cs first number → IsUnsoughtAt cs number steps e → IsFirstUnjudged cs first steps e
 first_unjudged cs first number steps e keep why = record { number = number; condition = why.0; is = why.1; refusal = why.2; before = keep }
-
--- before the first number there is none
-pub none_before : (cs : List ConditionTree) (first : ℕ) → KeepLimit cs first first
-none_before cs first = λ k c low high is. absurd (omega (arith, low, high))
 
 same_number : (k n : ℕ) → n ≤ k → k < n + 1 → k ≡ n
 same_number k n past high = omega (arith, past, high)
@@ -162,15 +158,6 @@ module _ (all items : List Condition) (cs : List ConditionTree) (first last coun
   part_refused bytes e why =
       subst (λ (n : ℕ). IsPartRefusal n (first - 1) (in_range first last cs) bytes e) (count_same all cs count same is_count)
       (subst (λ (xs : List ConditionTree). IsPartRefusal count (first - 1) xs bytes e) part_same why)
-
--- what was reported of conditions without a proof, of one at least
-pub unproved_of : (xs : List Condition) (cs : List ConditionTree) (first end : ℕ) (reported : List Unproved) → map condition_tree xs ≡ cs → 0 < length reported → All (IsUnproved (map condition_tree xs)) reported → AreReportedOrHold (map condition_tree xs) first end reported → AreUnproved cs first end reported
-unproved_of xs cs first end reported same some are all = subst (λ (ds : List ConditionTree). AreUnproved ds first end reported) same (record { some = some; all = all; are = are })
-
--- the same of all conditions
-pub all_unproved : (xs : List Condition) (cs : List ConditionTree) (reported : List Unproved) → map condition_tree xs ≡ cs → 0 < length reported → All (IsUnproved (map condition_tree xs)) reported → AreReportedOrHold (map condition_tree xs) 1 (length xs + 1) reported → AreUnproved cs 1 (length cs + 1) reported
-all_unproved xs cs reported same some are all =
-    subst (λ (n : ℕ). AreUnproved cs 1 (n + 1) reported) (count_same xs cs (length xs) same refl) (unproved_of xs cs 1 (length xs + 1) reported same some are all)
 
 -- a search of all conditions is refused
 pub all_refused : (xs : List Condition) (cs : List ConditionTree) (steps : ℕ) (e : Refusal) → map condition_tree xs ≡ cs → ((e ≡ no_memory) ⊎ IsFirstUnjudged (map condition_tree xs) 1 steps e) → IsSearchRefusal cs steps e

@@ -10,7 +10,7 @@ use Rattle.rg_tree.specs.ConditionTrees.{ConditionTree}
 use Rattle.rg_tree.specs.Conditions.{ConditionHolds}
 use Rattle.rg_tree.specs.Lines.{LineTree}
 use Rattle.rg_tree.specs.Statements.{ProgramTree}
-use Rattle.rg_tree.specs.Programs.{nth}
+use Rattle.rg_tree.specs.Programs.{nth, IsSatisfied}
 use Rattle.rg_clauses.specs.Conditions.{clauses_of_condition}
 use Rattle.rg_find.specs.Judged.{IsJudged, IsJudgeRefusal}
 use Rattle.rg_hints.specs.Proved.{AreProved, IsProofsRefusal}
@@ -53,6 +53,11 @@ pub record AreUnproved (conditions : List ConditionTree) (first end : ℕ) (repo
 abbrev pub AreFoundFor : ProgramTree → List LineTree → ProofsFound → Type 0
 AreFoundFor p lines (Proofs text) = AreProved (conditions_of p lines) (string_bytes text)
 AreFoundFor p lines (Failures reported) = AreUnproved (conditions_of p lines) 1 (length (conditions_of p lines) + 1) reported.items
+
+-- where a text is given as proofs of all conditions, the program satisfies its specification
+abbrev pub IsSatisfiedWhere : ProgramTree → ProofsFound → Type 0
+IsSatisfiedWhere p (Proofs text) = IsSatisfied p
+IsSatisfiedWhere p (Failures reported) = Unit {0}
 
 -- these are the numbers of the first and the last of some of so many conditions
 pub record IsRange (first last count : ℕ) : Type 0 where

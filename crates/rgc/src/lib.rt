@@ -10,7 +10,9 @@ mod shown;
 pub use chosen::{chosen_condition, condition_clauses, derive_program, find_condition};
 pub use failures::failure_text;
 pub use pieces::{derive_in_pieces, one_piece_fits, one_piece_is_accepted};
-pub use proofs_found::{ProofsFound, Unproved, failures_text, find_part, find_proofs, name_at};
+pub use proofs_found::{
+    ProofsFound, SearchSettings, Unproved, failures_text, find_part, find_proofs, name_at,
+};
 pub use rg_accept::{
     Accepted, Derived, Emitted, Parsed, accept, accept_all, accept_program, build, build_by,
     build_program,

@@ -6,7 +6,7 @@ ghost use Rattle.rg_words.specs.declared.refusal.SourceFile.TheVariants.{Derivat
 ghost use Rattle.rg_words.specs.declared.refusal.Place.TheVariants.{Condition as the_condition};
 ghost use Rattle.rg_words.specs.Refusals.{no_memory, refused_in};
 ghost use Rattle.rg_tree.specs.Conditions.{condition_tree};
-ghost use Rattle.rgc.specs.Proofs.{AreFoundFor, ArePartFoundFor, AreReportedOrHold, IsRange, IsUnproved, IsFirstUnjudged, IsSearchRefusal, IsPartSearchRefusal, outside};
+ghost use Rattle.rgc.specs.Proofs.{AreFoundFor, ArePartFoundFor, AreReportedOrHold, IsRange, IsUnproved, IsFirstUnjudged, IsSatisfiedWhere, IsSearchRefusal, IsPartSearchRefusal, outside};
 ghost use Rattle.rgc.specs.Failures.{judged_text, name_at, unproved_text, failures_text};
 ghost use Rattle.rgc.specs.Inner.Search.{Takes, IsAnswerAt, AreSought};
 ghost use Rattle.rg_accept.specs.Accepted.{conditions_of};
@@ -17,7 +17,7 @@ use crate::failures::failure_text;
 use rg_accept::Derived;
 use rg_find::{Judged, Watcher, judge};
 use rg_hints::Lines;
-use rg_pool::{deal, prove_all, prove_part};
+use rg_pool::{InThreads, deal, prove_all, prove_part};
 use rg_tree::condition::Condition;
 use rg_words::limits::MOST_PROOF_BYTES;
 use rg_words::{Layout, Place, Refusal, RefusalNumber, SourceFile};
@@ -147,6 +147,19 @@ impl Search {
     }
 }
 
+/// How searches for proofs are made.
+#[derive(Clone, Copy)]
+pub struct SearchSettings<'a, R, P> {
+    /// The handle that starts threads.
+    pub rt: &'a R,
+    /// The most conditions that are looked at side by side.
+    pub threads: usize,
+    /// The most decisions of the search for each condition.
+    pub steps: u64,
+    /// Each search has a copy of it.
+    pub watcher: &'a P,
+}
+
 /// What a search says of the condition at this place, from 0; nothing, where another condition was refused before.
 fn judge_one<P: Watcher + Copy>(
     alloc: Global,
@@ -173,18 +186,19 @@ fn judge_one<P: Watcher + Copy>(
 /// What searches say of so many conditions from this place on, in at most so many threads; nothing of some of them, where
 /// one is refused, and of none with fewer than two threads.
 fn judge_some<R: Threads + Sync, P: Watcher + Copy + Sync>(
-    rt: &R,
+    settings: &SearchSettings<'_, R, P>,
     alloc: Global,
-    threads: usize,
     conditions: &[Condition],
     from: usize,
     count: usize,
-    steps: u64,
-    watcher: &P,
 ) -> Result<Vec<Option<Result<Sought, Refusal>>>, AllocError>
     requires { from + count ≤ length conditions.now }
-    ensures { IfOk result (λ known. AreSought (map condition_tree conditions.now) from steps known.items) }
+    ensures { IfOk result (λ known. AreSought (map condition_tree conditions.now) from settings.now.steps known.items) }
 {
+    let rt = settings.rt;
+    let threads = settings.threads;
+    let steps = settings.steps;
+    let watcher = settings.watcher;
     if threads < 2 {
         return Ok(Vec::new(alloc));
     }
@@ -203,20 +217,19 @@ fn judge_some<R: Threads + Sync, P: Watcher + Copy + Sync>(
 }
 
 /// What a search says of the condition at this place, from 0: what is known of it, which is taken, or what is found now.
-fn judged_at<P: Watcher + Copy>(
+fn judged_at<R, P: Watcher + Copy>(
+    settings: &SearchSettings<'_, R, P>,
     alloc: Global,
     conditions: &[Condition],
     known: &mut [Option<Result<Sought, Refusal>>],
     from: usize,
     place: usize,
-    steps: u64,
-    watcher: &P,
 ) -> Result<Sought, Refusal>
     requires place { place < length conditions.now }
     requires from { from ≤ place }
-    requires known { AreSought (map condition_tree conditions.now) from steps known.old }
-    ensures answer { IsAnswerAt (map condition_tree conditions.now) (place + 1) steps result }
-    ensures known { AreSought (map condition_tree conditions.now) from steps known.new }
+    requires known { AreSought (map condition_tree conditions.now) from settings.now.steps known.old }
+    ensures answer { IsAnswerAt (map condition_tree conditions.now) (place + 1) settings.now.steps result }
+    ensures known { AreSought (map condition_tree conditions.now) from settings.now.steps known.new }
 {
     let index = place - from;
     if index < known.len() {
@@ -224,20 +237,17 @@ fn judged_at<P: Watcher + Copy>(
             return sought;
         }
     }
-    let mut own = *watcher;
-    seek(alloc, conditions, place, steps, &mut own)
+    let mut own = *settings.watcher;
+    seek(alloc, conditions, place, settings.steps, &mut own)
 }
 
 /// Searches for lines for each condition from one place on and before another, with at most so many decisions each.
 fn search_in<R: Threads + Sync, P: Watcher + Copy + Sync>(
-    rt: &R,
+    settings: &SearchSettings<'_, R, P>,
     alloc: Global,
-    threads: usize,
     conditions: &[Condition],
     from: usize,
     to: usize,
-    steps: u64,
-    watcher: &P,
 ) -> Result<Search, Refusal>
     requires order { from ≤ to }
     requires bound { to ≤ length conditions.now }
@@ -245,25 +255,16 @@ fn search_in<R: Threads + Sync, P: Watcher + Copy + Sync>(
     ensures reported { IfOk result (λ s. All (IsUnproved (map condition_tree conditions.now)) s.unproved.items) }
     // All others hold.
     ensures others { IfOk result (λ s. AreReportedOrHold (map condition_tree conditions.now) (from + 1) (to + 1) s.unproved.items) }
-    ensures refused { IfErr result (λ e. (e ≡ no_memory) ⊎ IsFirstUnjudged (map condition_tree conditions.now) (from + 1) steps e) }
+    ensures refused { IfErr result (λ e. (e ≡ no_memory) ⊎ IsFirstUnjudged (map condition_tree conditions.now) (from + 1) settings.now.steps e) }
 {
-    let mut known = judge_some(
-        rt,
-        alloc,
-        threads,
-        conditions,
-        from,
-        to - from,
-        steps,
-        watcher,
-    )?;
+    let mut known = judge_some(settings, alloc, conditions, from, to - from)?;
     let mut found = Search {
         sections: String::new(alloc),
         unproved: Vec::new(alloc),
     };
     let reported = known.as_mut_slice();
     for place in from..to {
-        let sought = match judged_at(alloc, conditions, reported, from, place, steps, watcher) {
+        let sought = match judged_at(settings, alloc, conditions, reported, from, place) {
             Ok(sought) => sought,
             Err(refusal) => return Err(refusal),
         };
@@ -299,13 +300,19 @@ pub fn find_proofs<R: Threads + Wait + Sync, P: Watcher + Copy + Sync>(
 ) -> Result<ProofsFound, Refusal>
     // What is given proves all conditions: it is checked before it is given. Else what is reported of conditions without a proof is true, and all others hold.
     ensures found { IfOk result (AreFoundFor (derived_program derived.now) (derived_lines derived.now)) }
+    ensures satisfied { IfOk result (IsSatisfiedWhere (derived_program derived.now)) }
     ensures refused { IfErr result (IsSearchRefusal (conditions_of (derived_program derived.now) (derived_lines derived.now)) steps) }
 {
     let conditions = derived.conditions(alloc)?;
     let count = conditions.len();
-    let suited = suiting(&derived.program().layout, count, threads);
+    let settings = SearchSettings {
+        rt,
+        threads: suiting(&derived.program().layout, count, threads),
+        steps,
+        watcher,
+    };
     let all = conditions.as_slice();
-    let found = match search_in(rt, alloc, suited, all, 0, count, steps, watcher) {
+    let found = match search_in(&settings, alloc, all, 0, count) {
         Ok(found) => found,
         Err(refusal) => return Err(refusal),
     };
@@ -348,18 +355,15 @@ fn check_range(first: u64, last: u64, count: usize) -> Result<(), Refusal>
 /// `UnknownCondition` at the condition of the derivation where there is none of the first or the last number, or where the
 /// last is below the first; then as `find_proofs`.
 pub fn find_part<R: Threads + Wait + Sync, P: Watcher + Copy + Sync>(
-    rt: &R,
+    settings: &SearchSettings<'_, R, P>,
     alloc: Global,
-    threads: usize,
     derived: &Derived,
     first: u64,
     last: u64,
-    steps: u64,
-    watcher: &P,
 ) -> Result<ProofsFound, Refusal>
     // What is given proves these conditions: it is checked before it is given. Else what is reported of those without a proof is true, and all others hold.
     ensures found { IfOk result (ArePartFoundFor (derived_program derived.now) (derived_lines derived.now) first last) }
-    ensures refused { IfErr result (IsPartSearchRefusal (conditions_of (derived_program derived.now) (derived_lines derived.now)) first last steps) }
+    ensures refused { IfErr result (IsPartSearchRefusal (conditions_of (derived_program derived.now) (derived_lines derived.now)) first last settings.now.steps) }
 {
     let conditions = derived.conditions(alloc)?;
     let count = conditions.len();
@@ -368,9 +372,14 @@ pub fn find_part<R: Threads + Wait + Sync, P: Watcher + Copy + Sync>(
         Err(refusal) => return Err(refusal),
     }
     let (from, to) = ((first - 1) as usize, last as usize);
-    let suited = suiting(&derived.program().layout, to - from, threads);
+    let suited = SearchSettings {
+        rt: settings.rt,
+        threads: suiting(&derived.program().layout, to - from, settings.threads),
+        steps: settings.steps,
+        watcher: settings.watcher,
+    };
     let all = conditions.as_slice();
-    let found = match search_in(rt, alloc, suited, all, from, to, steps, watcher) {
+    let found = match search_in(&suited, alloc, all, from, to) {
         Ok(found) => found,
         Err(refusal) => return Err(refusal),
     };
@@ -379,7 +388,11 @@ pub fn find_part<R: Threads + Wait + Sync, P: Watcher + Copy + Sync>(
         return Ok(ProofsFound::Failures(unproved));
     }
     let part = &all[from..to];
-    match prove_part(rt, alloc, threads, count, from, part, sections.as_bytes()) {
+    let checker = InThreads {
+        rt: settings.rt,
+        threads: settings.threads,
+    };
+    match prove_part(&checker, alloc, count, from, part, sections.as_bytes()) {
         Ok(()) => Ok(ProofsFound::Proofs(sections)),
         Err(refusal) => Err(refusal),
     }

@@ -1,3 +1,4 @@
+pub mod Failures
 pub mod Listing
 pub mod Printed
 pub mod Numbers

@@ -1,6 +1,6 @@
 //! The conditions of a derivation as texts to show.
 
-ghost use Rattle.std.specs.Prelude.{◌≡◌, ◌<◌, ◌++◌, [], false, length, map, slice_index, slice_index_or, string_bytes, codes, IfOk, IfErr, OnOk};
+ghost use Rattle.std.specs.Prelude.{◌≡◌, ◌<◌, [], false, length, map, slice_index, slice_index_or, string_bytes, IfOk, IfErr, OnOk};
 ghost use Rattle.std.specs.Io.KnownBytes.{Appends};
 ghost use Rattle.rg_words.specs.Layout.{names_of, widths_of, fixed_of};
 ghost use Rattle.rg_words.specs.Written.{CanCount};
@@ -8,6 +8,7 @@ ghost use Rattle.rg_words.specs.Stopped.{IsFailure, IsStopped};
 ghost use Rattle.rg_tree.specs.Conditions.{condition_tree};
 ghost use Rattle.rg_accept.specs.Stages.{derived_program, derived_lines};
 ghost use Rattle.rgc.specs.Chosen.{IsDeriveRefusal};
+ghost use Rattle.rgc_answers.specs.Failures.{NoFailure};
 ghost use Rattle.rgc_answers.specs.Blocks.{fixed_text, word_text, words_text, shown_text, block_text, blocks_text, formulas_text};
 ghost use Rattle.rgc_answers.specs.FormulasPrinted.{HasPrintedFormulas};
 
@@ -75,7 +76,7 @@ fn write_blocks<W: Out>(
 ) -> Result<(), Refusal>
     requires { CanCount (W.failures out.old) }
     ensures printed { OnOk result (Appends (W.contents out.old) (W.contents out.new) (blocks_text 1 (map string_bytes names.now) (map condition_tree conditions.now))) }
-    ensures failures { OnOk result (W.failures out.new ≡ W.failures out.old) }
+    ensures failures { NoFailure result (W.failures out.old) (W.failures out.new) }
     ensures stopped { IfErr result (IsFailure (W.failures out.old) (W.failures out.new)) }
 {
     let count = names.len().min(conditions.len());
@@ -90,7 +91,7 @@ fn write_blocks<W: Out>(
 fn write_formulas<W: Out>(alloc: Global, derived: &Derived, out: &mut W) -> Result<(), Refusal>
     requires { CanCount (W.failures out.old) }
     ensures printed { OnOk result (Appends (W.contents out.old) (W.contents out.new) (formulas_text (derived_program derived.now) (derived_lines derived.now))) }
-    ensures failures { OnOk result (W.failures out.new ≡ W.failures out.old) }
+    ensures failures { NoFailure result (W.failures out.old) (W.failures out.new) }
     ensures stopped { IfErr result (IsFailure (W.failures out.old) (W.failures out.new)) }
 {
     let names = derived.names(alloc)?;
@@ -112,7 +113,7 @@ pub fn print_formulas<W: Out>(
 ) -> Result<(), Refusal>
     requires { CanCount (W.failures out.old) }
     ensures printed { OnOk result (HasPrintedFormulas text.now derivation.now (W.contents out.old) (W.contents out.new)) }
-    ensures failures { OnOk result (W.failures out.new ≡ W.failures out.old) }
+    ensures failures { NoFailure result (W.failures out.old) (W.failures out.new) }
     ensures stopped { IfErr result (IsStopped (IsDeriveRefusal text.now derivation.now) (W.contents out.old) (W.contents out.new) (W.failures out.old) (W.failures out.new)) }
 {
     let derived = derive_program(alloc, text, derivation)?;

@@ -7,6 +7,7 @@ ghost use Rattle.serde_json.specs.View.{view};
 ghost use Rattle.serde_json.specs.Written.{compact_text};
 ghost use Rattle.rg_tree.specs.ProgramTrees.{program as program_tree};
 ghost use Rattle.rg_tree.specs.Printed.{formula_text};
+ghost use Rattle.rgc_answers.specs.Failures.{NoFailure};
 ghost use Rattle.rgc_answers.specs.Listing.{listing_data};
 ghost use Rattle.rg_words.specs.Stopped.{IsCut};
 ghost use Rattle.rgc_answers.specs.Conditions.{pre_data, pre_line, condition_data, condition_line, condition_lines, conditions_text};
@@ -32,7 +33,7 @@ use std::alloc::{AllocError, Global};
 pub fn write_listing<W: Out>(alloc: Global, code: &Code, out: &mut W) -> Result<(), Refusal>
     requires { CanCount (W.failures out.old) }
     ensures printed { OnOk result (Appends (W.contents out.old) (W.contents out.new) (compact_text (listing_data code.now) ++ codes "\n")) }
-    ensures failures { OnOk result (W.failures out.new ≡ W.failures out.old) }
+    ensures failures { NoFailure result (W.failures out.old) (W.failures out.new) }
     // A beginning of the text went out: `Write` where the writer failed, and else memory was refused.
     ensures stopped { IfErr result (IsCut (W.contents out.old) (W.contents out.new) (W.failures out.old) (W.failures out.new) (compact_text (listing_data code.now) ++ codes "\n")) }
 {
@@ -106,7 +107,7 @@ fn write_names<W: Out>(
 ) -> Result<(), Refusal>
     requires { CanCount (W.failures out.old) }
     ensures printed { OnOk result (Appends (W.contents out.old) (W.contents out.new) (condition_lines format 1 (map string_bytes names.now))) }
-    ensures failures { OnOk result (W.failures out.new ≡ W.failures out.old) }
+    ensures failures { NoFailure result (W.failures out.old) (W.failures out.new) }
     ensures stopped { IfErr result (IsCut (W.contents out.old) (W.contents out.new) (W.failures out.old) (W.failures out.new) (condition_lines format 1 (map string_bytes names.now))) }
 {
     for (i, name) in names.iter().enumerate() {
@@ -130,7 +131,7 @@ pub fn write_conditions<W: Out>(
 ) -> Result<(), Refusal>
     requires { CanCount (W.failures out.old) }
     ensures printed { OnOk result (Appends (W.contents out.old) (W.contents out.new) (conditions_text format (derived_program derived.now) (derived_lines derived.now))) }
-    ensures failures { OnOk result (W.failures out.new ≡ W.failures out.old) }
+    ensures failures { NoFailure result (W.failures out.old) (W.failures out.new) }
     // A beginning of the text went out: `Write` where the writer failed, and else memory was refused.
     ensures stopped { IfErr result (IsCut (W.contents out.old) (W.contents out.new) (W.failures out.old) (W.failures out.new) (conditions_text format (derived_program derived.now) (derived_lines derived.now))) }
 {

@@ -6,6 +6,7 @@ ghost use Rattle.rg_words.specs.Written.{CanCount};
 ghost use Rattle.rg_words.specs.Stopped.{IsFailure};
 ghost use Rattle.serde_json.specs.View.{view};
 ghost use Rattle.serde_json.specs.Written.{has_float};
+ghost use Rattle.rgc_answers.specs.Failures.{NoFailure};
 ghost use Rattle.rgc_answers.specs.Lines.{json_line};
 
 use rg_words::{Out, Refusal, write_all};
@@ -26,7 +27,7 @@ pub(crate) fn write_value<W: Out>(alloc: Global, value: &Value, out: &mut W) -> 
     requires count { CanCount (W.failures out.old) }
     requires exact { has_float (view value.now) ≡ false }
     ensures printed { OnOk result (Appends (W.contents out.old) (W.contents out.new) (json_line (view value.now))) }
-    ensures failures { OnOk result (W.failures out.new ≡ W.failures out.old) }
+    ensures failures { NoFailure result (W.failures out.old) (W.failures out.new) }
     ensures stopped { IfErr result (IsFailure (W.failures out.old) (W.failures out.new)) }
 {
     let line = line_of(alloc, value)?;

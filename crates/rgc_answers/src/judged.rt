@@ -1,10 +1,11 @@
 //! What is printed of a condition that was searched.
 
-ghost use Rattle.std.specs.Prelude.{◌≡◌, IfOk, IfErr, OnOk};
+ghost use Rattle.std.specs.Prelude.{IfOk, IfErr, OnOk};
 ghost use Rattle.std.specs.Io.KnownBytes.{Appends};
 ghost use Rattle.rg_words.specs.Written.{CanCount};
 ghost use Rattle.rg_hints.specs.Normal.{section_text};
 ghost use Rattle.rg_words.specs.Stopped.{IsFailure};
+ghost use Rattle.rgc_answers.specs.Failures.{NoFailure};
 ghost use Rattle.rgc_answers.specs.Inner.Lines.{Answers, GivesUp};
 
 use rg_find::Judged;
@@ -29,7 +30,7 @@ pub enum Answer {
 fn print_lines<W: Out>(alloc: Global, lines: &Lines, out: &mut W) -> Result<(), Refusal>
     requires { CanCount (W.failures out.old) }
     ensures printed { OnOk result (Appends (W.contents out.old) (W.contents out.new) (section_text lines.now)) }
-    ensures failures { OnOk result (W.failures out.new ≡ W.failures out.old) }
+    ensures failures { NoFailure result (W.failures out.old) (W.failures out.new) }
     ensures stopped { IfErr result (IsFailure (W.failures out.old) (W.failures out.new)) }
 {
     let text = lines.text(alloc)?;
@@ -41,7 +42,7 @@ fn print_lines<W: Out>(alloc: Global, lines: &Lines, out: &mut W) -> Result<(), 
 fn give_up<W: Out>(why: &'static str, out: &mut W) -> Result<Answer, Refusal>
     requires { CanCount (W.failures out.old) }
     ensures printed { IfOk result (GivesUp why.now (W.contents out.old) (W.contents out.new)) }
-    ensures failures { OnOk result (W.failures out.new ≡ W.failures out.old) }
+    ensures failures { NoFailure result (W.failures out.old) (W.failures out.new) }
     ensures stopped { IfErr result (IsFailure (W.failures out.old) (W.failures out.new)) }
 {
     write_all(out, b"gave up\n")?;
@@ -57,7 +58,7 @@ pub(crate) fn print_judged<W: Out>(
 ) -> Result<Answer, Refusal>
     requires { CanCount (W.failures out.old) }
     ensures printed { IfOk result (Answers condition.now.layout judged.now (W.contents out.old) (W.contents out.new)) }
-    ensures failures { OnOk result (W.failures out.new ≡ W.failures out.old) }
+    ensures failures { NoFailure result (W.failures out.old) (W.failures out.new) }
     ensures stopped { IfErr result (IsFailure (W.failures out.old) (W.failures out.new)) }
 {
     match judged {

@@ -6,6 +6,7 @@ ghost use Rattle.rg_words.specs.Written.{CanCount};
 ghost use Rattle.rg_tree.specs.ProgramView.{part};
 ghost use Rattle.rg_words.specs.Stopped.{IsCut};
 ghost use Rattle.serde_json.specs.View.{view};
+ghost use Rattle.rgc_answers.specs.Failures.{NoFailure};
 ghost use Rattle.rgc_answers.specs.Numbers.{kind_text, part_name, statement_data, statement_line, lines_text, numbers_text};
 
 use crate::json_line::line_of;
@@ -88,7 +89,7 @@ fn write_lines<W: Out>(
 ) -> Result<(), Refusal>
     requires { CanCount (W.failures out.old) }
     ensures printed { OnOk result (Appends (W.contents out.old) (W.contents out.new) (lines_text format (map part parts.now) statements.now)) }
-    ensures failures { OnOk result (W.failures out.new ≡ W.failures out.old) }
+    ensures failures { NoFailure result (W.failures out.old) (W.failures out.new) }
     ensures stopped { IfErr result (IsCut (W.contents out.old) (W.contents out.new) (W.failures out.old) (W.failures out.new) (lines_text format (map part parts.now) statements.now)) }
 {
     for statement in statements {
@@ -114,7 +115,7 @@ pub(crate) fn write_numbers<W: Out>(
 ) -> Result<(), Refusal>
     requires { CanCount (W.failures out.old) }
     ensures printed { OnOk result (Appends (W.contents out.old) (W.contents out.new) (numbers_text format (map part program.now.parts.items))) }
-    ensures failures { OnOk result (W.failures out.new ≡ W.failures out.old) }
+    ensures failures { NoFailure result (W.failures out.old) (W.failures out.new) }
     // A beginning of the text went out: `Write` where the writer failed, and else memory was refused.
     ensures stopped { IfErr result (IsCut (W.contents out.old) (W.contents out.new) (W.failures out.old) (W.failures out.new) (numbers_text format (map part program.now.parts.items))) }
 {

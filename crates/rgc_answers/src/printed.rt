@@ -12,6 +12,7 @@ ghost use Rattle.rg_accept.specs.Stages.{derived_program, derived_lines};
 ghost use Rattle.rgc.specs.Chosen.{IsDeriveRefusal, IsChosenClausesRefusal, IsChosenFindRefusal};
 ghost use Rattle.rgc.specs.Proofs.{IsProveRefusal, IsProvePartRefusal};
 ghost use Rattle.rgc.specs.Valid.{IsClausesRefusal, IsFindRefusal, IsValidRefusal};
+ghost use Rattle.rgc_answers.specs.Failures.{NoFailure};
 ghost use Rattle.rgc_answers.specs.Answered.{AnswersFormula, AnswersCondition};
 ghost use Rattle.rgc_answers.specs.Reported.{unproved_text, HasReportedUnproved, HasReportedUnprovedPart};
 ghost use Rattle.rgc_answers.specs.Inner.Reported.{GaveProofs, GavePart, GaveNone};
@@ -27,9 +28,9 @@ use rg_code::checked::Checked;
 use rg_find::Watcher;
 use rg_words::{Out, Refusal, write_all};
 use rgc::{
-    Derived, InThreads, Parsed, ProofsFound, Unproved, accept_all, build_by, clauses,
-    condition_clauses, derive_program, failures_text, find, find_condition, find_part, find_proofs,
-    valid_by,
+    Derived, InThreads, Parsed, ProofsFound, SearchSettings, Unproved, accept_all, build_by,
+    clauses, condition_clauses, derive_program, failures_text, find, find_condition, find_part,
+    find_proofs, valid_by,
 };
 use rgc_line::Format;
 use serde_json::{Value, json};
@@ -60,7 +61,7 @@ pub fn print_numbers<W: Out>(
 ) -> Result<(), Refusal>
     requires { CanCount (W.failures out.old) }
     ensures printed { OnOk result (HasPrintedNumbers format text.now (W.contents out.old) (W.contents out.new)) }
-    ensures failures { OnOk result (W.failures out.new ≡ W.failures out.old) }
+    ensures failures { NoFailure result (W.failures out.old) (W.failures out.new) }
     ensures stopped { IfErr result (IsStopped (IsProgramRefusal text.now) (W.contents out.old) (W.contents out.new) (W.failures out.old) (W.failures out.new)) }
 {
     let parsed = Parsed::read(alloc, text)?;
@@ -78,7 +79,7 @@ fn accepted_value(alloc: Global) -> Result<Value, AllocError>
 fn write_accepted<W: Out>(alloc: Global, format: Format, out: &mut W) -> Result<(), Refusal>
     requires { CanCount (W.failures out.old) }
     ensures printed { OnOk result (Appends (W.contents out.old) (W.contents out.new) (accepted_text format)) }
-    ensures failures { OnOk result (W.failures out.new ≡ W.failures out.old) }
+    ensures failures { NoFailure result (W.failures out.old) (W.failures out.new) }
     ensures stopped { IfErr result (IsFailure (W.failures out.old) (W.failures out.new)) }
 {
     match format {
@@ -109,7 +110,7 @@ pub fn print_accepted<R: Threads + Wait + Sync, P, W: Out>(
 ) -> Result<(), Refusal>
     requires { CanCount (W.failures out.old) }
     ensures printed { OnOk result (HasPrintedAccepted format text.now derivation.now proofs.now (W.contents out.old) (W.contents out.new)) }
-    ensures failures { OnOk result (W.failures out.new ≡ W.failures out.old) }
+    ensures failures { NoFailure result (W.failures out.old) (W.failures out.new) }
     ensures stopped { IfErr result (IsStopped (IsAcceptTextRefusal text.now derivation.now proofs.now) (W.contents out.old) (W.contents out.new) (W.failures out.old) (W.failures out.new)) }
 {
     accept_all(
@@ -138,7 +139,7 @@ pub fn print_conditions<W: Out>(
 ) -> Result<(), Refusal>
     requires { CanCount (W.failures out.old) }
     ensures printed { OnOk result (HasPrintedConditions format text.now derivation.now (W.contents out.old) (W.contents out.new)) }
-    ensures failures { OnOk result (W.failures out.new ≡ W.failures out.old) }
+    ensures failures { NoFailure result (W.failures out.old) (W.failures out.new) }
     ensures stopped { IfErr result (IsStopped (IsDeriveRefusal text.now derivation.now) (W.contents out.old) (W.contents out.new) (W.failures out.old) (W.failures out.new)) }
 {
     let derived = derive_program(alloc, text, derivation)?;
@@ -155,7 +156,7 @@ fn write_all_proofs<W: Out>(
 ) -> Result<(), Refusal>
     requires { CanCount (W.failures out.old) }
     ensures printed { OnOk result (Appends (W.contents out.old) (W.contents out.new) (proofs_text format (length (conditions_of (derived_program derived.now) (derived_lines derived.now))) proofs.now)) }
-    ensures failures { OnOk result (W.failures out.new ≡ W.failures out.old) }
+    ensures failures { NoFailure result (W.failures out.old) (W.failures out.new) }
     ensures stopped { IfErr result (IsFailure (W.failures out.old) (W.failures out.new)) }
 {
     match format {
@@ -180,7 +181,7 @@ fn write_part_proofs<W: Out>(
 ) -> Result<(), Refusal>
     requires { CanCount (W.failures out.old) }
     ensures printed { OnOk result (Appends (W.contents out.old) (W.contents out.new) (part_text format range.first range.last proofs.now)) }
-    ensures failures { OnOk result (W.failures out.new ≡ W.failures out.old) }
+    ensures failures { NoFailure result (W.failures out.old) (W.failures out.new) }
     ensures stopped { IfErr result (IsFailure (W.failures out.old) (W.failures out.new)) }
 {
     match format {
@@ -202,7 +203,7 @@ fn tell_unproved<W: Out>(
 ) -> Result<(), Refusal>
     requires { CanCount (W.failures out.old) }
     ensures printed { OnOk result (Appends (W.contents out.old) (W.contents out.new) (unproved_text format (derived_program derived.now).words (names_of_conditions (derived_program derived.now) (derived_lines derived.now)) unproved.now)) }
-    ensures failures { OnOk result (W.failures out.new ≡ W.failures out.old) }
+    ensures failures { NoFailure result (W.failures out.old) (W.failures out.new) }
     ensures stopped { IfErr result (IsFailure (W.failures out.old) (W.failures out.new)) }
 {
     match format {
@@ -230,7 +231,7 @@ fn tell_found<W: Out>(
     requires { CanCount (W.failures out.old) }
     ensures printed { IfOk result (λ b. IsTrue b → GaveProofs format (derived_program derived.now) (derived_lines derived.now) found.now (W.contents out.old) (W.contents out.new)) }
     ensures reported { IfOk result (λ b. b ≡ false → GaveNone format (derived_program derived.now) (derived_lines derived.now) found.now (W.contents out.old) (W.contents out.new)) }
-    ensures failures { OnOk result (W.failures out.new ≡ W.failures out.old) }
+    ensures failures { NoFailure result (W.failures out.old) (W.failures out.new) }
     ensures stopped { IfErr result (IsFailure (W.failures out.old) (W.failures out.new)) }
 {
     match found {
@@ -262,7 +263,7 @@ pub fn print_proofs<R: Threads + Wait + Sync, W: Out, P: Watcher + Copy + Sync>(
 ) -> Result<bool, Refusal>
     requires { CanCount (W.failures out.old) }
     ensures printed { IfOk result (λ b. IsTrue b → HasPrintedProofs format text.now derivation.now (W.contents out.old) (W.contents out.new)) }
-    ensures failures { OnOk result (W.failures out.new ≡ W.failures out.old) }
+    ensures failures { NoFailure result (W.failures out.old) (W.failures out.new) }
     ensures reported { IfOk result (λ b. b ≡ false → HasReportedUnproved format text.now derivation.now (W.contents out.old) (W.contents out.new)) }
     ensures stopped { IfErr result (IsStopped (IsProveRefusal text.now derivation.now steps) (W.contents out.old) (W.contents out.new) (W.failures out.old) (W.failures out.new)) }
 {
@@ -290,7 +291,7 @@ fn tell_part<W: Out>(
     requires { CanCount (W.failures out.old) }
     ensures printed { IfOk result (λ b. IsTrue b → GavePart format range.first range.last found.now (W.contents out.old) (W.contents out.new)) }
     ensures reported { IfOk result (λ b. b ≡ false → GaveNone format (derived_program derived.now) (derived_lines derived.now) found.now (W.contents out.old) (W.contents out.new)) }
-    ensures failures { OnOk result (W.failures out.new ≡ W.failures out.old) }
+    ensures failures { NoFailure result (W.failures out.old) (W.failures out.new) }
     ensures stopped { IfErr result (IsFailure (W.failures out.old) (W.failures out.new)) }
 {
     match found {
@@ -322,21 +323,18 @@ pub fn print_proofs_part<R: Threads + Wait + Sync, W: Out, P: Watcher + Copy + S
 ) -> Result<bool, Refusal>
     requires { CanCount (W.failures out.old) }
     ensures printed { IfOk result (λ b. IsTrue b → HasPrintedPart format text.now derivation.now range.first range.last (W.contents out.old) (W.contents out.new)) }
-    ensures failures { OnOk result (W.failures out.new ≡ W.failures out.old) }
+    ensures failures { NoFailure result (W.failures out.old) (W.failures out.new) }
     ensures reported { IfOk result (λ b. b ≡ false → HasReportedUnprovedPart format text.now derivation.now range.first range.last (W.contents out.old) (W.contents out.new)) }
     ensures stopped { IfErr result (IsStopped (IsProvePartRefusal text.now derivation.now range.first range.last range.steps) (W.contents out.old) (W.contents out.new) (W.failures out.old) (W.failures out.new)) }
 {
     let derived = derive_program(context.alloc, text, derivation)?;
-    let found = find_part(
-        context.rt,
-        context.alloc,
-        context.threads,
-        &derived,
-        range.first,
-        range.last,
-        range.steps,
-        context.watcher,
-    )?;
+    let settings = SearchSettings {
+        rt: context.rt,
+        threads: context.threads,
+        steps: range.steps,
+        watcher: context.watcher,
+    };
+    let found = find_part(&settings, context.alloc, &derived, range.first, range.last)?;
     tell_part(context.alloc, &derived, range, &found, format, out)
 }
 
@@ -354,7 +352,7 @@ pub fn print_listing<R: Threads + Wait + Sync, P, W: Out>(
 ) -> Result<(), Refusal>
     requires { CanCount (W.failures out.old) }
     ensures printed { OnOk result (HasPrintedListing text.now derivation.now proofs.now (W.contents out.old) (W.contents out.new)) }
-    ensures failures { OnOk result (W.failures out.new ≡ W.failures out.old) }
+    ensures failures { NoFailure result (W.failures out.old) (W.failures out.new) }
     ensures stopped { IfErr result (IsStopped (IsAcceptTextRefusal text.now derivation.now proofs.now) (W.contents out.old) (W.contents out.new) (W.failures out.old) (W.failures out.new)) }
 {
     let emitted = build_by(
@@ -383,7 +381,7 @@ pub fn print_valid<R: Threads + Wait + Sync, P, W: Out>(
 ) -> Result<(), Refusal>
     requires { CanCount (W.failures out.old) }
     ensures printed { OnOk result (HasPrintedHolds text.now proofs.now (W.contents out.old) (W.contents out.new)) }
-    ensures failures { OnOk result (W.failures out.new ≡ W.failures out.old) }
+    ensures failures { NoFailure result (W.failures out.old) (W.failures out.new) }
     ensures stopped { IfErr result (IsStopped (IsValidRefusal text.now proofs.now) (W.contents out.old) (W.contents out.new) (W.failures out.old) (W.failures out.new)) }
 {
     valid_by(
@@ -407,7 +405,7 @@ pub fn print_valid<R: Threads + Wait + Sync, P, W: Out>(
 pub fn print_clauses<W: Out>(alloc: Global, text: &[u8], out: &mut W) -> Result<(), Refusal>
     requires { CanCount (W.failures out.old) }
     ensures printed { OnOk result (HasPrintedClauses text.now (W.contents out.old) (W.contents out.new)) }
-    ensures failures { OnOk result (W.failures out.new ≡ W.failures out.old) }
+    ensures failures { NoFailure result (W.failures out.old) (W.failures out.new) }
     ensures stopped { IfErr result (IsStopped (IsClausesRefusal text.now) (W.contents out.old) (W.contents out.new) (W.failures out.old) (W.failures out.new)) }
 {
     let clauses = clauses(alloc, text)?;
@@ -429,7 +427,7 @@ pub fn print_condition_clauses<W: Out>(
 ) -> Result<(), Refusal>
     requires { CanCount (W.failures out.old) }
     ensures printed { OnOk result (HasPrintedConditionClauses text.now derivation.now number (W.contents out.old) (W.contents out.new)) }
-    ensures failures { OnOk result (W.failures out.new ≡ W.failures out.old) }
+    ensures failures { NoFailure result (W.failures out.old) (W.failures out.new) }
     ensures stopped { IfErr result (IsStopped (IsChosenClausesRefusal text.now derivation.now number) (W.contents out.old) (W.contents out.new) (W.failures out.old) (W.failures out.new)) }
 {
     let (_condition, clauses) = condition_clauses(alloc, text, derivation, number)?;
@@ -450,7 +448,7 @@ pub fn print_found<R, W: Out, P: Watcher + Copy>(
 ) -> Result<Answer, Refusal>
     requires { CanCount (W.failures out.old) }
     ensures answered { IfOk result (AnswersFormula text.now (W.contents out.old) (W.contents out.new)) }
-    ensures failures { OnOk result (W.failures out.new ≡ W.failures out.old) }
+    ensures failures { NoFailure result (W.failures out.old) (W.failures out.new) }
     ensures stopped { IfErr result (IsStopped (IsFindRefusal text.now steps) (W.contents out.old) (W.contents out.new) (W.failures out.old) (W.failures out.new)) }
 {
     let mut watcher = *context.watcher;
@@ -473,7 +471,7 @@ pub fn print_condition_found<R, W: Out, P: Watcher + Copy>(
 ) -> Result<Answer, Refusal>
     requires { CanCount (W.failures out.old) }
     ensures answered { IfOk result (AnswersCondition text.now derivation.now number (W.contents out.old) (W.contents out.new)) }
-    ensures failures { OnOk result (W.failures out.new ≡ W.failures out.old) }
+    ensures failures { NoFailure result (W.failures out.old) (W.failures out.new) }
     ensures stopped { IfErr result (IsStopped (IsChosenFindRefusal text.now derivation.now number steps) (W.contents out.old) (W.contents out.new) (W.failures out.old) (W.failures out.new)) }
 {
     let mut watcher = *context.watcher;

@@ -5,8 +5,9 @@ ghost use Rattle.std.specs.Io.KnownBytes.{Appends};
 ghost use Rattle.rg_words.specs.Written.{CanCount};
 ghost use Rattle.rg_words.specs.Stopped.{IsFailure};
 ghost use Rattle.rg_words.specs.Layout.{names_of};
-ghost use Rattle.serde_json.specs.Data.{put, number, unsigned};
+ghost use Rattle.serde_json.specs.Data.{put, number};
 ghost use Rattle.serde_json.specs.View.{view, members_view};
+ghost use Rattle.rgc_answers.specs.Failures.{NoFailure};
 ghost use Rattle.rgc_answers.specs.States.{with_values, state_data};
 ghost use Rattle.rgc_answers.specs.Lines.{json_line};
 ghost use Rattle.rgc_answers.specs.Proofs.{proofs_data, part_proofs_data, why_text, with_pair, with_states, unproved_members, unproved_data, unproved_lines};
@@ -34,7 +35,7 @@ pub(crate) fn write_proofs<W: Out>(
 ) -> Result<(), Refusal>
     requires { CanCount (W.failures out.old) }
     ensures printed { OnOk result (Appends (W.contents out.old) (W.contents out.new) (json_line (proofs_data conditions text.now))) }
-    ensures failures { OnOk result (W.failures out.new ≡ W.failures out.old) }
+    ensures failures { NoFailure result (W.failures out.old) (W.failures out.new) }
     ensures stopped { IfErr result (IsFailure (W.failures out.old) (W.failures out.new)) }
 {
     let value = proofs_value(alloc, conditions, text)?;
@@ -58,7 +59,7 @@ pub(crate) fn write_part<W: Out>(
 ) -> Result<(), Refusal>
     requires { CanCount (W.failures out.old) }
     ensures printed { OnOk result (Appends (W.contents out.old) (W.contents out.new) (json_line (part_proofs_data first last text.now))) }
-    ensures failures { OnOk result (W.failures out.new ≡ W.failures out.old) }
+    ensures failures { NoFailure result (W.failures out.old) (W.failures out.new) }
     ensures stopped { IfErr result (IsFailure (W.failures out.old) (W.failures out.new)) }
 {
     let value = part_value(alloc, first, last, text)?;
@@ -179,7 +180,7 @@ fn write_one<W: Out>(
 ) -> Result<(), Refusal>
     requires { CanCount (W.failures out.old) }
     ensures printed { OnOk result (Appends (W.contents out.old) (W.contents out.new) (json_line (unproved_data words.now name.now unproved.now))) }
-    ensures failures { OnOk result (W.failures out.new ≡ W.failures out.old) }
+    ensures failures { NoFailure result (W.failures out.old) (W.failures out.new) }
     ensures stopped { IfErr result (IsFailure (W.failures out.old) (W.failures out.new)) }
 {
     let value = unproved_value(alloc, words, name, unproved)?;
@@ -196,7 +197,7 @@ pub(crate) fn write_unproved<W: Out>(
 ) -> Result<(), Refusal>
     requires { CanCount (W.failures out.old) }
     ensures printed { OnOk result (Appends (W.contents out.old) (W.contents out.new) (unproved_lines words.now (map string_bytes names.now) unproved.now)) }
-    ensures failures { OnOk result (W.failures out.new ≡ W.failures out.old) }
+    ensures failures { NoFailure result (W.failures out.old) (W.failures out.new) }
     ensures stopped { IfErr result (IsFailure (W.failures out.old) (W.failures out.new)) }
 {
     for one in unproved {

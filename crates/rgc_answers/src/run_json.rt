@@ -1,11 +1,12 @@
 //! A run of an accepted program as JSON.
 
-ghost use Rattle.std.specs.Prelude.{◌≡◌, IfErr, OnOk};
+ghost use Rattle.std.specs.Prelude.{IfErr, OnOk};
 ghost use Rattle.std.specs.Io.KnownBytes.{Appends};
 ghost use Rattle.rg_words.specs.Stopped.{IsFailure};
 ghost use Rattle.rg_words.specs.Written.{CanCount};
 ghost use Rattle.rg_accept.specs.Stages.{emitted_program, emitted_blocks};
 ghost use Rattle.rg_tree.specs.ProgramTrees.{program as program_tree};
+ghost use Rattle.rgc_answers.specs.Failures.{NoFailure};
 ghost use Rattle.rgc_answers.specs.Lines.{json_line};
 ghost use Rattle.rgc_answers.specs.Records.{records_text, passed_text, end_data, run_text};
 ghost use Rattle.rgc_answers.specs.RunJson.{HasPrintedRunJsonOf, HasPrintedRunJson};
@@ -36,7 +37,7 @@ fn write_records<W: Out>(
 ) -> Result<(), Refusal>
     requires { CanCount (W.failures out.old) }
     ensures printed { OnOk result (Appends (W.contents out.old) (W.contents out.new) (records_text (program_tree program.now) records.now)) }
-    ensures failures { OnOk result (W.failures out.new ≡ W.failures out.old) }
+    ensures failures { NoFailure result (W.failures out.old) (W.failures out.new) }
     ensures stopped { IfErr result (IsFailure (W.failures out.old) (W.failures out.new)) }
 {
     for step in records {
@@ -50,7 +51,7 @@ fn write_records<W: Out>(
 fn write_passed<W: Out>(alloc: Global, passed: &[Passed], out: &mut W) -> Result<(), Refusal>
     requires { CanCount (W.failures out.old) }
     ensures printed { OnOk result (Appends (W.contents out.old) (W.contents out.new) (passed_text passed.now)) }
-    ensures failures { OnOk result (W.failures out.new ≡ W.failures out.old) }
+    ensures failures { NoFailure result (W.failures out.old) (W.failures out.new) }
     ensures stopped { IfErr result (IsFailure (W.failures out.old) (W.failures out.new)) }
 {
     for each in passed {
@@ -64,7 +65,7 @@ fn write_passed<W: Out>(alloc: Global, passed: &[Passed], out: &mut W) -> Result
 fn write_end<W: Out>(alloc: Global, why: Why, out: &mut W) -> Result<(), Refusal>
     requires { CanCount (W.failures out.old) }
     ensures printed { OnOk result (Appends (W.contents out.old) (W.contents out.new) (json_line (end_data why))) }
-    ensures failures { OnOk result (W.failures out.new ≡ W.failures out.old) }
+    ensures failures { NoFailure result (W.failures out.old) (W.failures out.new) }
     ensures stopped { IfErr result (IsFailure (W.failures out.old) (W.failures out.new)) }
 {
     let line = end_line(alloc, why)?;
@@ -87,7 +88,7 @@ pub fn write_closed<W: Out>(
 ) -> Result<(), Refusal>
     requires { CanCount (W.failures out.old) }
     ensures printed { OnOk result (Appends (W.contents out.old) (W.contents out.new) (run_text (program_tree program.now) closed.now)) }
-    ensures failures { OnOk result (W.failures out.new ≡ W.failures out.old) }
+    ensures failures { NoFailure result (W.failures out.old) (W.failures out.new) }
     ensures stopped { IfErr result (IsFailure (W.failures out.old) (W.failures out.new)) }
 {
     let records = closed.records_from(alloc, 1)?;
@@ -105,7 +106,7 @@ fn print_emitted_json<R: Threads + Wait + Sync, P, W: Out>(
 ) -> Result<(), Refusal>
     requires { CanCount (W.failures out.old) }
     ensures printed { OnOk result (HasPrintedRunJsonOf (emitted_program emitted.now) (emitted_blocks emitted.now) files.entry.start files.entry.moves files.entry.limit (W.contents out.old) (W.contents out.new)) }
-    ensures failures { OnOk result (W.failures out.new ≡ W.failures out.old) }
+    ensures failures { NoFailure result (W.failures out.old) (W.failures out.new) }
     ensures stopped { IfErr result (IsRunStopped (IsUnbegun (emitted_program emitted.now) files.entry.start files.entry.moves files.entry.limit) (W.contents out.old) (W.contents out.new) (W.failures out.old) (W.failures out.new)) }
 {
     let closed = play_files(context.rt, context.alloc, emitted, files, &mut Unread)?;
@@ -126,7 +127,7 @@ pub fn print_run_json<R: Threads + Wait + Sync, P, W: Out>(
 ) -> Result<(), Refusal>
     requires { CanCount (W.failures out.old) }
     ensures printed { OnOk result (HasPrintedRunJson files.entry.text.now files.entry.derivation.now files.entry.proofs.now files.entry.start files.entry.moves files.entry.limit (W.contents out.old) (W.contents out.new)) }
-    ensures failures { OnOk result (W.failures out.new ≡ W.failures out.old) }
+    ensures failures { NoFailure result (W.failures out.old) (W.failures out.new) }
     ensures stopped { IfErr result (IsRunStopped (IsRunRefusal files.entry.text.now files.entry.derivation.now files.entry.proofs.now files.entry.start files.entry.moves files.entry.limit) (W.contents out.old) (W.contents out.new) (W.failures out.old) (W.failures out.new)) }
 {
     let emitted = build_by(

@@ -9,6 +9,7 @@ ghost use Rattle.rg_words.specs.Written.{CanCount};
 ghost use Rattle.rg_tree.specs.Moves.{move as move_tree, AreMoves};
 ghost use Rattle.rg_monitor.specs.Lines.{lines_of};
 ghost use Rattle.rg_accept.specs.Stages.{emitted_program, emitted_blocks};
+ghost use Rattle.rgc_answers.specs.Failures.{NoFailure};
 ghost use Rattle.rgc_answers.specs.Running.{StartsAt, AreTheMoves, IsRunLeft, HasPrintedRunOf, HasPrintedRun, why_text, passed_line, passed_text, HasReportedPassed};
 ghost use Rattle.rgc_answers.specs.Refused.{IsUnreadStart, AreUnreadMoves, opening_refusal, IsUnbegun, IsRunRefusal, IsRunStopped};
 
@@ -19,8 +20,8 @@ use rg_floor::closed::{Closed, Passed};
 use rg_floor::turn::Why;
 use rg_runner::gate::Open;
 use rg_runner::player::play;
+use rg_runner::stage::Stage;
 use rg_tree::moves::Move;
-use rg_tree::program::Program;
 use rg_words::{
     Layout, Out, Place, Refusal, RefusalNumber, SourceFile, State, WriteFault, write_all,
 };
@@ -132,15 +133,10 @@ fn passed_lines(alloc: Global, passed: &[Passed]) -> Result<String, AllocError>
 }
 
 /// Draws a run, of a long one the last steps.
-fn draw_run(
-    alloc: Global,
-    program: &Program,
-    closed: &Closed<'_>,
-    picture: &mut Vec<u8>,
-) -> Result<(), AllocError> {
+fn draw_run(alloc: Global, closed: &Closed<'_>, picture: &mut Vec<u8>) -> Result<(), AllocError> {
     let left_out = closed.len().saturating_sub(MOST_DRAWN);
     let records = closed.records_from(alloc, left_out.saturating_add(1))?;
-    draw(picture, program, left_out as u64, &records)
+    draw(picture, closed.program(), left_out as u64, &records)
 }
 
 /// Ends a run: it is drawn where that is asked, the line that says why it is over is printed, and the moves that were passed over are reported.
@@ -151,7 +147,6 @@ fn draw_run(
 /// `Write` where the writer failed, `Memory` where memory is refused.
 pub fn end_run<W: Out, F: Out>(
     alloc: Global,
-    program: &Program,
     closed: &Closed<'_>,
     is_drawn: bool,
     out: &mut W,
@@ -161,7 +156,7 @@ pub fn end_run<W: Out, F: Out>(
     requires out { CanCount (W.failures out.old) }
     requires faults { CanCount (F.failures faults.old) }
     ensures printed { OnOk result (Appends (W.contents out.old) (W.contents out.new) (why_text closed.now.why)) }
-    ensures failures { OnOk result (W.failures out.new ≡ W.failures out.old) }
+    ensures failures { NoFailure result (W.failures out.old) (W.failures out.new) }
     ensures stopped { IfErr result (IsFailure (W.failures out.old) (W.failures out.new)) }
     ensures undrawn { is_drawn ≡ false → picture.new ≡ picture.old }
     ensures reported { OnOk result (HasReportedPassed closed.now.refused (F.contents faults.old) (F.contents faults.new) (F.failures faults.old) (F.failures faults.new)) }
@@ -169,7 +164,7 @@ pub fn end_run<W: Out, F: Out>(
 {
     let lines = passed_lines(alloc, closed.refused())?;
     if is_drawn {
-        draw_run(alloc, program, closed, picture)?;
+        draw_run(alloc, closed, picture)?;
     }
     write_all(out, why_line(closed.why()).as_bytes())?;
     let _ = write_all(faults, lines.as_bytes());
@@ -191,13 +186,19 @@ pub fn play_files<'e, R: Threads + Wait + Sync, W: Out>(
     requires { CanCount (W.failures out.old) }
     ensures run { IfOk result (λ c. IsRunLeft (emitted_program emitted.now) (emitted_blocks emitted.now) files.entry.start files.entry.moves files.entry.limit c) }
     ensures printed { IfOk result (λ c. Appends (W.contents out.old) (W.contents out.new) (lines_of (emitted_program emitted.now) c.history)) }
-    ensures failures { OnOk result (W.failures out.new ≡ W.failures out.old) }
+    ensures failures { NoFailure result (W.failures out.old) (W.failures out.new) }
     ensures stopped { IfErr result (IsRunStopped (IsUnbegun (emitted_program emitted.now) files.entry.start files.entry.moves files.entry.limit) (W.contents out.old) (W.contents out.new) (W.failures out.old) (W.failures out.new)) }
 {
     let layout = &emitted.program().layout;
     let first = first_state(alloc, layout, files.start)?;
     let moves = all_moves(alloc, layout, files.moves)?;
-    match play(rt, alloc, emitted, first, files.limit, &Open, &moves, out) {
+    let stage = Stage {
+        rt,
+        alloc,
+        gate: &Open,
+        moves: &moves,
+    };
+    match play(&stage, emitted, first, files.limit, out) {
         Ok(closed) => Ok(closed),
         Err(refusal) => Err(placed(refusal)),
     }
@@ -215,20 +216,12 @@ fn print_emitted<R: Threads + Wait + Sync, P, W: Out, F: Out>(
     requires out { CanCount (W.failures out.old) }
     requires faults { CanCount (F.failures faults.old) }
     ensures printed { OnOk result (HasPrintedRunOf (emitted_program emitted.now) (emitted_blocks emitted.now) files.entry.start files.entry.moves files.entry.limit (W.contents out.old) (W.contents out.new)) }
-    ensures failures { OnOk result (W.failures out.new ≡ W.failures out.old) }
+    ensures failures { NoFailure result (W.failures out.old) (W.failures out.new) }
     ensures stopped { IfErr result (IsRunStopped (IsUnbegun (emitted_program emitted.now) files.entry.start files.entry.moves files.entry.limit) (W.contents out.old) (W.contents out.new) (W.failures out.old) (W.failures out.new)) }
     ensures quiet { OnErr result (F.failures faults.new ≡ F.failures faults.old) }
 {
     let closed = play_files(context.rt, context.alloc, emitted, files, out)?;
-    end_run(
-        context.alloc,
-        emitted.program(),
-        &closed,
-        files.is_drawn,
-        out,
-        faults,
-        picture,
-    )
+    end_run(context.alloc, &closed, files.is_drawn, out, faults, picture)
 }
 
 /// Runs what the files are accepted as, and prints a line for each step, and why the run is over. The moves that were passed over are
@@ -249,7 +242,7 @@ pub fn print_run<R: Threads + Wait + Sync, P, W: Out, F: Out>(
     requires out { CanCount (W.failures out.old) }
     requires faults { CanCount (F.failures faults.old) }
     ensures printed { OnOk result (HasPrintedRun files.entry.text.now files.entry.derivation.now files.entry.proofs.now files.entry.start files.entry.moves files.entry.limit (W.contents out.old) (W.contents out.new)) }
-    ensures failures { OnOk result (W.failures out.new ≡ W.failures out.old) }
+    ensures failures { NoFailure result (W.failures out.old) (W.failures out.new) }
     ensures stopped { IfErr result (IsRunStopped (IsRunRefusal files.entry.text.now files.entry.derivation.now files.entry.proofs.now files.entry.start files.entry.moves files.entry.limit) (W.contents out.old) (W.contents out.new) (W.failures out.old) (W.failures out.new)) }
     ensures quiet { OnErr result (F.failures faults.new ≡ F.failures faults.old) }
 {

@@ -1,5 +1,5 @@
 -- Why a command isn't done, from why its files or its library's call stopped it.
-use Rattle.std.proofs.Common.{◌≡◌, ◌⊎◌, ℕ, List, [], Option, Some, None, Result, Ok, Err, Bool, true, false, refl, sym, ◌∙◌, inl, inr, append-nil}
+use Rattle.std.proofs.Common.{◌≡◌, ℕ, List, [], Option, Some, None, Result, Ok, Err, Bool, false, refl, sym, subst, ◌∙◌, inl, inr, ⊎_elim, append-nil}
 use Rattle.std.specs.Prelude.{IfErr}
 use Rattle.std.specs.Io.KnownBytes.{Appends, Keeps}
 use Rattle.std.specs.Borrow.{Bor}
@@ -9,14 +9,16 @@ use Rattle.rgc_line.specs.declared.command.Command.{Command}
 use Rattle.rgc_line.specs.declared.command.Command.TheVariants.{Number, Check, Conditions, Prove, Emit, Run, RunOutline, Valid, Clauses, Find, Outline as the_outline, Verify, Challenge, Explain}
 use Rattle.rgc_line.specs.declared.command.Outlines.{Outlines}
 use Rattle.rgc_line.specs.declared.command.Format.{Format}
+use Rattle.rgc_outlines.specs.Challenged.{IsChallengeStopped}
+use Rattle.rgc_outlines.specs.Refused.{IsSomeVerifyRefusal}
 use Rattle.rgc_outlines.specs.Stopped.{IsNotDone}
 use Rattle.rgc_outlines.specs.declared.stop.NotDone.{NotDone}
 use Rattle.rgc_outlines.specs.declared.stop.NotDone.TheVariants.{Outline as not_done, Refused as outline_refused}
 use Rattle.rgc_commands.specs.declared.files.Files.{Files}
 use Rattle.rgc_commands.specs.declared.stops.Stop.{Stop}
 use Rattle.rgc_commands.specs.declared.stops.Stop.TheVariants.{Device, Refused, Outline, Usage, Reported, GaveUp}
-use Rattle.rgc_commands.specs.Stopped.{IsOverTexts, unread_line}
-use Rattle.rgc_commands.specs.Inner.TextStops.{IsDevice, Stops}
+use Rattle.rgc_commands.specs.Stopped.{unread_line}
+use Rattle.rgc_commands.specs.Inner.TextStops.{IsDevice, IsOverTexts, Stops}
 use Rattle.rgc_commands.specs.PerformDone.{IsVerdictDone}
 use Rattle.rgc_commands.specs.PerformStopped.{AreFilesRefused, TellsOver, IsOverOutline}
 use Rattle.rgc_commands.specs.Inner.Stops.{StopsLine, stop_of_outline}
@@ -72,11 +74,15 @@ verdict_kept old middle new (form, verdict) none = (
   },
 )
 
--- after the verdict on an outline, there is none on its changes
-pub challenge_stops : (format : Format) (o : Bor (List ℕ)) (has_refused : Bool) (files : Files) (old middle new : Option (List ℕ)) (m k n : ℕ) (none : NotDone) → IsVerdictDone old middle → k ≡ m → IsNotDone (λ _. Unit {0}) middle new k n none → StopsLine format (Challenge o has_refused) files old new m n (stop_of_outline none)
-challenge_stops format o has_refused files old middle new m k n (not_done lines) verdict same h = (tt, (inr (inr (verdict_kept old middle new verdict h.0)), h.1 ∙ same))
-challenge_stops format o has_refused files old middle new m k n (outline_refused e) verdict same (inl why) = inr (inr (verdict_kept old middle new verdict why.1, why.2 ∙ same))
-challenge_stops format o has_refused files old middle new m k n (outline_refused e) verdict same (inr why) = inl (inr (rw (← same) why))
+-- there is no verdict on an outline, or its changes are refused after it
+pub challenge_stops : (format : Format) (o : Bor (List ℕ)) (has_refused : Bool) (files : Files) (steps : ℕ) (old new : Option (List ℕ)) (m n : ℕ) (none : NotDone) → ((e : Refusal) → IsSomeVerifyRefusal steps e → AreFilesRefused (Challenge o has_refused) files e) → IsChallengeStopped steps old new m n none → StopsLine format (Challenge o has_refused) files old new m n (stop_of_outline none)
+challenge_stops format o has_refused files steps old new m n none f (inl h) = not_done_stops format (Challenge o has_refused) files (IsSomeVerifyRefusal steps) old new m n none tt f h
+challenge_stops format o has_refused files steps old new m n none f (inr late) =
+    subst (λ (w : NotDone). StopsLine format (Challenge o has_refused) files old new m n (stop_of_outline w)) (sym late.is)
+    (⊎_elim
+    (λ why. inr (inr (verdict_kept old late.middle new (_, late.verdict) why.1, why.2)))
+    (λ why. inl (inr why))
+    late.stopped)
 
 -- of an outline no proof was found, and the output tells why
 pub reported_stops : (format : Format) (command : Command) (files : Files) (old new : Option (List ℕ)) (m n : ℕ) (is_found : Bool) (r : Result (Unit {0}) Stop) → IfErr r (λ stop. (stop ≡ Reported) × (is_found ≡ false)) → n ≡ m → (is_found ≡ false → TellsOver command files.text old new) → IfErr r (StopsLine format command files old new m n)

@@ -1,5 +1,5 @@
 -- Why a command isn't done, from why its files or its library's call stopped it.
-use Rattle.std.proofs.Common.{◌≡◌, ◌⊎◌, ℕ, List, [], Option, Some, None, Result, Ok, Err, Bool, true, false, refl, sym, ◌∙◌, inl, inr, append-nil}
+use Rattle.std.proofs.Common.{◌≡◌, ◌⊎◌, ℕ, List, Option, Some, None, Result, Ok, Err, Bool, false, refl, inl, inr}
 use Rattle.std.specs.Prelude.{IfErr}
 use Rattle.std.specs.Borrow.{Bor}
 use Rattle.rg_words.proofs.Written.{appends_none}
@@ -16,8 +16,8 @@ use Rattle.rgc_commands.specs.declared.files.Files.{Files}
 use Rattle.rgc_commands.specs.declared.stops.Stop.{Stop}
 use Rattle.rgc_commands.specs.declared.stops.Stop.TheVariants.{Device, Refused, Outline, Usage, Reported, GaveUp}
 use Rattle.rgc_commands.specs.Done.{SpellsRange}
-use Rattle.rgc_commands.specs.Stopped.{IsOverTexts, unread_line, unless_read, TellsWhy, IsOverRun, IsRunUnlike, IsMisfit, IsUntouched, RefusesProofs, RefusesRun}
-use Rattle.rgc_commands.specs.Inner.TextStops.{IsDevice, Stops}
+use Rattle.rgc_commands.specs.Stopped.{unread_line, unless_read, TellsWhy, IsOverRun, IsRunUnlike, IsMisfit, IsUntouched, RefusesProofs, RefusesRun}
+use Rattle.rgc_commands.specs.Inner.TextStops.{IsDevice, IsOverTexts, Stops}
 use Rattle.rgc_commands.specs.Inner.Answers.{IsStopOf}
 use Rattle.rgc_answers.specs.Answered.{AnswersCondition, AnswersFormula}
 use Rattle.rgc_answers.specs.declared.judged.Answer.{Answer}

@@ -1,5 +1,5 @@
 -- How it is reported that a command isn't done.
-use Rattle.std.proofs.Common.{◌≡◌, ◌+◌, ℕ, List, [], ◌++◌, Option, Result, Ok, Err, Bool, true, false, is_ok, if◌then◌else◌, refl, sym, ◌∙◌, inl, inr, ⊎_elim, ap, subst, arith, append_assoc}
+use Rattle.std.proofs.Common.{◌≡◌, ◌+◌, ℕ, List, ◌++◌, Option, Result, Ok, Err, Bool, true, false, is_ok, if◌then◌else◌, sym, inl, inr, ⊎_elim, ap, subst, arith}
 use Rattle.std.specs.Io.KnownBytes.{Appends}
 use Rattle.rg_words.specs.declared.refusal.Refusal.{Refusal}
 use Rattle.rg_words.specs.declared.refusal.RefusalNumber.TheVariants.{Write}

@@ -1,5 +1,5 @@
 -- What a command has done where its status is 0.
-use Rattle.std.specs.Prelude.{◌⊎◌, ℕ, List, Option, Some, None, true, false, is_some}
+use Rattle.std.specs.Prelude.{◌⊎◌, ℕ, List, Option, Some, true, false, is_some}
 use Rattle.std.specs.Borrow.{Bor}
 use Rattle.rgc_line.specs.declared.command.Command.{Command}
 use Rattle.rgc_line.specs.declared.command.Command.TheVariants.{RunOutline, Outline, Verify, Challenge}

@@ -140,7 +140,7 @@ pub record HasReportedRefusal (line : Line) (files : Files) (old new : Option (L
 -- it went out why an outline isn't verified; or, before its changes are looked at, that it is
 abbrev pub TellsVerdict : Command → Option (List ℕ) → Option (List ℕ) → Type 0
 TellsVerdict (Verify _ _ false) old new = HasReportedUnverified old new
-TellsVerdict (Challenge _ _) old new = HasReportedUnverified old new ⊎ IsVerdictDone old new
+TellsVerdict (Challenge _ _) old new = HasReportedUnverified old new
 TellsVerdict _ old new = ⊥
 
 -- nothing went out, or that did; and the writer didn't fail

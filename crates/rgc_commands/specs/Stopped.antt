@@ -1,9 +1,8 @@
 -- Why a command over texts isn't done.
-use Rattle.std.specs.Prelude.{◌≡◌, ◌⊎◌, ℕ, List, [], Option, Some, None, Bool, true, false, codes}
+use Rattle.std.specs.Prelude.{◌≡◌, ℕ, List, [], Option, Some, None, Bool, true, false, codes}
 use Rattle.std.specs.Borrow.{Bor}
 use Rattle.std.specs.Io.KnownBytes.{Appends}
 use Rattle.rg_words.specs.declared.refusal.Refusal.{Refusal}
-use Rattle.rg_words.specs.Stopped.{IsStopped}
 use Rattle.rg_parse.specs.Programs.{IsProgramRefusal}
 use Rattle.rg_accept.specs.Accepted.{IsAcceptTextRefusal}
 use Rattle.rgc.specs.Chosen.{IsDeriveRefusal, IsChosenClausesRefusal, IsChosenFindRefusal}
@@ -19,14 +18,6 @@ use Rattle.rgc_answers.specs.Answered.{HasReportedFormula, HasReportedCondition,
 use Rattle.rgc_answers.specs.Reported.{HasReportedUnproved, HasReportedUnprovedPart}
 use Rattle.rgc_commands.specs.declared.files.Files.{Files}
 use Rattle.rgc_commands.specs.Done.{SpellsRange}
-
--- the command is over texts, or explains
-abbrev pub IsOverTexts : Command → Type 0
-IsOverTexts (RunOutline _ _ _ _ _) = ⊥
-IsOverTexts (Outline _ _ _ _ _) = ⊥
-IsOverTexts (Verify _ _ _) = ⊥
-IsOverTexts (Challenge _ _) = ⊥
-IsOverTexts _ = Unit {0}
 
 -- a writer is as it was
 abbrev pub IsUntouched : Option (List ℕ) → Option (List ℕ) → ℕ → ℕ → Type 0
@@ -119,10 +110,6 @@ RefusesFiles command files e = RefusesTexts command files.text files.derivation 
 -- a run is unlike what it printed: lines went out before
 abbrev pub IsRunUnlike : Command → ℕ → ℕ → Refusal → Type 0
 IsRunUnlike command failed after e = IsOverRun command × IsUnlike e × (after ≡ failed)
-
--- nothing went out, since the files are refused so; or what went out was cut, since the writer failed or memory was refused; or a run is unlike it
-abbrev pub IsStoppedBy : Command → Files → Option (List ℕ) → Option (List ℕ) → ℕ → ℕ → Refusal → Type 0
-IsStoppedBy command files old new failed after e = IsStopped (RefusesFiles command files) old new failed after e ⊎ IsRunUnlike command failed after e
 
 -- a format is that of lines
 abbrev pub is_plain : Format → Bool

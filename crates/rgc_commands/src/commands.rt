@@ -9,6 +9,7 @@ ghost use Rattle.rgc_line.specs.declared.command.Format.TheVariants.{Plain, Json
 ghost use Rattle.rgc_commands.specs.Done.{IsDone, SpellsRange};
 ghost use Rattle.rgc_commands.specs.Inner.TextStops.{Stops};
 ghost use Rattle.rgc_commands.specs.Inner.Answers.{IsStopOf};
+ghost use Rattle.rgc_answers.specs.Failures.{NoFailure};
 
 use crate::entries::{entry_of, print_explanation};
 use crate::files::{Files, derivation_of, inputs, proofs_of, text_of, three_files, two_files};
@@ -49,7 +50,7 @@ pub(crate) fn number<W: Out>(
 ) -> Result<(), Stop>
     requires { CanCount (W.failures out.old) }
     ensures done { (t : Bor (List ℕ)) → OnOk result (IsDone format (Number t) files.now (W.contents out.old) (W.contents out.new)) }
-    ensures failures { OnOk result (W.failures out.new ≡ W.failures out.old) }
+    ensures failures { NoFailure result (W.failures out.old) (W.failures out.new) }
     ensures stopped { (t : Bor (List ℕ)) → IfErr result (Stops format (Number t) files.now (W.contents out.old) (W.contents out.new) (W.failures out.old) (W.failures out.new)) }
 {
     let text = text_of(files)?;
@@ -66,7 +67,7 @@ pub(crate) fn check<R: Threads + Wait + Sync, P, W: Out>(
 ) -> Result<(), Stop>
     requires { CanCount (W.failures out.old) }
     ensures done { (t d p : Bor (List ℕ)) → OnOk result (IsDone format (Check t d p) files.now (W.contents out.old) (W.contents out.new)) }
-    ensures failures { OnOk result (W.failures out.new ≡ W.failures out.old) }
+    ensures failures { NoFailure result (W.failures out.old) (W.failures out.new) }
     ensures stopped { (t d p : Bor (List ℕ)) → IfErr result (Stops format (Check t d p) files.now (W.contents out.old) (W.contents out.new) (W.failures out.old) (W.failures out.new)) }
 {
     let (text, derivation, proofs) = three_files(files)?;
@@ -83,7 +84,7 @@ fn formulas<W: Out>(
 ) -> Result<(), Stop>
     requires { CanCount (W.failures out.old) }
     ensures done { (t d : Bor (List ℕ)) → OnOk result (IsDone format (Conditions t d true) files.now (W.contents out.old) (W.contents out.new)) }
-    ensures failures { OnOk result (W.failures out.new ≡ W.failures out.old) }
+    ensures failures { NoFailure result (W.failures out.old) (W.failures out.new) }
     ensures stopped { (t d : Bor (List ℕ)) → IfErr result (Stops format (Conditions t d true) files.now (W.contents out.old) (W.contents out.new) (W.failures out.old) (W.failures out.new)) }
 {
     match format {
@@ -108,7 +109,7 @@ pub(crate) fn conditions<W: Out>(
 ) -> Result<(), Stop>
     requires { CanCount (W.failures out.old) }
     ensures done { (t d : Bor (List ℕ)) → OnOk result (IsDone format (Conditions t d has_formulas) files.now (W.contents out.old) (W.contents out.new)) }
-    ensures failures { OnOk result (W.failures out.new ≡ W.failures out.old) }
+    ensures failures { NoFailure result (W.failures out.old) (W.failures out.new) }
     ensures stopped { (t d : Bor (List ℕ)) → IfErr result (Stops format (Conditions t d has_formulas) files.now (W.contents out.old) (W.contents out.new) (W.failures out.old) (W.failures out.new)) }
 {
     if has_formulas {
@@ -129,7 +130,7 @@ fn prove_all<R: Threads + Wait + Sync, W: Out, P: Watcher + Copy + Sync>(
 ) -> Result<(), Stop>
     requires { CanCount (W.failures out.old) }
     ensures done { (t d : Bor (List ℕ)) → OnOk result (IsDone format (Prove t d steps None) files.now (W.contents out.old) (W.contents out.new)) }
-    ensures failures { OnOk result (W.failures out.new ≡ W.failures out.old) }
+    ensures failures { NoFailure result (W.failures out.old) (W.failures out.new) }
     ensures stopped { (t d : Bor (List ℕ)) → IfErr result (Stops format (Prove t d steps None) files.now (W.contents out.old) (W.contents out.new) (W.failures out.old) (W.failures out.new)) }
 {
     let (text, derivation) = two_files(files)?;
@@ -161,7 +162,7 @@ fn prove_part<R: Threads + Wait + Sync, W: Out, P: Watcher + Copy + Sync>(
 ) -> Result<(), Stop>
     requires { CanCount (W.failures out.old) }
     ensures done { (t d : Bor (List ℕ)) → OnOk result (IsDone format (Prove t d steps (Some range.entry)) files.now (W.contents out.old) (W.contents out.new)) }
-    ensures failures { OnOk result (W.failures out.new ≡ W.failures out.old) }
+    ensures failures { NoFailure result (W.failures out.old) (W.failures out.new) }
     ensures stopped { (t d : Bor (List ℕ)) → IfErr result (Stops format (Prove t d steps (Some range.entry)) files.now (W.contents out.old) (W.contents out.new) (W.failures out.old) (W.failures out.new)) }
 {
     let Some((first, last)) = range_of(range) else {
@@ -183,7 +184,7 @@ pub(crate) fn prove<R: Threads + Wait + Sync, W: Out, P: Watcher + Copy + Sync>(
 ) -> Result<(), Stop>
     requires { CanCount (W.failures out.old) }
     ensures done { (t d : Bor (List ℕ)) → OnOk result (IsDone format (Prove t d steps range.entry) files.now (W.contents out.old) (W.contents out.new)) }
-    ensures failures { OnOk result (W.failures out.new ≡ W.failures out.old) }
+    ensures failures { NoFailure result (W.failures out.old) (W.failures out.new) }
     ensures stopped { (t d : Bor (List ℕ)) → IfErr result (Stops format (Prove t d steps range.entry) files.now (W.contents out.old) (W.contents out.new) (W.failures out.old) (W.failures out.new)) }
 {
     match range {
@@ -200,7 +201,7 @@ pub(crate) fn emit<R: Threads + Wait + Sync, P, W: Out>(
 ) -> Result<(), Stop>
     requires { CanCount (W.failures out.old) }
     ensures done { (f : LineFormat) → (t d p : Bor (List ℕ)) → OnOk result (IsDone f (Emit t d p) files.now (W.contents out.old) (W.contents out.new)) }
-    ensures failures { OnOk result (W.failures out.new ≡ W.failures out.old) }
+    ensures failures { NoFailure result (W.failures out.old) (W.failures out.new) }
     ensures stopped { (f : LineFormat) → (t d p : Bor (List ℕ)) → IfErr result (Stops f (Emit t d p) files.now (W.contents out.old) (W.contents out.new) (W.failures out.old) (W.failures out.new)) }
 {
     let (text, derivation, proofs) = three_files(files)?;
@@ -252,7 +253,7 @@ fn run_lines<R: Threads + Wait + Sync, P, W: Out, F: Out>(
     requires out { CanCount (W.failures out.old) }
     requires faults { CanCount (F.failures faults.old) }
     ensures done { (t d p : Bor (List ℕ)) → (w : Option (Bor (List ℕ))) → OnOk result (IsDone Plain (Run t d p options.entry.start options.entry.moves options.entry.limit w) files.now (W.contents out.old) (W.contents out.new)) }
-    ensures failures { OnOk result (W.failures out.new ≡ W.failures out.old) }
+    ensures failures { NoFailure result (W.failures out.old) (W.failures out.new) }
     ensures stopped { (t d p : Bor (List ℕ)) → (w : Option (Bor (List ℕ))) → IfErr result (Stops Plain (Run t d p options.entry.start options.entry.moves options.entry.limit w) files.now (W.contents out.old) (W.contents out.new) (W.failures out.old) (W.failures out.new)) }
     ensures quiet { OnErr result (F.failures faults.new ≡ F.failures faults.old) }
     ensures silent { OnErr result (F.contents faults.new ≡ F.contents faults.old) }
@@ -285,7 +286,7 @@ fn run_json<R: Threads + Wait + Sync, P, W: Out>(
 ) -> Result<(), Stop>
     requires { CanCount (W.failures out.old) }
     ensures done { (t d p : Bor (List ℕ)) → (w : Option (Bor (List ℕ))) → OnOk result (IsDone Json (Run t d p options.entry.start options.entry.moves options.entry.limit w) files.now (W.contents out.old) (W.contents out.new)) }
-    ensures failures { OnOk result (W.failures out.new ≡ W.failures out.old) }
+    ensures failures { NoFailure result (W.failures out.old) (W.failures out.new) }
     ensures stopped { (t d p : Bor (List ℕ)) → (w : Option (Bor (List ℕ))) → is_some w ≡ options.entry.is_drawn → IfErr result (Stops Json (Run t d p options.entry.start options.entry.moves options.entry.limit w) files.now (W.contents out.old) (W.contents out.new) (W.failures out.old) (W.failures out.new)) }
 {
     if options.is_drawn {
@@ -319,7 +320,7 @@ pub(crate) fn run<R: Threads + Wait + Sync, P, W: Out, F: Out>(
     requires out { CanCount (W.failures out.old) }
     requires faults { CanCount (F.failures faults.old) }
     ensures done { (t d p : Bor (List ℕ)) → (w : Option (Bor (List ℕ))) → OnOk result (IsDone options.entry.format (Run t d p options.entry.start options.entry.moves options.entry.limit w) files.now (W.contents out.old) (W.contents out.new)) }
-    ensures failures { OnOk result (W.failures out.new ≡ W.failures out.old) }
+    ensures failures { NoFailure result (W.failures out.old) (W.failures out.new) }
     ensures stopped { (t d p : Bor (List ℕ)) → (w : Option (Bor (List ℕ))) → is_some w ≡ options.entry.is_drawn → IfErr result (Stops options.entry.format (Run t d p options.entry.start options.entry.moves options.entry.limit w) files.now (W.contents out.old) (W.contents out.new) (W.failures out.old) (W.failures out.new)) }
     ensures quiet { OnErr result (F.failures faults.new ≡ F.failures faults.old) }
     ensures silent { OnErr result (F.contents faults.new ≡ F.contents faults.old) }
@@ -338,7 +339,7 @@ pub(crate) fn valid<R: Threads + Wait + Sync, P, W: Out>(
 ) -> Result<(), Stop>
     requires { CanCount (W.failures out.old) }
     ensures done { (f : LineFormat) → (t p : Bor (List ℕ)) → OnOk result (IsDone f (Valid t p) files.now (W.contents out.old) (W.contents out.new)) }
-    ensures failures { OnOk result (W.failures out.new ≡ W.failures out.old) }
+    ensures failures { NoFailure result (W.failures out.old) (W.failures out.new) }
     ensures stopped { (f : LineFormat) → (t p : Bor (List ℕ)) → IfErr result (Stops f (Valid t p) files.now (W.contents out.old) (W.contents out.new) (W.failures out.old) (W.failures out.new)) }
 {
     let text = text_of(files)?;
@@ -356,7 +357,7 @@ pub(crate) fn clauses<W: Out>(
 ) -> Result<(), Stop>
     requires { CanCount (W.failures out.old) }
     ensures done { (f : LineFormat) → (t : Bor (List ℕ)) → OnOk result (IsDone f (Clauses t chosen.entry) files.now (W.contents out.old) (W.contents out.new)) }
-    ensures failures { OnOk result (W.failures out.new ≡ W.failures out.old) }
+    ensures failures { NoFailure result (W.failures out.old) (W.failures out.new) }
     ensures stopped { (f : LineFormat) → (t : Bor (List ℕ)) → IfErr result (Stops f (Clauses t chosen.entry) files.now (W.contents out.old) (W.contents out.new) (W.failures out.old) (W.failures out.new)) }
 {
     let text = text_of(files)?;
@@ -392,7 +393,7 @@ pub(crate) fn find<R, W: Out, P: Watcher + Copy>(
 ) -> Result<(), Stop>
     requires { CanCount (W.failures out.old) }
     ensures done { (f : LineFormat) → (t : Bor (List ℕ)) → OnOk result (IsDone f (Find t steps chosen.entry) files.now (W.contents out.old) (W.contents out.new)) }
-    ensures failures { OnOk result (W.failures out.new ≡ W.failures out.old) }
+    ensures failures { NoFailure result (W.failures out.old) (W.failures out.new) }
     ensures stopped { (f : LineFormat) → (t : Bor (List ℕ)) → IfErr result (Stops f (Find t steps chosen.entry) files.now (W.contents out.old) (W.contents out.new) (W.failures out.old) (W.failures out.new)) }
 {
     let text = text_of(files)?;
@@ -415,7 +416,7 @@ pub(crate) fn explain<W: Out>(
 ) -> Result<(), Stop>
     requires { CanCount (W.failures out.old) }
     ensures done { (f : LineFormat) → OnOk result (IsDone f (Explain number) files.now (W.contents out.old) (W.contents out.new)) }
-    ensures failures { OnOk result (W.failures out.new ≡ W.failures out.old) }
+    ensures failures { NoFailure result (W.failures out.old) (W.failures out.new) }
     ensures stopped { (f : LineFormat) → IfErr result (Stops f (Explain number) files.now (W.contents out.old) (W.contents out.new) (W.failures out.old) (W.failures out.new)) }
 {
     let _ = files;

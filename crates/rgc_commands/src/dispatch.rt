@@ -3,10 +3,10 @@
 ghost use Rattle.std.specs.Prelude.{◌≡◌, IfErr, OnOk, OnErr};
 ghost use Rattle.rg_words.specs.Written.{CanCount};
 ghost use Rattle.rgc_commands.specs.Done.{IsDone};
-ghost use Rattle.rgc_commands.specs.Stopped.{IsOverTexts};
-ghost use Rattle.rgc_commands.specs.Inner.TextStops.{Stops};
+ghost use Rattle.rgc_commands.specs.Inner.TextStops.{IsOverTexts, Stops};
 ghost use Rattle.rgc_commands.specs.PerformDone.{IsLineDone};
 ghost use Rattle.rgc_commands.specs.Inner.Stops.{StopsLine};
+ghost use Rattle.rgc_answers.specs.Failures.{NoFailure};
 
 use crate::commands::{
     RunOptions, check, clauses, conditions, emit, explain, find, number, prove, run, valid,
@@ -46,7 +46,7 @@ fn carry_out<R: Threads + Wait + Sync, W: Out, F: Out, P: Watcher + Copy + Sync>
     requires out { CanCount (W.failures out.old) }
     requires faults { CanCount (F.failures faults.old) }
     ensures done { OnOk result (IsDone line.now.settings.format line.now.command files.now (W.contents out.old) (W.contents out.new)) }
-    ensures failures { OnOk result (W.failures out.new ≡ W.failures out.old) }
+    ensures failures { NoFailure result (W.failures out.old) (W.failures out.new) }
     ensures stopped { IfErr result (Stops line.now.settings.format line.now.command files.now (W.contents out.old) (W.contents out.new) (W.failures out.old) (W.failures out.new)) }
     ensures quiet { OnErr result (F.failures faults.new ≡ F.failures faults.old) }
     ensures silent { OnErr result (F.contents faults.new ≡ F.contents faults.old) }
@@ -94,7 +94,7 @@ pub(crate) fn carry_out_line<R: Threads + Wait + Sync, W: Out, F: Out, P: Watche
     requires out { CanCount (W.failures out.old) }
     requires faults { CanCount (F.failures faults.old) }
     ensures done { OnOk result (IsLineDone line.now files.now (W.contents out.old) (W.contents out.new)) }
-    ensures failures { OnOk result (W.failures out.new ≡ W.failures out.old) }
+    ensures failures { NoFailure result (W.failures out.old) (W.failures out.new) }
     ensures stopped { IfErr result (StopsLine line.now.settings.format line.now.command files.now (W.contents out.old) (W.contents out.new) (W.failures out.old) (W.failures out.new)) }
     ensures quiet { OnErr result (F.failures faults.new ≡ F.failures faults.old) }
     ensures silent { OnErr result (F.contents faults.new ≡ F.contents faults.old) }

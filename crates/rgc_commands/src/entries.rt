@@ -5,6 +5,7 @@ ghost use Rattle.rg_words.specs.Stopped.{IsFailure};
 ghost use Rattle.rg_words.specs.Written.{CanCount};
 ghost use Rattle.rgc_commands.specs.Done.{HasPrintedExplanation};
 ghost use Rattle.rgc_commands.specs.Explanation.{explanation_text};
+ghost use Rattle.rgc_answers.specs.Failures.{NoFailure};
 
 use crate::derivation_entries::derivation_entry;
 use crate::proof_entries::proof_entry;
@@ -61,7 +62,7 @@ pub(crate) fn print_explanation<W: Out>(
 ) -> Result<(), Refusal>
     requires { CanCount (W.failures out.old) }
     ensures printed { OnOk result (HasPrintedExplanation number (W.contents out.old) (W.contents out.new)) }
-    ensures failures { OnOk result (W.failures out.new ≡ W.failures out.old) }
+    ensures failures { NoFailure result (W.failures out.old) (W.failures out.new) }
     ensures stopped { IfErr result (IsFailure (W.failures out.old) (W.failures out.new)) }
 {
     let text = explanation(alloc, number, entry)?;

@@ -9,6 +9,7 @@ ghost use Rattle.rgc_commands.specs.Stopped.{outline_line};
 ghost use Rattle.rgc_commands.specs.Inner.TextStops.{IsDevice};
 ghost use Rattle.rgc_commands.specs.PerformDone.{IsDoneOver, wanted_of};
 ghost use Rattle.rgc_commands.specs.Inner.Stops.{StopsLine};
+ghost use Rattle.rgc_answers.specs.Failures.{NoFailure};
 
 use crate::commands::{RunOptions, proved};
 use crate::files::{Files, inputs};
@@ -107,7 +108,7 @@ pub(crate) fn outline<R: Threads + Wait + Sync, W: Out, P: Watcher + Copy + Sync
 ) -> Result<(), Stop>
     requires { CanCount (W.failures out.old) }
     ensures done { (o : Bor (List ℕ)) → OnOk result (IsDoneOver (Outline o written.entry.text written.entry.derivation written.entry.proofs written.entry.map) files.now (W.contents out.old) (W.contents out.new)) }
-    ensures failures { OnOk result (W.failures out.new ≡ W.failures out.old) }
+    ensures failures { NoFailure result (W.failures out.old) (W.failures out.new) }
     ensures stopped { (f : LineFormat) → (o : Bor (List ℕ)) → IfErr result (StopsLine f (Outline o written.entry.text written.entry.derivation written.entry.proofs written.entry.map) files.now (W.contents out.old) (W.contents out.new) (W.failures out.old) (W.failures out.new)) }
 {
     let source = outline_source(name, rgc_line::Format::Plain, files)?;
@@ -135,7 +136,7 @@ pub(crate) fn run_outline_of<R: Threads + Wait + Sync, W: Out, F: Out, P: Watche
     requires out { CanCount (W.failures out.old) }
     requires faults { CanCount (F.failures faults.old) }
     ensures done { (o : Bor (List ℕ)) → (w : Option (Bor (List ℕ))) → OnOk result (IsDoneOver (RunOutline o run.entry.options.start run.entry.options.moves run.entry.options.limit w) files.now (W.contents out.old) (W.contents out.new)) }
-    ensures failures { OnOk result (W.failures out.new ≡ W.failures out.old) }
+    ensures failures { NoFailure result (W.failures out.old) (W.failures out.new) }
     ensures stopped { (f : LineFormat) → (o : Bor (List ℕ)) → (w : Option (Bor (List ℕ))) → IfErr result (StopsLine f (RunOutline o run.entry.options.start run.entry.options.moves run.entry.options.limit w) files.now (W.contents out.old) (W.contents out.new) (W.failures out.old) (W.failures out.new)) }
     ensures quiet { OnErr result (F.failures faults.new ≡ F.failures faults.old) }
     ensures silent { OnErr result (F.contents faults.new ≡ F.contents faults.old) }
@@ -211,7 +212,7 @@ fn prove_outline<R: Threads + Wait + Sync, W: Out, F: Out, P: Watcher + Copy + S
     requires out { CanCount (W.failures out.old) }
     requires faults { CanCount (F.failures faults.old) }
     ensures done { OnOk result (IsDoneOver (Verify asked.entry.outlines asked.entry.steps false) files.now (W.contents out.old) (W.contents out.new)) }
-    ensures failures { OnOk result (W.failures out.new ≡ W.failures out.old) }
+    ensures failures { NoFailure result (W.failures out.old) (W.failures out.new) }
     ensures stopped { (f : LineFormat) → IfErr result (StopsLine f (Verify asked.entry.outlines asked.entry.steps false) files.now (W.contents out.old) (W.contents out.new) (W.failures out.old) (W.failures out.new)) }
     ensures quiet { OnErr result (F.failures faults.new ≡ F.failures faults.old) }
     ensures silent { OnErr result (F.contents faults.new ≡ F.contents faults.old) }
@@ -237,7 +238,7 @@ fn walk_outline<W: Out>(
 ) -> Result<(), Stop>
     requires { CanCount (W.failures out.old) }
     ensures done { OnOk result (IsDoneOver (Verify asked.entry.outlines asked.entry.steps true) files.now (W.contents out.old) (W.contents out.new)) }
-    ensures failures { OnOk result (W.failures out.new ≡ W.failures out.old) }
+    ensures failures { NoFailure result (W.failures out.old) (W.failures out.new) }
     ensures stopped { (f : LineFormat) → IfErr result (StopsLine f (Verify asked.entry.outlines asked.entry.steps true) files.now (W.contents out.old) (W.contents out.new) (W.failures out.old) (W.failures out.new)) }
 {
     let source = outline_source(asked.outlines.outline, asked.format, files)?;
@@ -255,7 +256,7 @@ pub(crate) fn verify<R: Threads + Wait + Sync, W: Out, F: Out, P: Watcher + Copy
     requires out { CanCount (W.failures out.old) }
     requires faults { CanCount (F.failures faults.old) }
     ensures done { OnOk result (IsDoneOver (Verify asked.entry.outlines asked.entry.steps asked.entry.is_runs_only) files.now (W.contents out.old) (W.contents out.new)) }
-    ensures failures { OnOk result (W.failures out.new ≡ W.failures out.old) }
+    ensures failures { NoFailure result (W.failures out.old) (W.failures out.new) }
     ensures stopped { (f : LineFormat) → IfErr result (StopsLine f (Verify asked.entry.outlines asked.entry.steps asked.entry.is_runs_only) files.now (W.contents out.old) (W.contents out.new) (W.failures out.old) (W.failures out.new)) }
     ensures quiet { OnErr result (F.failures faults.new ≡ F.failures faults.old) }
     ensures silent { OnErr result (F.contents faults.new ≡ F.contents faults.old) }
@@ -276,21 +277,19 @@ pub(crate) fn challenge_outline<R: Threads + Wait + Sync, W: Out, P: Watcher + C
 ) -> Result<(), Stop>
     requires { CanCount (W.failures out.old) }
     ensures done { (o : Bor (List ℕ)) → OnOk result (IsDoneOver (Challenge o has_refused) files.now (W.contents out.old) (W.contents out.new)) }
-    ensures failures { OnOk result (W.failures out.new ≡ W.failures out.old) }
+    ensures failures { NoFailure result (W.failures out.old) (W.failures out.new) }
     ensures stopped { (f : LineFormat) → (o : Bor (List ℕ)) → IfErr result (StopsLine f (Challenge o has_refused) files.now (W.contents out.old) (W.contents out.new) (W.failures out.old) (W.failures out.new)) }
 {
     let source = outline_source(name, rgc_line::Format::Plain, files)?;
-    let mut reported = Vec::new(context.alloc);
-    let warnings = &mut reported;
-    let form = VerdictForm::Alone;
-    let is_verified = verify_outline(context, source, form, MOST_STEPS, out, warnings)?;
-    if !is_verified {
-        return Err(Stop::Outline(reported));
-    }
     let options = Options {
-        steps: MOST_STEPS_FOR_CHANGES,
+        steps: MOST_STEPS,
+        steps_for_changes: MOST_STEPS_FOR_CHANGES,
         with_refused: has_refused,
     };
-    challenge(context, source, options, out)?;
-    Ok(())
+    let mut reported = Vec::new(context.alloc);
+    let warnings = &mut reported;
+    match challenge(context, source, options, out, warnings)? {
+        Some(_) => Ok(()),
+        None => Err(Stop::Outline(reported)),
+    }
 }

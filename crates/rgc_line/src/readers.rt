@@ -63,6 +63,69 @@ fn run<'a>(matches: &ArgMatches<'a>) -> Result<Command<'a>, FieldFault>
     })
 }
 
+/// A check of three files.
+fn check<'a>(matches: &ArgMatches<'a>) -> Command<'a>
+    requires { IsWhole kind.Check (rows_of (found_of matches.now)) }
+    ensures { Reads kind.Check (rows_of (found_of matches.now)) result }
+{
+    Command::Check {
+        text: file(matches, PROGRAM.id),
+        derivation: file(matches, DERIVATION.id),
+        proofs: file(matches, PROOFS.id),
+    }
+}
+
+/// The conditions of two files.
+fn conditions<'a>(matches: &ArgMatches<'a>) -> Command<'a>
+    requires { IsWhole kind.Conditions (rows_of (found_of matches.now)) }
+    ensures { Reads kind.Conditions (rows_of (found_of matches.now)) result }
+{
+    Command::Conditions {
+        text: file(matches, PROGRAM.id),
+        derivation: file(matches, DERIVATION.id),
+        has_formulas: is_given(matches, FORMULAS.id),
+    }
+}
+
+/// A search for the proofs of two files.
+fn prove<'a>(matches: &ArgMatches<'a>) -> Command<'a>
+    requires { IsWhole kind.Prove (rows_of (found_of matches.now)) }
+    ensures { Reads kind.Prove (rows_of (found_of matches.now)) result }
+{
+    Command::Prove {
+        text: file(matches, PROGRAM.id),
+        derivation: file(matches, DERIVATION.id),
+        steps: given_number(matches, STEPS.id),
+        conditions: option(matches, CONDITIONS.id),
+    }
+}
+
+/// The code of three files.
+fn emit<'a>(matches: &ArgMatches<'a>) -> Command<'a>
+    requires { IsWhole kind.Emit (rows_of (found_of matches.now)) }
+    ensures { Reads kind.Emit (rows_of (found_of matches.now)) result }
+{
+    Command::Emit {
+        text: file(matches, PROGRAM.id),
+        derivation: file(matches, DERIVATION.id),
+        proofs: file(matches, PROOFS.id),
+    }
+}
+
+/// The files of an outline.
+fn outline<'a>(matches: &ArgMatches<'a>) -> Command<'a>
+    requires { IsWhole kind.Outline (rows_of (found_of matches.now)) }
+    ensures { Reads kind.Outline (rows_of (found_of matches.now)) result }
+{
+    Command::Outline {
+        outline: file(matches, OUTLINE.id),
+        text: option(matches, WRITTEN_TEXT.id),
+        derivation: option(matches, WRITTEN_DERIVATION.id),
+        proofs: option(matches, WRITTEN_PROOFS.id),
+        map: option(matches, MAP.id),
+    }
+}
+
 /// The command of this kind; of one over several files, the one over the file at this place.
 fn command_of<'a>(
     kind: Kind,
@@ -78,27 +141,10 @@ fn command_of<'a>(
         Kind::Number => Ok(Command::Number {
             text: file(matches, PROGRAM.id),
         }),
-        Kind::Check => Ok(Command::Check {
-            text: file(matches, PROGRAM.id),
-            derivation: file(matches, DERIVATION.id),
-            proofs: file(matches, PROOFS.id),
-        }),
-        Kind::Conditions => Ok(Command::Conditions {
-            text: file(matches, PROGRAM.id),
-            derivation: file(matches, DERIVATION.id),
-            has_formulas: is_given(matches, FORMULAS.id),
-        }),
-        Kind::Prove => Ok(Command::Prove {
-            text: file(matches, PROGRAM.id),
-            derivation: file(matches, DERIVATION.id),
-            steps: given_number(matches, STEPS.id),
-            conditions: option(matches, CONDITIONS.id),
-        }),
-        Kind::Emit => Ok(Command::Emit {
-            text: file(matches, PROGRAM.id),
-            derivation: file(matches, DERIVATION.id),
-            proofs: file(matches, PROOFS.id),
-        }),
+        Kind::Check => Ok(check(matches)),
+        Kind::Conditions => Ok(conditions(matches)),
+        Kind::Prove => Ok(prove(matches)),
+        Kind::Emit => Ok(emit(matches)),
         Kind::Run => run(matches),
         Kind::Valid => Ok(Command::Valid {
             text: file(matches, FORMULA.id),
@@ -113,13 +159,7 @@ fn command_of<'a>(
             steps: given_number(matches, STEPS.id),
             chosen: chosen(matches)?,
         }),
-        Kind::Outline => Ok(Command::Outline {
-            outline: file(matches, OUTLINE.id),
-            text: option(matches, WRITTEN_TEXT.id),
-            derivation: option(matches, WRITTEN_DERIVATION.id),
-            proofs: option(matches, WRITTEN_PROOFS.id),
-            map: option(matches, MAP.id),
-        }),
+        Kind::Outline => Ok(outline(matches)),
         Kind::Verify => Ok(Command::Verify {
             outlines: outline_at(matches, place)?,
             steps: given_number(matches, STEPS.id),

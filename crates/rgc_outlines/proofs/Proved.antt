@@ -11,7 +11,8 @@ use Rattle.rgc.specs.declared.proofs_found.ProofsFound.TheVariants.{Proofs, Fail
 use Rattle.rgc.specs.declared.proofs_found.Unproved.{Unproved}
 use Rattle.rgc.specs.Proofs.{AreUnproved}
 use Rattle.rg_accept.specs.Accepted.{conditions_of}
-use Rattle.rgc_outlines.specs.Written.{AreFoundWhere, AreProvedWhere}
+use Rattle.rgc_outlines.specs.Inner.Proved.{AreFoundWhere}
+use Rattle.rgc_outlines.specs.Written.{AreProvedWhere}
 
 -- a text that was found proves the conditions
 found_where : (wanted : Bool) (program : ProgramTree) (lines : List LineTree) (text : String Global) → AreFoundWhere wanted program lines (Proofs text) → AreProvedWhere wanted program lines (string_bytes text)

@@ -7,7 +7,8 @@ use Rattle.rg_tree.specs.Lines.{LineTree}
 use Rattle.rg_tree.specs.Statements.{ProgramTree}
 use Rattle.rg_accept.specs.Accepted.{conditions_of}
 use Rattle.rgc.specs.Proofs.{IsSearchRefusal}
-use Rattle.rgc_outlines.specs.RunStopped.{IsUnrun, IsProvedRunRefusal}
+use Rattle.rgc_outlines.specs.Inner.OutlinedProved.{IsProvedRunRefusal}
+use Rattle.rgc_outlines.specs.RunStopped.{IsUnrun}
 
 -- the proofs that were found are refused, or a run isn't begun
 pub proved_refused : (program : ProgramTree) (lines : List LineTree) (proofs : List ℕ) (start moves : Option (Bor (List ℕ))) (limit steps : ℕ) (e : Refusal) → IsProvedRunRefusal program lines proofs start moves limit e → IsSearchRefusal (conditions_of program lines) steps e ⊎ IsUnrun program start moves limit e

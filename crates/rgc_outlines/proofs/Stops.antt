@@ -3,14 +3,9 @@ use Rattle.std.proofs.Common.{◌≡◌, ℕ, List, Option, Err, inl, inr, subst
 use Rattle.rg_words.specs.declared.refusal.Refusal.{Refusal}
 use Rattle.rg_words.specs.Stopped.{IsStopped}
 use Rattle.rg_words.proofs.Cuts.{stops_weaker}
-use Rattle.rg_tree.specs.Lines.{LineTree}
-use Rattle.rg_tree.specs.Statements.{ProgramTree}
 use Rattle.rg_parse.specs.Programs.{IsProgramRefusal}
-use Rattle.rg_hints.specs.Proved.{IsProofsRefusal}
-use Rattle.rg_accept.specs.Accepted.{conditions_of}
 use Rattle.rgc.specs.Chosen.{IsDeriveRefusal}
 use Rattle.rgc.specs.declared.proofs_found.Unproved.{Unproved}
-use Rattle.rgc_outlines.specs.Cut.{IsOfPieces}
 use Rattle.rgc_outlines.specs.Refused.{IsVerifyRefusal, IsSomeVerifyRefusal}
 use Rattle.rgc_outlines.specs.Unproved.{AreUnprovedOf}
 
@@ -20,11 +15,6 @@ refused_same a b text derivation e first second h =
     subst (λ (t : List ℕ). IsDeriveRefusal t derivation e) first (subst (λ (d : List ℕ). IsDeriveRefusal a d e) second h)
 
 module _ (text derivation : List ℕ) (steps : ℕ) where
-  -- the proofs that were found are refused
-  pub proofs_stop : (program : ProgramTree) (lines : List LineTree) (proofs : List ℕ) (old new : Option (List ℕ)) (m n : ℕ) (e : Refusal) → IsOfPieces text derivation program lines → IsStopped (IsProofsRefusal (conditions_of program lines) proofs) old new m n e → IsStopped (IsVerifyRefusal text derivation steps) old new m n e
-  proofs_stop program lines proofs old new m n e derived (inl why) = inl (inr (program, lines, derived, inr (inr (proofs, why.0))), why.1, why.2)
-  proofs_stop program lines proofs old new m n e derived (inr why) = inr why
-
   -- the files of this outline are refused
   pub files_stop : (old new : Option (List ℕ)) (m n : ℕ) (e : Refusal) → IsStopped (IsVerifyRefusal text derivation steps) old new m n e → IsStopped (IsSomeVerifyRefusal steps) old new m n e
   files_stop old new m n e (inl why) = inl ((text, derivation, why.0), why.1, why.2)

@@ -7,6 +7,7 @@ pub mod Verified
 pub mod Refused
 pub mod Inner
 pub mod Changed
+pub mod Challenged
 pub mod ChallengeUnproved
 pub mod Outlined
 pub mod Written

@@ -4,7 +4,6 @@ use Rattle.std.specs.Borrow.{Bor}
 use Rattle.rg_words.specs.declared.refusal.Refusal.{Refusal}
 use Rattle.rg_tree.specs.Lines.{LineTree}
 use Rattle.rg_tree.specs.Statements.{ProgramTree}
-use Rattle.rg_hints.specs.Proved.{IsProofsRefusal}
 use Rattle.rg_accept.specs.Accepted.{conditions_of}
 use Rattle.rgc.specs.Proofs.{IsSearchRefusal}
 use Rattle.rgc_outlines.specs.Cut.{IsOfPieces, IsOfPiecesRefusal}
@@ -13,10 +12,6 @@ use Rattle.rgc_answers.specs.Refused.{IsUnbegun, IsUnlike}
 -- a run of a program isn't begun; or it is unlike what it printed
 abbrev pub IsUnrun : ProgramTree → Option (Bor (List ℕ)) → Option (Bor (List ℕ)) → ℕ → Refusal → Type 0
 IsUnrun program start moves limit e = IsUnbegun program start moves limit e ⊎ IsUnlike e
-
--- the proofs of the program's conditions are refused; or a run of it isn't begun
-abbrev pub IsProvedRunRefusal : ProgramTree → List LineTree → List ℕ → Option (Bor (List ℕ)) → Option (Bor (List ℕ)) → ℕ → Refusal → Type 0
-IsProvedRunRefusal program lines proofs start moves limit e = IsProofsRefusal (conditions_of program lines) proofs e ⊎ IsUnrun program start moves limit e
 
 -- why an outline's files aren't run: for a fault of the text, or of the pieces of the derivation; else of the search for proofs of the conditions of what
 -- they derive, or of the proofs that it found; else a run isn't begun

@@ -4,12 +4,10 @@ use Rattle.std.specs.Io.KnownBytes.{Appends}
 use Rattle.rg_tree.specs.Lines.{LineTree}
 use Rattle.rg_tree.specs.Statements.{ProgramTree}
 use Rattle.rg_hints.specs.Proved.{AreProved}
-use Rattle.rgc.specs.declared.proofs_found.ProofsFound.{ProofsFound}
-use Rattle.rgc.specs.declared.proofs_found.ProofsFound.TheVariants.{Proofs, Failures}
 use Rattle.rgc.specs.declared.proofs_found.Unproved.{Unproved}
 use Rattle.rg_accept.specs.Accepted.{conditions_of}
 use Rattle.rgc.specs.Chosen.{AreDerived}
-use Rattle.rgc.specs.Proofs.{AreFoundFor, AreUnproved}
+use Rattle.rgc.specs.Proofs.{AreUnproved}
 use Rattle.rgc_outlines.specs.declared.write.Wanted.{Wanted}
 use Rattle.rgc_outlines.specs.declared.write.Sides.{Sides}
 
@@ -29,12 +27,6 @@ pub record HasPut (text derivation proofs : List ℕ) (wanted : Wanted) (before 
   pub derivation_put : IsPut wanted.has_derivation derivation before.derivation.items after.derivation.items
   pub proofs_put : IsPut wanted.has_proofs proofs before.proofs.items after.proofs.items
   pub printed : IsPrinted wanted.has_text text old new
-
--- what was found where proofs are wanted; no proof is missing where they aren't
-abbrev pub AreFoundWhere : Bool → ProgramTree → List LineTree → ProofsFound → Type 0
-AreFoundWhere true program lines found = AreFoundFor program lines found
-AreFoundWhere false program lines (Proofs text) = Unit {0}
-AreFoundWhere false program lines (Failures reported) = ⊥
 
 -- the proofs prove all conditions, where they are wanted
 abbrev pub AreProvedWhere : Bool → ProgramTree → List LineTree → List ℕ → Type 0

@@ -1,20 +1,26 @@
 //! The challenge of an outline, from its bytes to what is printed.
 
-ghost use Rattle.std.specs.Prelude.{◌≡◌, All, IfOk, IfErr, OnOk};
+ghost use Rattle.std.specs.Prelude.{◌≡◌, ℕ, List, Option, None, All, IfOk, IfErr, IfSome};
 ghost use Rattle.rg_words.specs.Stopped.{IsStopped};
 ghost use Rattle.rg_words.specs.Written.{CanCount};
 ghost use Rattle.rgc_outlines.specs.Changed.{IsAnswered};
-ghost use Rattle.rgc_outlines.specs.Stopped.{IsNotDone};
+ghost use Rattle.rgc_outlines.specs.Challenged.{IsChallengeStopped};
+ghost use Rattle.rgc_outlines.specs.Unproved.{HasReportedUnverified};
+ghost use Rattle.rgc_outlines.specs.Verified.{HasPrintedVerdict};
+ghost use Rattle.rgc_outlines.specs.declared.verdict.VerdictForm.TheVariants.{Alone};
+ghost use Rattle.rgc_answers.specs.Failures.{NoFailure};
 
 use crate::answers::{Answer, Answered, Subject, answers_of};
 use crate::candidates::{Original, candidates_of};
 use crate::known::Known;
+use crate::outlines::verify_outlined;
+use crate::verdict::VerdictForm;
 use crate::{NotDone, derive_outline};
 use rg_find::Watcher;
 use rg_outline_challenge::{
-    Change, Changes, Counts, changes_of, push_change, push_counts, push_survivors, push_unspoken,
+    Change, Counts, changes_of, push_change, push_counts, push_survivors, push_unspoken,
 };
-use rg_outline_reports::{OutlineSource, Outlined, read_outline};
+use rg_outline_reports::{OutlineSource, Outlined, ReadOutline, read_outline};
 use rg_outline_syntax::Span;
 use rg_words::{Out, Refusal, write_all};
 use rgc::{Derived, ProofsFound, find_proofs};
@@ -26,18 +32,12 @@ use std::thread::Threads;
 /// How an outline is challenged.
 #[derive(Clone, Copy)]
 pub struct Options {
-    /// The most decisions of each search.
+    /// The most decisions of each search for the outline itself.
     pub steps: u64,
+    /// The most decisions of each search for a changed program, and of those whose proofs it shares.
+    pub steps_for_changes: u64,
     /// Whether the changes that don't survive are printed, too, each with a run that breaks the specification, if one was found.
     pub with_refused: bool,
-}
-
-/// The changes of an outline that was read before, so that only memory can be refused.
-fn changes_in(alloc: Global, source: &[u8]) -> Result<Changes, AllocError> {
-    match changes_of(alloc, source) {
-        Ok(changes) => Ok(changes),
-        Err(_) => Err(AllocError),
-    }
 }
 
 /// How many have this answer.
@@ -148,56 +148,68 @@ fn answers_in<R: Threads + Wait + Sync, P: Watcher + Copy + Sync>(
     answers_of(context, subject, &candidates)
 }
 
-/// Does what `challenge` does with an outline that was worked out.
+/// Challenges an outline that was read and worked out.
 fn challenge_outlined<R: Threads + Wait + Sync, W: Out, P: Watcher + Copy + Sync>(
     context: &Context<'_, R, P>,
     outline: OutlineSource<'_>,
+    read: &ReadOutline,
     outlined: &Outlined<'_>,
     options: Options,
     out: &mut W,
 ) -> Result<Vec<Answered>, Refusal>
     requires { CanCount (W.failures out.old) }
     ensures answers { IfOk result (λ answers. All IsAnswered answers.items) }
-    ensures failures { OnOk result (W.failures out.new ≡ W.failures out.old) }
+    ensures failures { NoFailure result (W.failures out.old) (W.failures out.new) }
     ensures stopped { IfErr result (IsStopped (λ _. Unit {0}) (W.contents out.old) (W.contents out.new) (W.failures out.old) (W.failures out.new)) }
 {
-    let (source, steps) = (outline.source, options.steps);
-    let found = changes_in(context.alloc, source)?;
+    let (source, steps) = (outline.source, options.steps_for_changes);
+    let found = changes_of(context.alloc, source, &read.tokens, &read.written)?;
     let answers = answers_in(context, outlined, source, &found.changes, steps)?;
     let lines = lines_of(context.alloc, outline, options, &found.unspoken, &answers)?;
     write_all(out, &lines)?;
     Ok(answers)
 }
 
-/// Changes the program of an outline in each small way, asks of each changed program whether the same specification still holds, and prints
-/// what it found: where it is wanted, the changes that don't survive; then how many changes there are of each kind; then those that survive,
-/// with their lines, first those that touch words of the specification. Whether the outline itself is verified isn't asked: whoever calls has
-/// `crate::verify_outline` say so before. The changed programs are asked side by side, in threads; what is printed is the same for any count of
+/// Verifies an outline, as `crate::verify_outline` does. Where it is verified, changes its program in each small way, asks of each changed
+/// program whether the same specification still holds, and prints what it found: where it is wanted, the changes that don't survive; then how
+/// many changes there are of each kind; then those that survive, with their lines, first those that touch words of the specification. Where
+/// it isn't verified, answers nothing. The changed programs are asked side by side, in threads; what is printed is the same for any count of
 /// threads.
 ///
 /// # Errors
 ///
-/// - `NotDone::Outline` where the outline is refused, with what reports its first fault.
-/// - `NotDone::Refused` where the files of the outline or of a changed one are too deep, where more decisions are asked than a search may make,
-///   where the writer failed, or where memory is refused.
+/// - As `crate::verify_outline`.
+/// - After the verdict, `NotDone::Refused` where the files of a changed outline are too deep, where more decisions are asked than a search may
+///   make, where the writer failed, or where memory is refused.
 pub fn challenge<R: Threads + Wait + Sync, W: Out, P: Watcher + Copy + Sync>(
     context: &Context<'_, R, P>,
     outline: OutlineSource<'_>,
     options: Options,
     out: &mut W,
-) -> Result<Vec<Answered>, NotDone>
+    warnings: &mut Vec<u8>,
+) -> Result<Option<Vec<Answered>>, NotDone>
     requires { CanCount (W.failures out.old) }
+    ensures verdict { IfOk result (λ found. IfSome found (λ _. (middle : Option (List ℕ)) × HasPrintedVerdict Alone (W.contents out.old) middle)) }
     // A change is said to survive only where its text, the pieces of a derivation and proofs are accepted; and to break the specification only where
     // its text's program doesn't satisfy it.
-    ensures answers { IfOk result (λ answers. All IsAnswered answers.items) }
-    ensures failures { OnOk result (W.failures out.new ≡ W.failures out.old) }
-    // Where it is refused, nothing went out, unless the writer failed; of why files are refused nothing is said.
-    ensures stopped { IfErr result (IsNotDone (λ _. Unit {0}) (W.contents out.old) (W.contents out.new) (W.failures out.old) (W.failures out.new)) }
+    ensures answers { IfOk result (λ found. IfSome found (λ answers. All IsAnswered answers.items)) }
+    ensures reported { IfOk result (λ found. found ≡ None → HasReportedUnverified (W.contents out.old) (W.contents out.new)) }
+    ensures failures { NoFailure result (W.failures out.old) (W.failures out.new) }
+    // Where a changed program is refused, nothing went out after the verdict, unless the writer failed; of why it is refused nothing is said.
+    ensures stopped { IfErr result (IsChallengeStopped options.steps (W.contents out.old) (W.contents out.new) (W.failures out.old) (W.failures out.new)) }
 {
-    let written = read_outline(context.alloc, outline)?;
-    let outlined = Outlined::of(context.alloc, outline, &written)?;
-    match challenge_outlined(context, outline, &outlined, options, out) {
-        Ok(answers) => Ok(answers),
+    let read = read_outline(context.alloc, outline)?;
+    let outlined = Outlined::of(context.alloc, outline, &read)?;
+    let (form, steps) = (VerdictForm::Alone, options.steps);
+    let is_verified = match verify_outlined(context, &outlined, form, steps, out, warnings) {
+        Ok(is_verified) => is_verified,
+        Err(refusal) => return Err(NotDone::Refused(refusal)),
+    };
+    if !is_verified {
+        return Ok(None);
+    }
+    match challenge_outlined(context, outline, &read, &outlined, options, out) {
+        Ok(answers) => Ok(Some(answers)),
         Err(refusal) => Err(NotDone::Refused(refusal)),
     }
 }

@@ -1,9 +1,10 @@
 //! What is reported of conditions without proofs.
 
-ghost use Rattle.std.specs.Prelude.{◌≡◌, ℕ, List, IfErr, OnOk};
+ghost use Rattle.std.specs.Prelude.{ℕ, List, IfErr, OnOk};
 ghost use Rattle.std.specs.Io.KnownBytes.{Appends};
 ghost use Rattle.rg_words.specs.Stopped.{IsFailure};
 ghost use Rattle.rg_words.specs.Written.{CanCount};
+ghost use Rattle.rgc_answers.specs.Failures.{NoFailure};
 
 use crate::claims::confirmed;
 use rg_find::Judged;
@@ -77,7 +78,7 @@ pub(crate) fn print_unproved<W: Out>(
 ) -> Result<(), Refusal>
     requires { CanCount (W.failures out.old) }
     ensures reported { OnOk result ((reported : List ℕ) × Appends (W.contents out.old) (W.contents out.new) reported) }
-    ensures failures { OnOk result (W.failures out.new ≡ W.failures out.old) }
+    ensures failures { NoFailure result (W.failures out.old) (W.failures out.new) }
     // No refusal of files is its own.
     ensures stopped { IfErr result (IsFailure (W.failures out.old) (W.failures out.new)) }
 {

@@ -9,6 +9,7 @@ ghost use Rattle.rgc_outlines.specs.Refused.{IsSomeVerifyRefusal};
 ghost use Rattle.rgc_outlines.specs.Stopped.{IsNotDone};
 ghost use Rattle.rgc_outlines.specs.Unproved.{HasReportedUnverified};
 ghost use Rattle.rgc_outlines.specs.Verified.{HasPrintedVerdict};
+ghost use Rattle.rgc_answers.specs.Failures.{NoFailure};
 
 use crate::verdict::{VerdictForm, push_name};
 use crate::verify::print_verified;
@@ -60,7 +61,7 @@ fn print_unproved<W: Out>(
 ) -> Result<(), Refusal>
     requires { CanCount (W.failures out.old) }
     ensures reported { OnOk result ((reported : List ℕ) × Appends (W.contents out.old) (W.contents out.new) reported) }
-    ensures failures { OnOk result (W.failures out.new ≡ W.failures out.old) }
+    ensures failures { NoFailure result (W.failures out.old) (W.failures out.new) }
     ensures stopped { IfErr result (IsStopped (IsProgramRefusal outlined.now.files.text.items) (W.contents out.old) (W.contents out.new) (W.failures out.old) (W.failures out.new)) }
 {
     let mut reported = conditions_reported(alloc, outlined, unproved)?;
@@ -89,7 +90,7 @@ fn push_warnings(
 }
 
 /// Does what `verify_outline` does with an outline that was worked out.
-fn verify_outlined<R: Threads + Wait + Sync, W: Out, P: Watcher + Copy + Sync>(
+pub(crate) fn verify_outlined<R: Threads + Wait + Sync, W: Out, P: Watcher + Copy + Sync>(
     context: &Context<'_, R, P>,
     outlined: &Outlined<'_>,
     form: VerdictForm<'_>,
@@ -100,7 +101,7 @@ fn verify_outlined<R: Threads + Wait + Sync, W: Out, P: Watcher + Copy + Sync>(
     requires { CanCount (W.failures out.old) }
     ensures printed { IfOk result (λ b. IsTrue b → HasPrintedVerdict form.entry (W.contents out.old) (W.contents out.new)) }
     ensures reported { IfOk result (λ b. b ≡ false → HasReportedUnverified (W.contents out.old) (W.contents out.new)) }
-    ensures failures { OnOk result (W.failures out.new ≡ W.failures out.old) }
+    ensures failures { NoFailure result (W.failures out.old) (W.failures out.new) }
     ensures stopped { IfErr result (IsStopped (IsSomeVerifyRefusal steps) (W.contents out.old) (W.contents out.new) (W.failures out.old) (W.failures out.new)) }
 {
     push_warnings(context.alloc, outlined, warnings)?;
@@ -134,7 +135,7 @@ pub fn verify_outline<R: Threads + Wait + Sync, W: Out, P: Watcher + Copy + Sync
     ensures printed { IfOk result (λ b. IsTrue b → HasPrintedVerdict form.entry (W.contents out.old) (W.contents out.new)) }
     // Else some conditions have no proof; what was found of these is true, all others hold, and a text went out.
     ensures reported { IfOk result (λ b. b ≡ false → HasReportedUnverified (W.contents out.old) (W.contents out.new)) }
-    ensures failures { OnOk result (W.failures out.new ≡ W.failures out.old) }
+    ensures failures { NoFailure result (W.failures out.old) (W.failures out.new) }
     ensures stopped { IfErr result (IsNotDone (IsSomeVerifyRefusal steps) (W.contents out.old) (W.contents out.new) (W.failures out.old) (W.failures out.new)) }
 {
     let written = read_outline(context.alloc, outline)?;

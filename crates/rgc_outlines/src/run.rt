@@ -11,9 +11,10 @@ ghost use Rattle.rg_accept.specs.Stages.{derived_program, derived_lines, emitted
 ghost use Rattle.rgc_outlines.specs.Reported.{reported_lines};
 ghost use Rattle.rgc_outlines.specs.Unproved.{HasReportedUnverified};
 ghost use Rattle.rgc_outlines.specs.Outlined.{HasReportedRunOf, HasReportedRun};
-ghost use Rattle.rgc_outlines.specs.Inner.OutlinedProved.{IsEmittedBy, HasReportedProved};
-ghost use Rattle.rgc_outlines.specs.RunStopped.{IsUnrun, IsProvedRunRefusal, IsSomeRunRefusal};
+ghost use Rattle.rgc_outlines.specs.Inner.OutlinedProved.{IsEmittedBy, HasReportedProved, IsProvedRunRefusal};
+ghost use Rattle.rgc_outlines.specs.RunStopped.{IsUnrun, IsSomeRunRefusal};
 ghost use Rattle.rgc_outlines.specs.Stopped.{IsNotDone};
+ghost use Rattle.rgc_answers.specs.Failures.{NoFailure};
 
 use crate::failures::print_unproved;
 use crate::naming::{Naming, naming_of, push_reported};
@@ -51,7 +52,7 @@ fn print_reported<W: Out>(
 ) -> Result<(), Refusal>
     requires { CanCount (W.failures out.old) }
     ensures printed { OnOk result (Appends (W.contents out.old) (W.contents out.new) (reported_lines naming.now (program_tree program.now) closed.now.history)) }
-    ensures failures { OnOk result (W.failures out.new ≡ W.failures out.old) }
+    ensures failures { NoFailure result (W.failures out.old) (W.failures out.new) }
     ensures stopped { IfErr result (IsFailure (W.failures out.old) (W.failures out.new)) }
 {
     let records = closed.records_from(alloc, 1)?;
@@ -61,11 +62,17 @@ fn print_reported<W: Out>(
     Ok(())
 }
 
+/// Code, and how an outline names what the records of its runs speak of.
+#[derive(Clone, Copy)]
+struct NamedCode<'a> {
+    naming: &'a Naming,
+    emitted: &'a Emitted,
+}
+
 /// Runs code, prints a line for each step as an outline names what it speaks of, and why the run is over.
 fn run_emitted<R: Threads + Wait + Sync, W: Out, F: Out, P>(
     context: &Context<'_, R, P>,
-    naming: &Naming,
-    emitted: &Emitted,
+    code: NamedCode<'_>,
     files: RunFiles<'_>,
     out: &mut W,
     faults: &mut F,
@@ -73,24 +80,17 @@ fn run_emitted<R: Threads + Wait + Sync, W: Out, F: Out, P>(
 ) -> Result<(), Refusal>
     requires out { CanCount (W.failures out.old) }
     requires faults { CanCount (F.failures faults.old) }
-    ensures printed { OnOk result (HasReportedRunOf (emitted_program emitted.now) (emitted_blocks emitted.now) naming.now files.entry.start files.entry.moves files.entry.limit (W.contents out.old) (W.contents out.new)) }
-    ensures failures { OnOk result (W.failures out.new ≡ W.failures out.old) }
-    ensures stopped { IfErr result (IsStopped (IsUnrun (emitted_program emitted.now) files.entry.start files.entry.moves files.entry.limit) (W.contents out.old) (W.contents out.new) (W.failures out.old) (W.failures out.new)) }
+    ensures printed { OnOk result (HasReportedRunOf (emitted_program code.entry.emitted.now) (emitted_blocks code.entry.emitted.now) code.entry.naming.now files.entry.start files.entry.moves files.entry.limit (W.contents out.old) (W.contents out.new)) }
+    ensures failures { NoFailure result (W.failures out.old) (W.failures out.new) }
+    ensures stopped { IfErr result (IsStopped (IsUnrun (emitted_program code.entry.emitted.now) files.entry.start files.entry.moves files.entry.limit) (W.contents out.old) (W.contents out.new) (W.failures out.old) (W.failures out.new)) }
     ensures quiet { OnErr result (F.failures faults.new ≡ F.failures faults.old) }
 {
     let alloc = context.alloc;
+    let NamedCode { naming, emitted } = code;
     let closed = play_files(context.rt, alloc, emitted, files, &mut Unread)?;
     let program = emitted.program();
     print_reported(alloc, naming, program, &closed, out)?;
-    end_run(
-        alloc,
-        program,
-        &closed,
-        files.is_drawn,
-        out,
-        faults,
-        picture,
-    )
+    end_run(alloc, &closed, files.is_drawn, out, faults, picture)
 }
 
 /// The code of a program, all of whose conditions these proofs prove.
@@ -114,11 +114,17 @@ fn emitted_by<R: Threads + Wait + Sync, P>(
     Ok(emitted)
 }
 
+/// An outline that was worked out, and what its files derive.
+#[derive(Drop)]
+struct DerivedOutline<'a, 'b> {
+    outlined: &'a Outlined<'b>,
+    derived: Derived,
+}
+
 /// Runs an outline's program, all of whose conditions the proofs of these files prove, in the outline's words.
 fn run_proved<R: Threads + Wait + Sync, W: Out, F: Out, P>(
     context: &Context<'_, R, P>,
-    outlined: &Outlined<'_>,
-    derived: Derived,
+    outline: DerivedOutline<'_, '_>,
     files: RunFiles<'_>,
     out: &mut W,
     faults: &mut F,
@@ -126,14 +132,19 @@ fn run_proved<R: Threads + Wait + Sync, W: Out, F: Out, P>(
 ) -> Result<(), Refusal>
     requires out { CanCount (W.failures out.old) }
     requires faults { CanCount (F.failures faults.old) }
-    ensures printed { OnOk result (HasReportedProved (derived_program derived) (derived_lines derived) files.entry.proofs.now files.entry.start files.entry.moves files.entry.limit (W.contents out.old) (W.contents out.new)) }
-    ensures failures { OnOk result (W.failures out.new ≡ W.failures out.old) }
-    ensures stopped { IfErr result (IsStopped (IsProvedRunRefusal (derived_program derived) (derived_lines derived) files.entry.proofs.now files.entry.start files.entry.moves files.entry.limit) (W.contents out.old) (W.contents out.new) (W.failures out.old) (W.failures out.new)) }
+    ensures printed { OnOk result (HasReportedProved (derived_program outline.entry.derived) (derived_lines outline.entry.derived) files.entry.proofs.now files.entry.start files.entry.moves files.entry.limit (W.contents out.old) (W.contents out.new)) }
+    ensures failures { NoFailure result (W.failures out.old) (W.failures out.new) }
+    ensures stopped { IfErr result (IsStopped (IsProvedRunRefusal (derived_program outline.entry.derived) (derived_lines outline.entry.derived) files.entry.proofs.now files.entry.start files.entry.moves files.entry.limit) (W.contents out.old) (W.contents out.new) (W.failures out.old) (W.failures out.new)) }
     ensures quiet { OnErr result (F.failures faults.new ≡ F.failures faults.old) }
 {
+    let DerivedOutline { outlined, derived } = outline;
     let emitted = emitted_by(context, derived, files.proofs)?;
     let naming = naming_of(context.alloc, outlined, emitted.program())?;
-    run_emitted(context, &naming, &emitted, files, out, faults, picture)?;
+    let code = NamedCode {
+        naming: &naming,
+        emitted: &emitted,
+    };
+    run_emitted(context, code, files, out, faults, picture)?;
     Ok(())
 }
 
@@ -149,7 +160,7 @@ fn run_outlined<R: Threads + Wait + Sync, W: Out, F: Out, P: Watcher + Copy + Sy
     requires out { CanCount (W.failures out.old) }
     requires faults { CanCount (F.failures faults.old) }
     ensures printed { IfOk result (λ b. IsTrue b → HasReportedRun how.entry.start how.entry.moves how.entry.limit (W.contents out.old) (W.contents out.new)) }
-    ensures failures { OnOk result (W.failures out.new ≡ W.failures out.old) }
+    ensures failures { NoFailure result (W.failures out.old) (W.failures out.new) }
     ensures reported { IfOk result (λ b. b ≡ false → HasReportedUnverified (W.contents out.old) (W.contents out.new)) }
     ensures stopped { IfErr result (IsStopped (IsSomeRunRefusal how.entry.start how.entry.moves how.entry.limit how.entry.steps) (W.contents out.old) (W.contents out.new) (W.failures out.old) (W.failures out.new)) }
     ensures quiet { OnErr result (F.failures faults.new ≡ F.failures faults.old) }
@@ -169,7 +180,8 @@ fn run_outlined<R: Threads + Wait + Sync, W: Out, F: Out, P: Watcher + Copy + Sy
                 is_drawn: how.is_drawn,
                 threads,
             };
-            run_proved(context, outlined, derived, run, out, faults, picture)?;
+            let outline = DerivedOutline { outlined, derived };
+            run_proved(context, outline, run, out, faults, picture)?;
             Ok(true)
         }
         ProofsFound::Failures(unproved) => {
@@ -200,7 +212,7 @@ pub fn run_outline<R: Threads + Wait + Sync, W: Out, F: Out, P: Watcher + Copy +
     requires faults { CanCount (F.failures faults.old) }
     // It is run only where some text, the pieces of some derivation and some proofs are accepted.
     ensures printed { IfOk result (λ b. IsTrue b → HasReportedRun how.entry.start how.entry.moves how.entry.limit (W.contents out.old) (W.contents out.new)) }
-    ensures failures { OnOk result (W.failures out.new ≡ W.failures out.old) }
+    ensures failures { NoFailure result (W.failures out.old) (W.failures out.new) }
     // Else some conditions have no proof; what was found of these is true, all others hold, and a text went out.
     ensures reported { IfOk result (λ b. b ≡ false → HasReportedUnverified (W.contents out.old) (W.contents out.new)) }
     ensures stopped { IfErr result (IsNotDone (IsSomeRunRefusal how.entry.start how.entry.moves how.entry.limit how.entry.steps) (W.contents out.old) (W.contents out.new) (W.failures out.old) (W.failures out.new)) }

@@ -1,24 +1,26 @@
 //! The verification of an outline: its text is read as any file is, and so is each piece of its derivation; proofs are looked for, and checked.
 
 ghost use Rattle.std.specs.Prelude.{◌≡◌, None, IfOk, IfErr, IfSome, OnOk};
-ghost use Rattle.rg_words.specs.Stopped.{IsStopped};
+ghost use Rattle.rg_words.specs.Stopped.{IsFailure, IsStopped};
 ghost use Rattle.rg_words.specs.Written.{CanCount};
-ghost use Rattle.rg_hints.specs.Proved.{IsProofsRefusal};
+ghost use Rattle.rg_hints.specs.Proved.{AreProved};
+ghost use Rattle.rg_tree.specs.Programs.{IsSatisfied};
 ghost use Rattle.rg_accept.specs.Accepted.{conditions_of};
 ghost use Rattle.rg_accept.specs.Stages.{derived_program, derived_lines};
 ghost use Rattle.rgc_outlines.specs.Refused.{IsVerifyRefusal};
 ghost use Rattle.rgc_outlines.specs.Unproved.{AreUnprovedOf};
 ghost use Rattle.rgc_outlines.specs.Verified.{HasPrintedVerdict, ShortDerivationsAreAccepted};
 ghost use Rattle.rgc_outlines.specs.Inner.Counts.{HasPrintedCounts};
+ghost use Rattle.rgc_answers.specs.Failures.{NoFailure};
 
 use crate::derive_outline;
 use crate::verdict::{VerdictForm, verdict_line};
 use rg_find::Watcher;
 use rg_outline_reports::OutlineFiles;
-use rg_pool::prove_all;
 use rg_words::{Out, Refusal, write_all};
 use rgc::{Derived, ProofsFound, Unproved, find_proofs};
 use rgc_answers::Context;
+use std::alloc::Global;
 use std::sync::Wait;
 use std::thread::Threads;
 
@@ -30,23 +32,24 @@ fn sections_in(proofs: &[u8]) -> usize {
         .count()
 }
 
-/// Prints how many conditions were proved, where the proofs prove them all.
-fn print_counts<R: Threads + Wait + Sync, W: Out, P>(
-    context: &Context<'_, R, P>,
+/// Prints how many conditions these proofs prove, which is all of them.
+fn print_counts<W: Out>(
+    alloc: Global,
     derived: &Derived,
     proofs: &[u8],
     form: VerdictForm<'_>,
     out: &mut W,
 ) -> Result<(), Refusal>
-    requires { CanCount (W.failures out.old) }
+    requires proved { AreProved (conditions_of (derived_program derived.now) (derived_lines derived.now)) proofs.now }
+    requires satisfied { IsSatisfied (derived_program derived.now) }
+    requires out { CanCount (W.failures out.old) }
     ensures printed { OnOk result (HasPrintedCounts (derived_program derived.now) (derived_lines derived.now) proofs.now form.entry (W.contents out.old) (W.contents out.new)) }
-    ensures failures { OnOk result (W.failures out.new ≡ W.failures out.old) }
-    ensures stopped { IfErr result (IsStopped (IsProofsRefusal (conditions_of (derived_program derived.now) (derived_lines derived.now)) proofs.now) (W.contents out.old) (W.contents out.new) (W.failures out.old) (W.failures out.new)) }
+    ensures failures { NoFailure result (W.failures out.old) (W.failures out.new) }
+    ensures stopped { IfErr result (IsFailure (W.failures out.old) (W.failures out.new)) }
 {
-    let conditions = derived.conditions(context.alloc)?;
+    let conditions = derived.conditions(alloc)?;
     let all = conditions.as_slice();
-    prove_all(context.rt, context.alloc, context.threads, all, proofs)?;
-    let line = verdict_line(context.alloc, form, all.len(), sections_in(proofs))?;
+    let line = verdict_line(alloc, form, all.len(), sections_in(proofs))?;
     write_all(out, line.as_bytes())?;
     Ok(())
 }
@@ -66,7 +69,7 @@ pub fn print_verified<R: Threads + Wait + Sync, W: Out, P: Watcher + Copy + Sync
 ) -> Result<Option<Vec<Unproved>>, Refusal>
     requires { CanCount (W.failures out.old) }
     ensures printed { IfOk result (λ unproved. unproved ≡ None → HasPrintedVerdict form.entry (W.contents out.old) (W.contents out.new)) }
-    ensures failures { OnOk result (W.failures out.new ≡ W.failures out.old) }
+    ensures failures { NoFailure result (W.failures out.old) (W.failures out.new) }
     // What is handed back of conditions is true of them, and nothing was printed.
     ensures unproved { IfOk result (λ found. IfSome found (λ unproved. AreUnprovedOf files.now.text.items files.now.derivation.items unproved.items)) }
     ensures untouched { IfOk result (λ found. IfSome found (λ _. W.contents out.new ≡ W.contents out.old)) }
@@ -76,7 +79,7 @@ pub fn print_verified<R: Threads + Wait + Sync, W: Out, P: Watcher + Copy + Sync
     let (rt, alloc, threads) = (context.rt, context.alloc, context.threads);
     match find_proofs(rt, alloc, threads, &derived, steps, context.watcher)? {
         ProofsFound::Proofs(proofs) => {
-            print_counts(context, &derived, proofs.as_bytes(), form, out)?;
+            print_counts(alloc, &derived, proofs.as_bytes(), form, out)?;
             Ok(None)
         }
         ProofsFound::Failures(unproved) => Ok(Some(unproved)),

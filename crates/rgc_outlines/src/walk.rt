@@ -9,6 +9,7 @@ ghost use Rattle.rgc_outlines.specs.Refused.{IsSomeTextRefusal};
 ghost use Rattle.rgc_outlines.specs.Stopped.{IsNotDone};
 ghost use Rattle.rgc_outlines.specs.Verified.{HasPrintedRuns, HasBreakingRun};
 ghost use Rattle.rgc_outlines.specs.WalkedRefuted.{IsRefuted, IsReported};
+ghost use Rattle.rgc_answers.specs.Failures.{NoFailure};
 
 use crate::NotDone;
 use crate::verdict::{VerdictForm, push_name};
@@ -90,7 +91,7 @@ fn runs_of_outlined<W: Out>(
     requires { CanCount (W.failures out.old) }
     ensures refuted { IfOk result (λ b. b ≡ false → HasBreakingRun) }
     ensures printed { OnOk result (HasPrintedRuns (W.contents out.old) (W.contents out.new)) }
-    ensures failures { OnOk result (W.failures out.new ≡ W.failures out.old) }
+    ensures failures { NoFailure result (W.failures out.old) (W.failures out.new) }
     ensures stopped { IfErr result (IsStopped IsSomeTextRefusal (W.contents out.old) (W.contents out.new) (W.failures out.old) (W.failures out.new)) }
 {
     let mut reported = Vec::new(alloc);
@@ -120,7 +121,7 @@ pub fn runs_only<W: Out>(
     // A run is reported only where some text spells a program that doesn't satisfy its specification.
     ensures refuted { IfOk result (λ b. b ≡ false → HasBreakingRun) }
     ensures printed { OnOk result (HasPrintedRuns (W.contents out.old) (W.contents out.new)) }
-    ensures failures { OnOk result (W.failures out.new ≡ W.failures out.old) }
+    ensures failures { NoFailure result (W.failures out.old) (W.failures out.new) }
     ensures stopped { IfErr result (IsNotDone IsSomeTextRefusal (W.contents out.old) (W.contents out.new) (W.failures out.old) (W.failures out.new)) }
 {
     let written = read_outline(alloc, outline)?;

@@ -5,7 +5,9 @@ ghost use Rattle.rg_words.specs.Stopped.{IsFailure, IsStopped};
 ghost use Rattle.rg_words.specs.Written.{CanCount};
 ghost use Rattle.rg_accept.specs.Stages.{derived_program, derived_lines};
 ghost use Rattle.rgc_outlines.specs.Stopped.{IsNotDone, IsSearchRefusalWhere, IsSomeWriteRefusal};
-ghost use Rattle.rgc_outlines.specs.Written.{IsPut, IsPrinted, HasPut, AreFoundWhere, HasWritten, HasReportedMissing};
+ghost use Rattle.rgc_outlines.specs.Written.{IsPut, IsPrinted, HasPut, HasWritten, HasReportedMissing};
+ghost use Rattle.rgc_outlines.specs.Inner.Proved.{AreFoundWhere};
+ghost use Rattle.rgc_answers.specs.Failures.{NoFailure};
 
 use crate::NotDone;
 use crate::failures::print_unproved;
@@ -66,7 +68,7 @@ fn put_one(is_wanted: bool, file: &[u8], side: &mut Vec<u8>) -> Result<(), Alloc
 fn print_text<W: Out>(is_put: bool, text: &[u8], out: &mut W) -> Result<(), Refusal>
     requires { CanCount (W.failures out.old) }
     ensures printed { OnOk result (IsPrinted is_put text.now (W.contents out.old) (W.contents out.new)) }
-    ensures failures { OnOk result (W.failures out.new ≡ W.failures out.old) }
+    ensures failures { NoFailure result (W.failures out.old) (W.failures out.new) }
     ensures stopped { IfErr result (IsFailure (W.failures out.old) (W.failures out.new)) }
 {
     if !is_put {
@@ -86,7 +88,7 @@ fn put<W: Out>(
 ) -> Result<(), Refusal>
     requires { CanCount (W.failures out.old) }
     ensures put { OnOk result (HasPut files.now.text.items files.now.derivation.items proofs.now wanted sides.old sides.new (W.contents out.old) (W.contents out.new)) }
-    ensures failures { OnOk result (W.failures out.new ≡ W.failures out.old) }
+    ensures failures { NoFailure result (W.failures out.old) (W.failures out.new) }
     ensures stopped { IfErr result (IsFailure (W.failures out.old) (W.failures out.new)) }
 {
     put_one(wanted.has_text, &files.text, &mut sides.text)?;
@@ -141,7 +143,7 @@ fn write_outlined<R: Threads + Wait + Sync, W: Out, P: Watcher + Copy + Sync>(
     requires { CanCount (W.failures out.old) }
     ensures written { IfOk result (λ b. IsTrue b → HasWritten wanted sides.old sides.new (W.contents out.old) (W.contents out.new)) }
     ensures reported { IfOk result (λ b. b ≡ false → HasReportedMissing wanted (W.contents out.old) (W.contents out.new)) }
-    ensures failures { OnOk result (W.failures out.new ≡ W.failures out.old) }
+    ensures failures { NoFailure result (W.failures out.old) (W.failures out.new) }
     ensures stopped { IfErr result (IsStopped (IsSomeWriteRefusal wanted.has_proofs steps) (W.contents out.old) (W.contents out.new) (W.failures out.old) (W.failures out.new)) }
 {
     let alloc = context.alloc;
@@ -181,7 +183,7 @@ pub fn write_outline<R: Threads + Wait + Sync, W: Out, P: Watcher + Copy + Sync>
     ensures written { IfOk result (λ b. IsTrue b → HasWritten wanted sides.old sides.new (W.contents out.old) (W.contents out.new)) }
     // Else proofs are wanted, and some conditions have none; what was found of these is true, all others hold, and a text went out.
     ensures reported { IfOk result (λ b. b ≡ false → HasReportedMissing wanted (W.contents out.old) (W.contents out.new)) }
-    ensures failures { OnOk result (W.failures out.new ≡ W.failures out.old) }
+    ensures failures { NoFailure result (W.failures out.old) (W.failures out.new) }
     ensures stopped { IfErr result (IsNotDone (IsSomeWriteRefusal wanted.has_proofs steps) (W.contents out.old) (W.contents out.new) (W.failures out.old) (W.failures out.new)) }
 {
     let written = read_outline(context.alloc, outline)?;

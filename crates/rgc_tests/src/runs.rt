@@ -5,6 +5,7 @@ use rg_code::checked::Checked;
 use rg_floor::turn::Why;
 use rg_runner::gate::Gate;
 use rg_runner::player::play;
+use rg_runner::stage::Stage;
 use rg_words::{Refusal, State, Taker};
 use rgc::build;
 use std::alloc::Global;
@@ -62,7 +63,13 @@ fn lines_of_run<R: Threads + Wait + Sync>(
     let emitted = build(alloc, TEXT, DERIVATION, PROOFS)?;
     let start = State::zero(alloc, &emitted.program().layout)?;
     let mut out = Taker::new(alloc, 100);
-    let closed = play(rt, alloc, &emitted, start, 10, gate, &[], &mut out)?;
+    let stage = Stage {
+        rt,
+        alloc,
+        gate,
+        moves: &[],
+    };
+    let closed = play(&stage, &emitted, start, 10, &mut out)?;
     Ok(if closed.why() == Why::Ended && closed.len() == 2 {
         Some(out)
     } else {

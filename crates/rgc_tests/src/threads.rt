@@ -4,8 +4,8 @@ use crate::program::{DERIVATION, LATE_FAULT, PROOFS, TEXT, TWO_FAULTS};
 use rg_find::Unwatched;
 use rg_words::{Place, Refusal, RefusalNumber, SourceFile};
 use rgc::{
-    Derived, InThreads, ProofsFound, accept, accept_all, build_by, derive_program, find_part,
-    find_proofs,
+    Derived, InThreads, ProofsFound, SearchSettings, accept, accept_all, build_by, derive_program,
+    find_part, find_proofs,
 };
 use std::alloc::Global;
 use std::sync::Wait;
@@ -104,9 +104,16 @@ fn ranges_find<R: Threads + Wait + Sync>(
     derived: &Derived,
     text: &str,
 ) -> Result<bool, Refusal> {
+    let watcher = Unwatched;
+    let settings = SearchSettings {
+        rt,
+        threads: 2,
+        steps: STEPS,
+        watcher: &watcher,
+    };
     let mut whole = String::new(alloc);
     for (first, last) in [(1, 7), (8, 8), (9, 17)] {
-        let found = find_part(rt, alloc, 2, derived, first, last, STEPS, &Unwatched)?;
+        let found = find_part(&settings, alloc, derived, first, last)?;
         let part = text_of(alloc, found);
         whole.push_str(&part)?;
     }

@@ -1,11 +1,26 @@
 -- Why a command over texts isn't done, before it is reported.
-use Rattle.std.specs.Prelude.{◌≡◌, ℕ, List, Option, Some}
+use Rattle.std.specs.Prelude.{◌≡◌, ◌⊎◌, ℕ, List, Option, Some}
+use Rattle.rg_words.specs.declared.refusal.Refusal.{Refusal}
+use Rattle.rg_words.specs.Stopped.{IsStopped}
 use Rattle.rgc_line.specs.declared.command.Command.{Command}
+use Rattle.rgc_line.specs.declared.command.Command.TheVariants.{RunOutline, Outline as the_outline, Verify, Challenge}
 use Rattle.rgc_line.specs.declared.command.Format.{Format}
 use Rattle.rgc_commands.specs.declared.files.Files.{Files}
 use Rattle.rgc_commands.specs.declared.stops.Stop.{Stop}
 use Rattle.rgc_commands.specs.declared.stops.Stop.TheVariants.{Device, Refused, Outline, Usage, Reported, GaveUp}
-use Rattle.rgc_commands.specs.Stopped.{IsUntouched, unread_line, IsStoppedBy, TellsWhy, GivesUp, IsMisfit}
+use Rattle.rgc_commands.specs.Stopped.{IsUntouched, unread_line, RefusesFiles, IsRunUnlike, TellsWhy, GivesUp, IsMisfit}
+
+-- the command is over texts, or explains
+abbrev pub IsOverTexts : Command → Type 0
+IsOverTexts (RunOutline _ _ _ _ _) = ⊥
+IsOverTexts (the_outline _ _ _ _ _) = ⊥
+IsOverTexts (Verify _ _ _) = ⊥
+IsOverTexts (Challenge _ _) = ⊥
+IsOverTexts _ = Unit {0}
+
+-- nothing went out, since the files are refused so; or what went out was cut, since the writer failed or memory was refused; or a run is unlike it
+abbrev pub IsStoppedBy : Command → Files → Option (List ℕ) → Option (List ℕ) → ℕ → ℕ → Refusal → Type 0
+IsStoppedBy command files old new failed after e = IsStopped (RefusesFiles command files) old new failed after e ⊎ IsRunUnlike command failed after e
 
 -- a file can't be read, and this line tells it
 abbrev pub IsDevice : Option (List ℕ) → Stop → Type 0

@@ -1,14 +1,16 @@
--- The run of a program all of whose conditions are proved.
-use Rattle.std.specs.Prelude.{◌≡◌, ℕ, List, Option}
+-- The run of a program all of whose conditions are proved, and why there is none.
+use Rattle.std.specs.Prelude.{◌≡◌, ◌⊎◌, ℕ, List, Option}
 use Rattle.std.specs.Borrow.{Bor}
+use Rattle.rg_words.specs.declared.refusal.Refusal.{Refusal}
 use Rattle.rg_tree.specs.Lines.{LineTree}
 use Rattle.rg_tree.specs.Statements.{ProgramTree}
 use Rattle.rg_tree.specs.Programs.{IsSatisfied}
-use Rattle.rg_hints.specs.Proved.{AreProved}
+use Rattle.rg_hints.specs.Proved.{AreProved, IsProofsRefusal}
 use Rattle.rg_code.specs.Code.{BlockTree, HasRunsOf, program_code}
 use Rattle.rgc_outlines.specs.Reported.{NamingView}
 use Rattle.rg_accept.specs.Accepted.{conditions_of}
 use Rattle.rgc_outlines.specs.Outlined.{HasReportedRunOf}
+use Rattle.rgc_outlines.specs.RunStopped.{IsUnrun}
 
 -- the proofs prove all conditions of the program and these lines, so it satisfies its specification; what was emitted is this program, with exactly
 -- its code, which has exactly its runs
@@ -28,3 +30,7 @@ pub record HasReportedProved (program : ProgramTree) (lines : List LineTree) (pr
   pub runs : HasRunsOf program code
   pub naming : NamingView
   pub run : HasReportedRunOf program code naming start moves limit old new
+
+-- the proofs of the program's conditions are refused; or a run of it isn't begun
+abbrev pub IsProvedRunRefusal : ProgramTree → List LineTree → List ℕ → Option (Bor (List ℕ)) → Option (Bor (List ℕ)) → ℕ → Refusal → Type 0
+IsProvedRunRefusal program lines proofs start moves limit e = IsProofsRefusal (conditions_of program lines) proofs e ⊎ IsUnrun program start moves limit e

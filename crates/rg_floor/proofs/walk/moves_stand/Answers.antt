@@ -1,9 +1,11 @@
 use Rattle.std.proofs.Common.{◌≡◌, ◌+◌, ◌≤◌, List, [], true, length, drop, map, sym, ap, ◌∙◌, subst, rules, arith, IsTrue}
 use Rattle.std.proofs.lemmas.List.{length-map}
 use Rattle.std.proofs.Math.ListN.{drop_of_length-le}
-use Rattle.rg_words.specs.Layout.{Word}
+use Rattle.rg_words.specs.Layout.{Word, widths_of}
 use Rattle.rg_tree.specs.View.{formula}
 use Rattle.rg_tree.specs.Moves.{move, AreMoves}
+use Rattle.rg_tree.specs.Traces.{State}
+use Rattle.rg_code.specs.Code.{zeros}
 use Rattle.rg_code.specs.CodeTrees.{code_blocks}
 use Rattle.rg_machine.specs.Machine.{Configuration}
 use Rattle.rg_monitor.specs.Entry.{Entry}
@@ -12,14 +14,21 @@ use Rattle.rg_floor.specs.declared.walk.Walk.{Walk}
 use Rattle.rg_floor.proofs.Walking.{begins, drop_at, past_both, all_stand}
 use Rattle.rg_floor.proofs.walk.moves_stand.Goals as goal
 
+pub new-requires : goal.new-requires
+new-requires c =
+    let reported : c.same.result ≡ true = search (rules, c.if-not-same.false) in
+    ap (λ x. x.widths) c.in_ok-start.ensures ∙ c.requires.start ∙ ap widths_of (sym (c.same.ensures.0 reported))
+
 pub loop-step-init : goal.loop-step-init
 loop-step-init c =
     let reported : c.same.result ≡ true = search (rules, c.if-not-same.false) in
-    let words : c.args.code.now.layout ≡ c.args.program.now.layout = c.same.ensures.0 reported in
-    let whole = c.begun-walk.ensures ∙ ap (λ (x : Configuration). let w : Walk = record { config = x; records = 0; own = 0; moves = 0; passed = 0 } in w) c.in_ok-new.ensures in
+    let words : c.args.origin.now.code.now.layout ≡ c.args.origin.now.program.now.layout = c.same.ensures.0 reported in
+    let values = ap (λ x. x.values) c.in_ok-start.ensures in
+    let config = c.in_ok-new.ensures ∙ ap (λ (s : State). let x : Configuration = record { words = c.args.origin.now.code.now.layout; codes = code_blocks c.args.origin.now.code.now; state = s; places = zeros (code_blocks c.args.origin.now.code.now) } in x) values in
+    let whole = c.begun-walk.ensures ∙ ap (λ (x : Configuration). let w : Walk = record { config = x; records = 0; own = 0; moves = 0; passed = 0 } in w) config in
     record {
       words = ap (λ (w : Walk). w.config.words) whole ∙ words;
-      rest = begins (formula c.args.program.now.spec.rely) c.args.limit (map move c.args.moves.now) c.args.passed.now c.begun-walk.result c.args.program.now.layout c.args.code.now.layout (code_blocks c.args.code.now) c.args.start.values c.args.steps.now whole words;
+      rest = begins (formula c.args.origin.now.program.now.spec.rely) c.args.origin.now.limit (map move c.args.moves.now) c.args.passed.now c.begun-walk.result c.args.origin.now.program.now.layout c.args.origin.now.code.now.layout (code_blocks c.args.origin.now.code.now) c.args.origin.now.start.now.values c.args.steps.now whole words;
     }
 
 pub take_passed-requires-clause-words : goal.take_passed-requires-clause-words
@@ -40,7 +49,7 @@ loop-step-preserved c =
     let second : IsTrue c.in_ok-take_record.field-0 = search rules in
     record {
       words = c.in_ok-take_record.ensures.words ∙ ap (λ (x : Configuration). x.words) c.in_ok-take_passed.ensures.stays ∙ inv.words;
-      rest = λ h. inv.rest (past_both (formula c.args.program.now.spec.rely) c.args.limit (map move c.args.moves.now) c.args.passed.now c.loop-step.walk c.take_passed.new.walk c.take_record.new.walk r (drop i steps) (drop (i + 1) steps)
+      rest = λ h. inv.rest (past_both (formula c.args.origin.now.program.now.spec.rely) c.args.origin.now.limit (map move c.args.moves.now) c.args.passed.now c.loop-step.walk c.take_passed.new.walk c.take_record.new.walk r (drop i steps) (drop (i + 1) steps)
           (c.in_ok-take_passed.ensures.goes first) (c.in_ok-take_record.ensures.goes second) (drop_at steps i r c.step-item.is c.loop-step-test.true) h);
     }
 
@@ -63,5 +72,5 @@ returns c = λ t.
     let met_all : y.passed ≡ length passed = search (rules, t) in
     let all_passed : length passed ≤ y.passed = omega (arith, met_all) in
     let none : drop i steps ≡ [] = drop_of_length-le steps over in
-    let P : List Entry → Type 0 = λ rs. RestStands (formula c.args.program.now.spec.rely) c.args.limit (map move moves) passed c.loop-step.walk rs in
-    inv.rest (subst P (sym none) (c.in_ok-take_passed-2.ensures.goes first [] (all_stand (formula c.args.program.now.spec.rely) c.args.limit (map move moves) passed y all_moves all_passed)))
+    let P : List Entry → Type 0 = λ rs. RestStands (formula c.args.origin.now.program.now.spec.rely) c.args.origin.now.limit (map move moves) passed c.loop-step.walk rs in
+    inv.rest (subst P (sym none) (c.in_ok-take_passed-2.ensures.goes first [] (all_stand (formula c.args.origin.now.program.now.spec.rely) c.args.origin.now.limit (map move moves) passed y all_moves all_passed)))

@@ -9,7 +9,7 @@ use Rattle.rg_floor.proofs.walk.moves_stand.Given as goal
 -- where the rest stands in the records that are left, all stand in all
 abbrev pub invariant-loop-step : goal.invariant-loop-step
 invariant-loop-step l = record {
-  words : l.walk.config.words ≡ l.program.layout;
-  rest : RestStands (formula l.program.spec.rely) l.limit (map move l.moves) l.passed l.walk (drop l.step-index l.steps)
-      → MovesStand (formula l.program.spec.rely) l.limit (first_place l.program.layout (code_blocks l.code) l.fn.start.values) 1 (map move l.moves) l.passed l.steps;
+  words : l.walk.config.words ≡ l.origin.program.now.layout;
+  rest : RestStands (formula l.origin.program.now.spec.rely) l.origin.limit (map move l.moves) l.passed l.walk (drop l.step-index l.steps)
+      → MovesStand (formula l.origin.program.now.spec.rely) l.origin.limit (first_place l.origin.program.now.layout (code_blocks l.origin.code.now) l.origin.start.now.values) 1 (map move l.moves) l.passed l.steps;
 }

@@ -9,6 +9,6 @@ use Rattle.rg_pool.proofs.proving.settle.Given as goal
 -- the conditions so far are proved, and so true
 abbrev pub invariant-loop-index : goal.invariant-loop-index
 invariant-loop-index g l = record {
-  proved : (i : ℕ) → i < l.index → IsProvedAt (map text_of l.sections) l.before (map condition_tree l.conditions) i;
-  hold : (i : ℕ) → i < l.index → (d : ConditionTree) → ConditionHolds (slice_index_or (map condition_tree l.conditions) i d);
+  proved : (i : ℕ) → i < l.index → IsProvedAt (map text_of l.part.sections.now) l.part.before (map condition_tree l.part.conditions.now) i;
+  hold : (i : ℕ) → i < l.index → (d : ConditionTree) → ConditionHolds (slice_index_or (map condition_tree l.part.conditions.now) i d);
 }

@@ -11,5 +11,5 @@ ghosts-tries-L-Round g a = record {
   program = program (g.E.Checked.program_of a.checked.now);
   code = code_blocks (g.E.Checked.code_of a.checked.now);
   start = a.first.values;
-  limit = a.limit;
+  limit = a.trial.now.limit;
 }

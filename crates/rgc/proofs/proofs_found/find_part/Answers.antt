@@ -11,7 +11,7 @@ pub returns-in-Err-clause-refused : goal.returns-in-Err-clause-refused
 returns-in-Err-clause-refused g c =
     let asked = conditions_of (derived_program c.args.derived.now) (derived_lines c.args.derived.now) in
     let count : c.len-count.result ≡ length c.in_ok-conditions.conditions.items = omega (arith, c.len-count.ensures, c.in_ok-conditions.conditions.ok.0) in
-    range_refused c.in_ok-conditions.conditions.items asked c.args.first c.args.last c.args.steps c.len-count.result c.in-Err.refusal c.in_ok-conditions.ensures.list count (λ range. absurd (cc (c.in-Err.ensures.accepts range))) c.in-Err.ensures.refused
+    range_refused c.in_ok-conditions.conditions.items asked c.args.first c.args.last c.args.settings.now.steps c.len-count.result c.in-Err.refusal c.in_ok-conditions.ensures.list count (λ range. absurd (cc (c.in-Err.ensures.accepts range))) c.in-Err.ensures.refused
 
 pub returns-in-Err-search_in-clause-refused : goal.returns-in-Err-search_in-clause-refused
 returns-in-Err-search_in-clause-refused g c =
@@ -21,7 +21,7 @@ returns-in-Err-search_in-clause-refused g c =
     let same : map condition_tree c.as_slice-all.result.now ≡ asked = ap (λ (xs : List Condition). map condition_tree xs) c.as_slice-all.ensures.value ∙ c.in_ok-conditions.ensures.list in
     let range = c.in-Ok.ensures.range in
     let first : c.args.first - 1 + 1 ≡ c.args.first = omega (arith, range.low) in
-    part_unsought c.as_slice-all.result.now asked c.args.first c.args.last c.args.steps (c.args.first - 1) c.in-Err-search_in.refusal same first
+    part_unsought c.as_slice-all.result.now asked c.args.first c.args.last c.args.settings.now.steps (c.args.first - 1) c.in-Err-search_in.refusal same first
     (range_same items c.as_slice-all.result.now asked c.args.first c.args.last c.len-count.result c.in_ok-conditions.ensures.list c.as_slice-all.ensures.value range count)
     c.in-Err-search_in.ensures.refused
 

@@ -1,10 +1,15 @@
-use Rattle.std.proofs.Common.{◌≡◌, ◌∙◌, List, ap, map}
+use Rattle.std.proofs.Common.{◌≡◌, ◌∙◌, List, ap, map, subst}
 use Rattle.rg_tree.specs.declared.condition.Condition.{Condition}
 use Rattle.rg_tree.specs.Conditions.{condition_tree}
+use Rattle.rg_tree.specs.RuleConditions.{AllConditionsHold}
 use Rattle.rg_accept.specs.Accepted.{conditions_of}
 use Rattle.rg_accept.specs.Stages.{derived_program, derived_lines}
 use Rattle.rgc.proofs.Search.{all_refused, found_refused}
 use Rattle.rgc.proofs.proofs_found.find_proofs.Goals as goal
+
+pub returns-in-Ok-prove_all-clause-satisfied : goal.returns-in-Ok-prove_all-clause-satisfied
+returns-in-Ok-prove_all-clause-satisfied g c =
+    c.in_ok-conditions.ensures.sound (subst (λ (xs : List Condition). AllConditionsHold (map condition_tree xs)) c.as_slice-all.ensures.value c.in-Ok-prove_all.ensures.holds)
 
 pub returns-in-Err-clause-refused : goal.returns-in-Err-clause-refused
 returns-in-Err-clause-refused g c =

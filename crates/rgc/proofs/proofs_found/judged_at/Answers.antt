@@ -12,4 +12,4 @@ returns-in-Some-clause-answer g c =
     let small : index < length known = search rules in
     let some : c.index-known-index.result ≡ Some c.in-Some.sought = search rules in
     let is : slice_index_or known index None ≡ Some c.in-Some.sought = get_or_default known index None c.index-known-index.result small ∙ sym c.index-known-index.is ∙ some in
-    known_answer (map condition_tree c.args.conditions.now) c.args.from c.args.place c.args.steps known c.in-Some.sought c.requires.from small c.requires.known is
+    known_answer (map condition_tree c.args.conditions.now) c.args.from c.args.place c.args.settings.now.steps known c.in-Some.sought c.requires.from small c.requires.known is

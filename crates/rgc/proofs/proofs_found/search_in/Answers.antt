@@ -18,4 +18,4 @@ loop-place-preserved g c =
     }
 
 pub returns-in-Err-clause-refused : goal.returns-in-Err-clause-refused
-returns-in-Err-clause-refused g c = inr (first_unjudged (map condition_tree c.args.conditions.now) (c.args.from + 1) (c.loop-place.place + 1) c.args.steps c.in-Err.refusal c.loop-place.invariant.keep c.in-Err.ensures.answer)
+returns-in-Err-clause-refused g c = inr (first_unjudged (map condition_tree c.args.conditions.now) (c.args.from + 1) (c.loop-place.place + 1) c.args.settings.now.steps c.in-Err.refusal c.loop-place.invariant.keep c.in-Err.ensures.answer)

@@ -9,6 +9,6 @@ abbrev pub invariant-loop-place : goal.invariant-loop-place
 invariant-loop-place g l = record {
   reported : All (IsUnproved (map condition_tree l.conditions)) l.found.unproved.items;
   others : AreReportedOrHold (map condition_tree l.conditions) (l.from + 1) (l.place + 1) l.found.unproved.items;
-  known : AreSought (map condition_tree l.conditions) l.from l.steps l.reported;
+  known : AreSought (map condition_tree l.conditions) l.from l.settings.steps l.reported;
   keep : KeepLimit (map condition_tree l.conditions) (l.from + 1) (l.place + 1);
 }

@@ -1,4 +1,4 @@
-use Rattle.std.proofs.Common.{None, Some, inl}
+use Rattle.std.proofs.Common.{None, inl}
 use Rattle.std.proofs.lemmas.Result.{err_from_is_err_and}
 use Rattle.rgc_line.specs.declared.command.Command.TheVariants.{Emit}
 use Rattle.rgc_commands.proofs.Stopping.{device_stops}

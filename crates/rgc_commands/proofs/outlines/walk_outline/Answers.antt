@@ -1,5 +1,5 @@
 use Rattle.std.proofs.Common.{None, true, inr}
-use Rattle.std.proofs.lemmas.Result.{err_from_is_err_and, on_ok_weaker}
+use Rattle.std.proofs.lemmas.Result.{err_from_is_err_and}
 use Rattle.rgc_line.specs.declared.command.Command.TheVariants.{Verify}
 use Rattle.rgc_outlines.specs.Refused.{IsSomeTextRefusal}
 use Rattle.rgc_commands.proofs.PerformStopping.{device_stops, not_done_stops, reported_stops}

@@ -4,7 +4,8 @@ use Rattle.rg_words.proofs.Cuts.{refused_stops, stops_weaker}
 use Rattle.rg_accept.specs.Stages.{derived_program, derived_lines}
 use Rattle.rgc.specs.Proofs.{AreFoundFor}
 use Rattle.rgc.specs.declared.proofs_found.ProofsFound.{ProofsFound}
-use Rattle.rgc_outlines.specs.RunStopped.{IsProvedRunRefusal, IsSomeRunRefusal}
+use Rattle.rgc_outlines.specs.Inner.OutlinedProved.{IsProvedRunRefusal}
+use Rattle.rgc_outlines.specs.RunStopped.{IsSomeRunRefusal}
 use Rattle.rgc_outlines.proofs.RunStops.{proved_refused}
 use Rattle.rgc_outlines.proofs.run.run_outlined.Goals as goal
 

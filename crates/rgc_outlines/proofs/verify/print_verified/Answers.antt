@@ -1,11 +1,12 @@
-use Rattle.std.proofs.Common.{inl, inr, subst}
+use Rattle.std.proofs.Common.{List, ℕ, inl, inr, subst, sym}
 use Rattle.std.proofs.lemmas.Result.{err_from_is_err_and}
 use Rattle.rg_words.proofs.Cuts.{refused_stops}
+use Rattle.rg_hints.specs.Proved.{AreProved}
+use Rattle.rg_accept.specs.Accepted.{conditions_of}
 use Rattle.rg_accept.specs.Stages.{derived_program, derived_lines}
-use Rattle.rgc.specs.Proofs.{AreFoundFor}
+use Rattle.rgc.specs.Proofs.{AreFoundFor, IsSatisfiedWhere}
 use Rattle.rgc.specs.declared.proofs_found.ProofsFound.{ProofsFound}
 use Rattle.rgc_outlines.specs.Refused.{IsVerifyRefusal}
-use Rattle.rgc_outlines.proofs.Stops.{proofs_stop}
 use Rattle.rgc_outlines.proofs.verify.print_verified.Goals as goal
 
 pub returns-in-Proofs-clause-printed : goal.returns-in-Proofs-clause-printed
@@ -28,6 +29,17 @@ returns-in-Proofs-clause-printed g c = λ _.
       found = counts.found;
       printed = counts.printed;
     }
+
+pub print_counts-requires-clause-proved : goal.print_counts-requires-clause-proved
+print_counts-requires-clause-proved g c =
+    let program = derived_program c.in_ok-derived.derived in
+    let lines = derived_lines c.in_ok-derived.derived in
+    subst (λ (bytes : List ℕ). AreProved (conditions_of program lines) bytes) (sym c.as_bytes.ensures.value)
+    (subst (λ (found : ProofsFound). AreFoundFor program lines found) c.in-Proofs.is c.in_ok-proofs.ensures.found)
+
+pub print_counts-requires-clause-satisfied : goal.print_counts-requires-clause-satisfied
+print_counts-requires-clause-satisfied g c =
+    subst (λ (found : ProofsFound). IsSatisfiedWhere (derived_program c.in_ok-derived.derived) found) c.in-Proofs.is c.in_ok-proofs.ensures.satisfied
 
 pub returns-clause-unproved : goal.returns-clause-unproved
 returns-clause-unproved g c =
@@ -56,6 +68,4 @@ returns-in_err-proofs-clause-stopped g c =
 pub returns-in_err-print_counts-in-Proofs-clause-stopped : goal.returns-in_err-print_counts-in-Proofs-clause-stopped
 returns-in_err-print_counts-in-Proofs-clause-stopped g c =
     let p = err_from_is_err_and c.from_residual-in_err-print_counts-in-Proofs.result c.from_residual-in_err-print_counts-in-Proofs.ensures.1 in
-    let files = c.args.files.now in
-    let derived = c.in_ok-derived.derived in
-    rw (p.1, p.2) (proofs_stop files.text.items files.derivation.items c.args.steps (derived_program derived) (derived_lines derived) c.as_bytes.result.now _ _ _ _ _ c.in_ok-derived.ensures.derived c.in_err-print_counts-in-Proofs.ensures.stopped)
+    rw (p.1, p.2) (inr c.in_err-print_counts-in-Proofs.ensures.stopped)
