@@ -130,6 +130,8 @@ pub struct Specification {
     pub rely: usize,
     pub guar: usize,
     pub post: usize,
+    /// The `guar` items, each by itself: a list of `clauses`.
+    pub promised: List,
 }
 
 /// A line of the derivation, and the statement at which it is reported.
@@ -264,6 +266,7 @@ impl<'a> Expansion<'a> {
                 rely: 0,
                 guar: 0,
                 post: 0,
+                promised: List::EMPTY,
             },
             statements: Vec::new(alloc),
             blocks: Vec::new(alloc),

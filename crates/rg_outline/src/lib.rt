@@ -19,7 +19,7 @@ pub use expansion::{
 pub use print::{middle, push_flat};
 use rg_outline_syntax::Fault;
 pub use rg_tree::line::Rule;
-pub use text::{push_text, push_unmet};
+pub use text::{push_question, push_text};
 
 /// Works out the whole outline. An expansion is worked out once. After the first fault nothing more is worked out; what is known is to be read and
 /// checked as any text is.

@@ -1,6 +1,6 @@
 //! The formulas of the program and of its parts.
 
-use crate::expansion::{Expansion, NOWHERE, OutlinePart, Specification, add};
+use crate::expansion::{Expansion, NOWHERE, OutlinePart, Specification, add, add_all};
 use rg_outline_syntax::{Clause, Head, HeadKind, List, MeaningFault};
 
 /// A clause of the program, with its tree.
@@ -24,6 +24,7 @@ impl Expansion<'_> {
             pre: self.conjoined_of(&clauses, Clause::Pre),
             guar: self.conjoined_of(&clauses, Clause::Guar),
             post: self.conjoined_of(&clauses, Clause::Post),
+            promised: self.kept_of(&clauses, Clause::Guar),
             rely: if has_clause(&clauses, Clause::Rely) {
                 self.conjoined_of(&clauses, Clause::Rely)
             } else {
@@ -48,15 +49,27 @@ impl Expansion<'_> {
         add(&mut self.scope, clauses, ProgramClause { clause, tree });
     }
 
-    /// The clauses of a kind, together.
-    fn conjoined_of(&mut self, clauses: &[ProgramClause], kind: Clause) -> usize {
+    /// The trees of the clauses of a kind.
+    fn trees_of(&mut self, clauses: &[ProgramClause], kind: Clause) -> Vec<usize> {
         let mut trees = Vec::new(self.scope.alloc);
         for given in clauses {
             if given.clause == kind {
                 add(&mut self.scope, &mut trees, given.tree);
             }
         }
+        trees
+    }
+
+    /// The clauses of a kind, together.
+    fn conjoined_of(&mut self, clauses: &[ProgramClause], kind: Clause) -> usize {
+        let trees = self.trees_of(clauses, kind);
         self.conjoined(&trees, NOWHERE)
+    }
+
+    /// The clauses of a kind, each by itself.
+    fn kept_of(&mut self, clauses: &[ProgramClause], kind: Clause) -> List {
+        let trees = self.trees_of(clauses, kind);
+        add_all(&mut self.scope, &mut self.clauses, &trees)
     }
 
     /// Works out what each part relies on and promises.

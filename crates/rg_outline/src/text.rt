@@ -27,16 +27,22 @@ pub fn push_text(expansion: &Expansion<'_>, text: &mut Vec<u8>) -> Result<(), Fa
     Ok(())
 }
 
-/// Adds a text to show, as `rg_parse::show` reads it: that no state meets the program's pre.
+/// Adds a text to show, as `rg_parse::show` reads it: that a formula is true in all states, or, where it is denied, that it is false in all of them.
 ///
 /// # Errors
 ///
 /// - `MeaningFault::TooLarge` where it has more than `MOST_TEXT_BYTES` bytes.
 /// - `FaultKind::Memory`.
-pub fn push_unmet(expansion: &Expansion<'_>, text: &mut Vec<u8>) -> Result<(), Fault> {
+pub fn push_question(
+    expansion: &Expansion<'_>,
+    text: &mut Vec<u8>,
+    formula: usize,
+    is_denied: bool,
+) -> Result<(), Fault> {
     expansion.push_declarations(text)?;
-    text.extend_from_slice(b"show not ")?;
-    expansion.push_tree(text, expansion.specification.pre, 9)?;
+    let show: &[u8] = if is_denied { b"show not " } else { b"show " };
+    text.extend_from_slice(show)?;
+    expansion.push_tree(text, formula, show.len())?;
     text.push(b'\n')?;
     if text.len() > MOST_TEXT_BYTES {
         return Err(too_large());

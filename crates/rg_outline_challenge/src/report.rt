@@ -15,9 +15,7 @@ pub struct Counts {
     pub surviving: usize,
     /// A run of it breaks the specification.
     pub breaking: usize,
-    /// A condition fails, and no run was found that breaks the specification.
-    pub unfitting: usize,
-    /// No proof was found within the steps, and no run that breaks the specification.
+    /// It is neither proved, nor was a run found that breaks the specification.
     pub undecided: usize,
 }
 
@@ -164,14 +162,9 @@ pub fn push_survivors(
 pub fn push_counts(text: &mut Vec<u8>, counts: Counts) -> Result<(), AllocError> {
     push_text(text, "of the changed programs ")?;
     push_count(text, counts.breaking as u64)?;
-    push_text(text, " break the specification, for ")?;
-    push_count(text, counts.unfitting as u64)?;
-    push_text(text, " only the assertions don't fit, ")?;
-    if counts.undecided > 0 {
-        push_count(text, counts.undecided as u64)?;
-        push_text(text, " are undecided within the steps, ")?;
-    }
-    push_text(text, "and ")?;
+    push_text(text, " break the specification, ")?;
+    push_count(text, counts.undecided as u64)?;
+    push_text(text, " are undecided, and ")?;
     push_count(text, counts.surviving as u64)?;
     push_text(text, " are proved all the same\n")
 }

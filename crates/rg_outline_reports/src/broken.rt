@@ -48,6 +48,43 @@ pub(crate) fn broken_by(
     }
 }
 
+/// What a run breaks.
+#[derive(Clone, Copy, PartialEq, Eq)]
+pub(crate) enum Breaks {
+    /// The program's guar or post.
+    Specification,
+    /// The invariant, and not the specification.
+    Invariant,
+    /// What a part promises to the others or by its own guar, and neither the specification nor the invariant.
+    Part,
+}
+
+/// What a run breaks, after whose last step the words have these values.
+fn breaks_at(
+    expansion: &Expansion<'_>,
+    run: &BreakingRun,
+    after: &[u64],
+) -> Result<Breaks, AllocError> {
+    let invariant = expansion.specification.invariant;
+    match run.broken {
+        Broken::Guarantee | Broken::Post => Ok(Breaks::Specification),
+        Broken::OwnGuarantee if is_true(expansion, invariant, Moment::at(after))? => {
+            Ok(Breaks::Part)
+        }
+        Broken::OwnGuarantee => Ok(Breaks::Invariant),
+    }
+}
+
+/// What a run breaks.
+pub(crate) fn breaks_of(
+    expansion: &Expansion<'_>,
+    run: &BreakingRun,
+) -> Result<Breaks, AllocError> {
+    let last = run.steps.last().map_or(&run.start, |step| &step.after);
+    let after = values_of(expansion.scope.alloc, last)?;
+    breaks_at(expansion, run, &after)
+}
+
 /// The formula that a run breaks, whose it is, and the states in which it is false: the run's last step, or the state after that.
 fn due_of<'m>(
     expansion: &Expansion<'_>,
@@ -56,13 +93,13 @@ fn due_of<'m>(
 ) -> Result<(usize, Owner, Moment<'m>), AllocError> {
     let state = Moment::at(step.after);
     let specification = expansion.specification;
-    match run.broken {
-        Broken::Guarantee => Ok((specification.guar, Owner::Program, step)),
-        Broken::Post => Ok((specification.post, Owner::Program, state)),
-        Broken::OwnGuarantee if !is_true(expansion, specification.invariant, state)? => {
-            Ok((specification.invariant, Owner::Invariant, state))
-        }
-        Broken::OwnGuarantee => {
+    match breaks_at(expansion, run, step.after)? {
+        Breaks::Specification => match run.broken {
+            Broken::Post => Ok((specification.post, Owner::Program, state)),
+            _ => Ok((specification.guar, Owner::Program, step)),
+        },
+        Breaks::Invariant => Ok((specification.invariant, Owner::Invariant, state)),
+        Breaks::Part => {
             let who = run.steps.last().map_or(0, |step| step.who);
             let (formula, owner) = broken_by(expansion, who.saturating_sub(1), step)?;
             Ok((formula, owner, step))

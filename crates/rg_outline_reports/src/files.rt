@@ -12,8 +12,6 @@ pub struct OutlineFiles {
     pub derivation: Vec<u8>,
     /// The places of the derivation at which a further piece of it begins: a piece is whole lines, as many as fit into a file.
     pub cuts: Vec<usize>,
-    /// A formula to show that says that no state meets the program's pre.
-    pub unmet: Vec<u8>,
 }
 
 /// What the words and the statements of the text are in the outline.

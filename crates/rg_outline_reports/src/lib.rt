@@ -2,20 +2,25 @@
 //! cause once and in the outline's own words, and the runs of its program; as lines or as JSON.
 #![tactic(auto)]
 
+mod always;
 mod asked;
 mod broken;
+mod empty;
 mod failures;
 mod falsity;
 mod faults;
 mod files;
+mod greatest;
 mod json;
 mod lines;
+mod loads;
 mod made;
 mod map;
 mod names;
 mod outlined;
 mod places;
 mod promises;
+mod questions;
 mod relies;
 mod reports;
 mod run;
@@ -26,12 +31,16 @@ mod show;
 mod steady;
 mod step;
 mod subject;
+mod sums;
+mod tests_asked;
 mod values;
 mod warnings;
 mod words;
+mod written;
 
 pub use failures::{Failed, Failing};
 pub use files::{Failures, Format, NoFiles, OutlineFiles, OutlineSource, Places};
 pub use outlined::{Outlined, ReadOutline, read_outline};
+pub use questions::{Asks, Question};
 pub use reports::Claim;
 pub use values::values_of;

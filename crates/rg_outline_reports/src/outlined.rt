@@ -5,11 +5,12 @@ use crate::faults::{printable, refused_expansion, refused_source};
 use crate::files::{Failures, Format, NoFiles, OutlineFiles, OutlineSource, Places};
 use crate::lines::push_reports;
 use crate::map::push_conditions;
+use crate::questions::{Asks, Question, questions_of};
 use crate::reports::Reports;
 use crate::run::{push_run, push_walked};
 use crate::subject::{Subject, line_of};
 use crate::warnings::report_warnings;
-use rg_outline::{Expansion, push_derivation, push_map, push_text, push_unmet, work_out};
+use rg_outline::{Expansion, push_derivation, push_map, push_text, work_out};
 use rg_outline_syntax::{Fault, Tokens, Written, parse};
 use rg_walk::{BreakingRun, Walked};
 use std::alloc::{AllocError, Global};
@@ -44,7 +45,8 @@ pub fn read_outline(alloc: Global, outline: OutlineSource<'_>) -> Result<ReadOut
 /// An outline that was worked out, with the files that it stands for.
 #[derive(Drop)]
 pub struct Outlined<'a> {
-    outline: OutlineSource<'a>,
+    pub outline: OutlineSource<'a>,
+    pub read: &'a ReadOutline,
     expansion: Expansion<'a>,
     pub files: OutlineFiles,
 }
@@ -64,12 +66,12 @@ impl<'a> Outlined<'a> {
     ) -> Result<Outlined<'a>, NoFiles> {
         let mut outlined = Outlined {
             outline,
+            read,
             expansion: Expansion::new(alloc, outline.source, &read.written),
             files: OutlineFiles {
                 text: Vec::new(alloc),
                 derivation: Vec::new(alloc),
                 cuts: Vec::new(alloc),
-                unmet: Vec::new(alloc),
             },
         };
         match outlined.work_out() {
@@ -89,8 +91,7 @@ impl<'a> Outlined<'a> {
         work_out(&mut self.expansion)?;
         let (expansion, files) = (&self.expansion, &mut self.files);
         push_text(expansion, &mut files.text)?;
-        push_derivation(expansion, &mut files.derivation, &mut files.cuts)?;
-        push_unmet(expansion, &mut files.unmet)
+        push_derivation(expansion, &mut files.derivation, &mut files.cuts)
     }
 
     /// The outline with the names that reports may give.
@@ -156,11 +157,17 @@ impl<'a> Outlined<'a> {
         })
     }
 
-    /// The warnings; nothing where there are none. Whether no state meets the program's pre is said by who calls, since it takes a search.
+    /// What a search is asked for the warnings.
     /// An error comes only where memory is refused.
-    pub fn warnings(&self, is_unmet: bool) -> Result<Vec<u8>, AllocError> {
+    pub fn questions(&self) -> Result<Vec<Question>, AllocError> {
+        questions_of(&self.expansion)
+    }
+
+    /// The warnings; nothing where there are none. `shown` are the questions to which a search answered yes.
+    /// An error comes only where memory is refused.
+    pub fn warnings(&self, shown: &[Asks]) -> Result<Vec<u8>, AllocError> {
         let mut reports = Reports::new(self.expansion.scope.alloc);
-        report_warnings(&self.expansion, is_unmet, &mut reports)?;
+        report_warnings(&self.expansion, shown, &mut reports)?;
         let mut lines = Vec::new(self.expansion.scope.alloc);
         push_reports(&mut lines, self.outline.format, &reports, self.subject())?;
         self.printed(lines)

@@ -34,7 +34,15 @@ pub(crate) enum Warning {
     AuxiliaryAlone,
     /// A rely that allows no change, although others have steps.
     NoChange,
-    /// A step or a test outside `atomic` that uses several words which others use.
+    /// A promise that is true in all states.
+    PromisesNothing,
+    /// A quantifier or a sum in a promise, over no number.
+    EmptyRange,
+    /// A sum that can be greater than its width allows.
+    SumWraps,
+    /// A test that is always true or always false.
+    AsksNothing,
+    /// A step or a test outside `atomic` that uses words several times which others use.
     SharedWords,
     /// A name or a word that nothing uses.
     Unused,

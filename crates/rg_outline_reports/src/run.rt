@@ -1,6 +1,6 @@
 //! What a walk of an outline's text found: a run, one line for each step, or how far was looked.
 
-use crate::broken::details_of;
+use crate::broken::{Breaks, breaks_of, details_of};
 use crate::files::{Format, OutlineSource};
 use crate::lines::{push_details, push_value};
 use crate::places::statement_at;
@@ -137,6 +137,16 @@ fn push_steps(
     Ok(())
 }
 
+/// Adds the part that makes the last step of a run.
+fn push_last_part(
+    expansion: &Expansion<'_>,
+    text: &mut Vec<u8>,
+    run: &BreakingRun,
+) -> Result<(), AllocError> {
+    let who = run.steps.last().map_or(0, |step| step.who);
+    text.extend_from_slice(expansion.part_names.at(who.saturating_sub(1)))
+}
+
 /// Adds what a run breaks.
 pub(crate) fn push_broken(
     expansion: &Expansion<'_>,
@@ -149,8 +159,7 @@ pub(crate) fn push_broken(
         }
         Broken::OwnGuarantee => {
             text.extend_from_slice(b"the last step is outside what ")?;
-            let who = run.steps.last().map_or(0, |step| step.who);
-            text.extend_from_slice(expansion.part_names.at(who.saturating_sub(1)))?;
+            push_last_part(expansion, text, run)?;
             text.extend_from_slice(
                 b" promises: the invariant, what others rely on, or its own guar",
             )
@@ -161,14 +170,34 @@ pub(crate) fn push_broken(
     }
 }
 
-/// Adds a run that breaks the specification, one line for each step: who makes it, the line and the statement, and the words that it changes;
-/// and then what is broken, with its first conjunct that is false and where that stands.
+/// Adds the head of a run: what it breaks.
+fn push_head(
+    expansion: &Expansion<'_>,
+    text: &mut Vec<u8>,
+    run: &BreakingRun,
+) -> Result<(), AllocError> {
+    match breaks_of(expansion, run)? {
+        Breaks::Specification => text.extend_from_slice(b"this run breaks it:\n"),
+        Breaks::Invariant => {
+            text.extend_from_slice(b"your invariant isn't one: this run leaves it:\n")
+        }
+        Breaks::Part => {
+            text.extend_from_slice(b"this run breaks a promise of ")?;
+            push_last_part(expansion, text, run)?;
+            text.extend_from_slice(b", and none of the program:\n")
+        }
+    }
+}
+
+/// Adds a run that breaks the specification, the invariant or what a part promises, one line for each step: who makes it, the line and the statement,
+/// and the words that it changes; and then what is broken, with its first conjunct that is false and where that stands.
 pub(crate) fn push_run(
     expansion: &Expansion<'_>,
     text: &mut Vec<u8>,
     run: &BreakingRun,
 ) -> Result<(), AllocError> {
-    text.extend_from_slice(b"this run breaks it:\n    start: ")?;
+    push_head(expansion, text, run)?;
+    text.extend_from_slice(b"    start: ")?;
     push_start(expansion, text, &run.start)?;
     text.push(b'\n')?;
     push_steps(expansion, text, run)?;
@@ -176,6 +205,31 @@ pub(crate) fn push_run(
     push_broken(expansion, text, run)?;
     text.push(b'\n')?;
     push_details(text, &details_of(expansion, run)?)
+}
+
+/// Adds a count, and what is counted: one, or several.
+fn push_counted(
+    text: &mut Vec<u8>,
+    count: u64,
+    one: &[u8],
+    several: &[u8],
+) -> Result<(), AllocError> {
+    push_count(text, count)?;
+    text.extend_from_slice(if count == 1 { one } else { several })
+}
+
+/// Adds which of the starts, and of the steps of the environment, were not tried.
+fn push_not_tried(text: &mut Vec<u8>, unbroken: Unbroken) -> Result<(), AllocError> {
+    if !unbroken.are_all_starts {
+        text.extend_from_slice(b"; ")?;
+        let one = b" of the states in the pre was tried as a start";
+        let several = b" of the states in the pre were tried as starts";
+        push_counted(text, unbroken.starts, one, several)?;
+    }
+    if unbroken.is_without_others {
+        text.extend_from_slice(b"; not all steps of the environment were tried")?;
+    }
+    Ok(())
 }
 
 /// Adds that no run was found that breaks the specification, and how far was looked.
@@ -186,14 +240,10 @@ fn push_not_found(text: &mut Vec<u8>, unbroken: Unbroken) -> Result<(), AllocErr
         b"no run that breaks it was found within "
     };
     text.extend_from_slice(said)?;
-    push_count(text, unbroken.steps)?;
-    text.extend_from_slice(b" step")?;
-    if unbroken.steps != 1 {
-        text.push(b's')?;
-    }
-    if unbroken.is_without_others && !unbroken.is_all {
-        text.extend_from_slice(b"; steps of the environment were not tried")?;
-    }
+    push_counted(text, unbroken.steps, b" step, ", b" steps, ")?;
+    push_counted(text, unbroken.states, b" state, depth ", b" states, depth ")?;
+    push_count(text, unbroken.depth)?;
+    push_not_tried(text, unbroken)?;
     text.push(b'\n')?;
     Ok(())
 }

@@ -1,6 +1,6 @@
 //! A run as JSON, one value in a line.
 
-use crate::broken::details_of;
+use crate::broken::{Breaks, breaks_of, details_of};
 use crate::json::put_details;
 use crate::made::{JsonList, JsonObject, push_json_line, text_value};
 use crate::run::{push_broken, push_start, push_step};
@@ -23,8 +23,18 @@ fn steps_value(expansion: &Expansion<'_>, run: &BreakingRun) -> Result<Value, Al
     list.value()
 }
 
-/// Adds a run that breaks the specification, as one JSON value in a line of its own: its steps are those of `push_run`, all of them; then what is
-/// broken, with its first conjunct that is false, the premises that hold, and what it stands within.
+/// What a run breaks, in one word.
+fn breaks_word(breaks: Breaks) -> &'static [u8] {
+    match breaks {
+        Breaks::Specification => b"specification",
+        Breaks::Invariant => b"invariant",
+        Breaks::Part => b"part",
+    }
+}
+
+/// Adds a run that breaks the specification, the invariant or what a part promises, as one JSON value in a line of its own: which of these, and its
+/// steps, which are those of `push_run`, all of them; then what is broken, with its first conjunct that is false, the premises that hold, and what it
+/// stands within.
 ///
 /// # Errors
 ///
@@ -40,10 +50,12 @@ pub(crate) fn push_json_of_run(
     push_start(expansion, &mut start, &run.start)?;
     let mut broken = Vec::new(alloc);
     push_broken(expansion, &mut broken, run)?;
+    let breaks = breaks_of(expansion, run)?;
     let details = details_of(expansion, run)?;
     let mut object = JsonObject::new(alloc);
     object.put_text("kind", b"run");
     object.put_text("file", file);
+    object.put_text("breaks", breaks_word(breaks));
     object.put_text("start", &start);
     object.put("steps", steps_value(expansion, run));
     object.put_text("broken", &broken);
@@ -66,6 +78,10 @@ pub(crate) fn push_json_of_not_found(
     object.put_text("kind", b"no-run");
     object.put_text("file", file);
     object.put_count("steps", unbroken.steps);
+    object.put_count("states", unbroken.states);
+    object.put_count("depth", unbroken.depth);
+    object.put_count("starts", unbroken.starts);
+    object.put_flag("all_starts", unbroken.are_all_starts);
     object.put_flag("all", unbroken.is_all);
     object.put_flag("without_others", unbroken.is_without_others);
     push_json_line(text, alloc, object.value())

@@ -1,5 +1,6 @@
-//! Warnings of steps that use several shared words at once.
+//! Warnings of steps that use shared words several times at once.
 
+use crate::loads::Loads;
 use crate::promises::{auxiliary_bits, push_words};
 use crate::reports::{Reports, Warning};
 use crate::warnings::warn;
@@ -49,29 +50,71 @@ fn is_plain(line: Line) -> bool {
     matches!(line.rule, Rule::Basic | Rule::If | Rule::Loop)
 }
 
-/// Reports a statement that uses several words at once which others use.
+/// Which shared words a statement loads, and which it stores to, as bits.
+fn accesses_of(
+    expansion: &Expansion<'_>,
+    statement: Statement,
+    loads: &Loads,
+    others: Uses,
+) -> Uses {
+    let mut read = loads.tree(expansion, statement.test);
+    for update in expansion.updates_of(statement.updates) {
+        read |= loads.tree(expansion, update.value);
+    }
+    let own = uses_of(expansion, statement);
+    let shared = (others.assigned | others.read) & !auxiliary_bits(expansion);
+    Uses {
+        read,
+        assigned: own.assigned & shared,
+    }
+}
+
+/// What is said of a statement that uses these shared words in one step.
+fn sentence_of(
+    expansion: &Expansion<'_>,
+    action: Action,
+    shared: u64,
+) -> Result<Vec<u8>, AllocError> {
+    let mut sentence = Vec::new(expansion.scope.alloc);
+    let (start, end): (&[u8], &[u8]) = if shared.count_ones() < 2 {
+        (
+            b"this assignment reads and writes the shared word ",
+            b" in one step",
+        )
+    } else if action == Action::Assign {
+        (
+            b"this assignment uses several shared words in one step (",
+            b")",
+        )
+    } else {
+        (b"this test reads several shared words in one step (", b")")
+    };
+    sentence.extend_from_slice(start)?;
+    push_words(expansion, &mut sentence, shared)?;
+    sentence.extend_from_slice(end)?;
+    sentence.extend_from_slice(b": a machine does so only where it is made atomic")?;
+    Ok(sentence)
+}
+
+/// Reports a statement that loads and stores several times at once what others use.
 fn report_statement(
     expansion: &Expansion<'_>,
     reports: &mut Reports,
     line: Line,
+    loads: &Loads,
     others: Uses,
 ) -> Result<(), AllocError> {
     let statement = expansion.statement(line.statement);
-    let own = uses_of(expansion, statement);
-    let shared = (own.read & others.assigned) | (own.assigned & (others.assigned | others.read));
-    let shared = shared & !auxiliary_bits(expansion);
-    if shared.count_ones() < 2 {
+    let own = accesses_of(expansion, statement, loads, others);
+    let count = own
+        .read
+        .count_ones()
+        .saturating_add(own.assigned.count_ones());
+    if count < 2 {
         return Ok(());
     }
-    let mut sentence = Vec::new(expansion.scope.alloc);
-    let start: &[u8] = if statement.action == Action::Assign {
-        b"this assignment uses several shared words in one step ("
-    } else {
-        b"this test reads several shared words in one step ("
-    };
-    sentence.extend_from_slice(start)?;
-    push_words(expansion, &mut sentence, shared)?;
-    sentence.extend_from_slice(b"): a machine does so only where it is made atomic")?;
+    let shared = own.read | own.assigned;
+    let sentence = sentence_of(expansion, statement.action, shared)?;
     warn(
         reports,
         Warning::SharedWords,
@@ -81,17 +124,18 @@ fn report_statement(
     )
 }
 
-/// Reports each step outside `atomic`, and of each test, that uses several words at once which other parts use: reads some that others assign,
-/// or assigns one that others read or assign. Auxiliary words don't count.
+/// Reports each step outside `atomic`, and each test, that needs several accesses to words that other parts use: loads of words that others assign,
+/// and a store to one that others read or assign. Of a choice one branch is loaded. Auxiliary words don't count.
 pub(crate) fn report_shared(
     expansion: &Expansion<'_>,
     reports: &mut Reports,
 ) -> Result<(), AllocError> {
     for part in 0..expansion.parts.len() {
         let others = uses_of_others(expansion, part);
+        let loads = Loads::of(expansion, others.assigned & !auxiliary_bits(expansion))?;
         for line in &expansion.lines {
             if line.part == part && is_plain(*line) {
-                report_statement(expansion, reports, *line, others)?;
+                report_statement(expansion, reports, *line, &loads, others)?;
             }
         }
     }

@@ -1,10 +1,14 @@
 //! All warnings of an outline.
 
+use crate::always::report_empty_promises;
 use crate::names::report_unused;
 use crate::promises::{report_auxiliary_alone, report_post};
+use crate::questions::Asks;
 use crate::relies::report_relies;
 use crate::reports::{Cause, Key, Reports, Warning};
 use crate::shared::report_shared;
+use crate::sums::report_sums;
+use crate::tests_asked::report_tests;
 use rg_outline::Expansion;
 use rg_outline_syntax::{Clause, HeadKind, Span};
 use std::alloc::AllocError;
@@ -41,19 +45,24 @@ pub(crate) fn clause_span(expansion: &Expansion<'_>, clause: Clause) -> Option<S
     None
 }
 
-/// Reports all warnings of an outline that was worked out. Whether no state meets the program's pre is said by who calls, since it takes a search.
+/// Reports all warnings of an outline that was worked out. `shown` are the questions to which the answer is yes: that takes a search, so who calls
+/// says it.
 pub(crate) fn report_warnings(
     expansion: &Expansion<'_>,
-    is_unmet: bool,
+    shown: &[Asks],
     reports: &mut Reports,
 ) -> Result<(), AllocError> {
+    let is_unmet = shown.iter().any(|asks| *asks == Asks::PreUnmet);
     if is_unmet && let Some(place) = clause_span(expansion, Clause::Pre) {
         let said = b"no state meets the pre, so nothing is proved of any run";
         warn(reports, Warning::PreUnmet, place, None, said)?;
     }
+    report_empty_promises(expansion, shown, reports)?;
     report_post(expansion, reports)?;
     report_auxiliary_alone(expansion, reports)?;
     report_relies(expansion, reports)?;
+    report_sums(expansion, reports)?;
+    report_tests(expansion, reports)?;
     report_shared(expansion, reports)?;
     report_unused(expansion, reports)
 }

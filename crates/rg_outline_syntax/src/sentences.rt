@@ -125,7 +125,8 @@ impl MeaningFault {
             Self::ShiftCount(_) => "the shift count is {}; it is 0 to 63",
             Self::ModulusOfWords => "`mod` is for numbers alone, without words",
             Self::ShiftByWords => "a shift count is a number, without words",
-            Self::NoWidth => "no word stands here, so nothing tells the width",
+            Self::NoWidth =>
+                "no word stands here, so nothing tells the width: compare with a word that is wide enough, or say it without numbers",
             Self::WidthsDiffer(..) => {
                 "{} has {} bits and {} has {}; one comparison or assignment has one width"
             }

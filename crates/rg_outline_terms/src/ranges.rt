@@ -8,7 +8,38 @@ use rg_outline_syntax::{Binder, ExpressionKind, Junction, List, MeaningFault, Op
 /// The most numbers of a range.
 const MOST_NUMBERS: u32 = 1_000;
 
+/// What is known of the range of a quantifier or a sum.
+#[derive(Clone, Copy, PartialEq, Eq)]
+pub(crate) enum Filling {
+    /// It wasn't gone over.
+    Unused,
+    /// Each time that it was gone over there was no number in it.
+    Empty,
+    /// It had numbers.
+    Filled,
+}
+
 impl Scope<'_> {
+    /// Whether a quantifier or a sum over the range of this index was worked out, and never had an instance.
+    pub fn is_always_empty(&self, range: usize) -> bool {
+        matches!(self.fillings.get(range), Some(Filling::Empty))
+    }
+
+    /// Notes that a quantifier or a sum over the range of this index was worked out, with numbers or without.
+    fn note_filling(&mut self, range: usize, numbers: List) {
+        for _ in self.fillings.len()..range.saturating_add(1) {
+            let stored = self.fillings.push(Filling::Unused);
+            self.want_stored(stored.is_ok());
+        }
+        if let Some(slot) = self.fillings.get_mut(range) {
+            if !numbers.is_empty() {
+                *slot = Filling::Filled;
+            } else if *slot == Filling::Unused {
+                *slot = Filling::Empty;
+            }
+        }
+    }
+
     /// The numbers of a range, as places in `numbers`.
     pub fn numbers_of(&mut self, range: usize) -> List {
         self.range_of(range, DEEPEST)
@@ -88,6 +119,7 @@ impl Scope<'_> {
         };
         self.refuse_taken(index);
         let numbers = self.range_of(range, depth);
+        self.note_filling(range, numbers);
         let mark = self.names.len();
         let sort = match binder {
             Binder::Sum => Sort::Value,

@@ -1,6 +1,7 @@
 //! What is known of an outline while it is worked out; and the first fault, which no call gives back.
 
 use crate::forest::Made;
+use crate::ranges::Filling;
 use crate::{Forest, Named, Root, Word};
 use rg_outline_syntax::{Fault, MeaningFault, Span, Standing, Texts, Written};
 use std::alloc::Global;
@@ -25,6 +26,8 @@ pub struct Scope<'a> {
     pub members: Texts,
     /// The numbers of ranges that were gone over.
     pub(crate) numbers: Vec<i128>,
+    /// Whether the ranges of quantifiers and sums had numbers, each at its index.
+    pub(crate) fillings: Vec<Filling>,
     /// The uses of names of trees that are being worked out.
     pub uses: Vec<Span>,
     /// The arguments of names that are being worked out.
@@ -48,6 +51,7 @@ impl<'a> Scope<'a> {
             shown: Texts::new(alloc),
             members: Texts::new(alloc),
             numbers: Vec::new(alloc),
+            fillings: Vec::new(alloc),
             uses: Vec::new(alloc),
             passed: Vec::new(alloc),
             steps_left: MOST_STEPS,

@@ -89,5 +89,5 @@ no_other (Find a b d) number check conditions prove emit run valid clauses find 
 no_other (Explain a) number check conditions prove emit run valid clauses find explain over = explain a refl
 no_other (RunOutline a b d e f) number check conditions prove emit run valid clauses find explain over = over
 no_other (the_outline a b d e f) number check conditions prove emit run valid clauses find explain over = over
-no_other (Verify a b d) number check conditions prove emit run valid clauses find explain over = over
+no_other (Verify a b d e) number check conditions prove emit run valid clauses find explain over = over
 no_other (Challenge a b) number check conditions prove emit run valid clauses find explain over = over

@@ -24,7 +24,7 @@ abbrev pub IsUntouched : Option (List ℕ) → Option (List ℕ) → ℕ → ℕ
 IsUntouched old new failed after = Appends old new [] × (after ≡ failed)
 
 -- the line that tells that there are no bytes of a file, where there are none; else what is reported of the rest
-abbrev pub unless_read : Option (Bor (List ℕ)) → List ℕ → Option (List ℕ) → Option (List ℕ)
+abbrev pub unless_read : {A : Type 0} → Option A → List ℕ → Option (List ℕ) → Option (List ℕ)
 unless_read None line rest = Some line
 unless_read (Some bytes) line rest = rest
 
@@ -38,7 +38,7 @@ abbrev pub text_line : Files → Option (List ℕ) → Option (List ℕ)
 text_line files rest = unless_read files.text (codes "device text\n") rest
 
 abbrev pub outline_line : Files → Option (List ℕ) → Option (List ℕ)
-outline_line files rest = unless_read files.text (codes "device outline\n") rest
+outline_line files rest = unless_read files.outline (codes "device outline\n") rest
 
 abbrev pub derivation_line : Files → Option (List ℕ) → Option (List ℕ)
 derivation_line files rest = unless_read files.derivation (codes "device derivation\n") rest
@@ -64,7 +64,7 @@ unread_line (Clauses _ (Some _)) files = text_line files (derivation_line files 
 unread_line (Find _ _ None) files = text_line files None
 unread_line (Find _ _ (Some _)) files = text_line files (derivation_line files None)
 unread_line (Outline _ _ _ _ _) files = outline_line files None
-unread_line (Verify _ _ _) files = outline_line files None
+unread_line (Verify _ _ _ _) files = outline_line files None
 unread_line (Challenge _ _) files = outline_line files None
 unread_line (Explain _) files = None
 
@@ -142,10 +142,12 @@ GivesUpOf _ _ _ line old new = ⊥
 abbrev pub GivesUp : Command → Files → List ℕ → Option (List ℕ) → Option (List ℕ) → Type 0
 GivesUp command files line old new = GivesUpOf command files.text files.derivation line old new
 
--- the words don't fit: what stands for a range may be none, the number may be that of no refusal, or formulas or a picture are asked for as JSON
+-- the words don't fit: what stands for a range may be none, the number may be that of no refusal, formulas or a picture are asked for as JSON, or a file for
+-- the text of several outlines
 abbrev pub IsMisfit : Format → Command → Type 0
 IsMisfit format (Prove _ _ _ (Some range)) = Unit {0}
 IsMisfit format (Explain number) = Unit {0}
 IsMisfit format (Conditions _ _ true) = is_plain format ≡ false
 IsMisfit format (Run _ _ _ _ _ _ (Some picture)) = is_plain format ≡ false
+IsMisfit format (Verify outlines _ _ (Some text)) = outlines.count ≡ 1 → ⊥
 IsMisfit format _ = ⊥

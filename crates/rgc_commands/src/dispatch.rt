@@ -13,7 +13,7 @@ use crate::commands::{
 };
 use crate::files::Files;
 use crate::outlines::{
-    NamedRun, Verification, Written, challenge_outline, outline, run_outline_of, verify,
+    Verification, Wish, Written, challenge_outline, outline, run_outline_of, verify,
 };
 use crate::sides::Sides;
 use crate::stops::Stop;
@@ -93,7 +93,7 @@ pub(crate) fn carry_out_line<R: Threads + Wait + Sync, W: Out, F: Out, P: Watche
 ) -> Result<(), Stop>
     requires out { CanCount (W.failures out.old) }
     requires faults { CanCount (F.failures faults.old) }
-    ensures done { OnOk result (IsLineDone line.now files.now (W.contents out.old) (W.contents out.new)) }
+    ensures done { OnOk result (IsLineDone line.now files.now sides.old.outline sides.new.outline (W.contents out.old) (W.contents out.new)) }
     ensures failures { NoFailure result (W.failures out.old) (W.failures out.new) }
     ensures stopped { IfErr result (StopsLine line.now.settings.format line.now.command files.now (W.contents out.old) (W.contents out.new) (W.failures out.old) (W.failures out.new)) }
     ensures quiet { OnErr result (F.failures faults.new ≡ F.failures faults.old) }
@@ -101,38 +101,37 @@ pub(crate) fn carry_out_line<R: Threads + Wait + Sync, W: Out, F: Out, P: Watche
 {
     match line.command {
         Command::RunOutline {
-            outline: name,
             start,
             moves,
             limit,
             draw,
+            ..
         } => {
             let options = RunOptions::new(start, moves, limit, draw.is_some(), Format::Plain);
-            let run = NamedRun { name, options };
-            run_outline_of(context, run, files, out, faults, sides)
+            run_outline_of(context, options, files, out, faults, sides)
         }
         Command::Outline {
-            outline: name,
             text,
             derivation,
             proofs,
             map,
+            ..
         } => {
             let written = Written::new(text, derivation, proofs, map);
-            outline(context, name, written, files, out, sides)
+            outline(context, written, files, out, sides)
         }
-        Command::Challenge {
-            outline: name,
-            has_refused,
-        } => challenge_outline(context, name, has_refused, files, out),
+        Command::Challenge { has_refused, .. } => {
+            challenge_outline(context, has_refused, files, out)
+        }
         Command::Verify {
             outlines,
             steps,
             is_runs_only,
+            text,
         } => {
-            let format = line.settings.format;
-            let asked = Verification::new(outlines, format, steps, is_runs_only);
-            verify(context, asked, files, out, faults)
+            let wish = Wish::new(steps, is_runs_only, text);
+            let asked = Verification::new(outlines, line.settings.format, wish);
+            verify(context, asked, files, out, faults, sides)
         }
         _ => carry_out(context, line, files, out, faults, &mut sides.picture),
     }

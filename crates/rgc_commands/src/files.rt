@@ -6,15 +6,22 @@ ghost use Rattle.rgc_commands.specs.Stopped.{unless_read, where_named, text_line
 ghost use Rattle.rgc_commands.specs.Inner.TextStops.{IsDevice};
 
 use crate::stops::Stop;
+use rg_outline_reports::{NoFiles, Outlined};
+
+/// What an outline was worked out to: the files that it stands for, or why there are none.
+pub type Expanded<'a> = Result<Outlined<'a>, NoFiles>;
 
 /// The bytes of the files that a command names; none where it isn't named or can't be read.
 #[derive(Clone, Copy)]
 pub struct Files<'a> {
+    /// The text; of a command over an outline, the outline's bytes, which are only shown.
     pub text: Option<&'a [u8]>,
     pub derivation: Option<&'a [u8]>,
     pub proofs: Option<&'a [u8]>,
     pub start: Option<&'a [u8]>,
     pub moves: Option<&'a [u8]>,
+    /// What the outline of a command was worked out to.
+    pub outline: Option<&'a Expanded<'a>>,
 }
 
 /// A file's bytes, where it can be read.

@@ -17,7 +17,7 @@ mod stops;
 mod text_entries;
 
 pub use entries::Entry;
-pub use files::Files;
+pub use files::{Expanded, Files};
 pub use performed::perform;
 pub use rgc_answers::Context;
 pub use sides::Sides;

@@ -1,54 +1,78 @@
 //! The commands over an outline.
 
 ghost use Rattle.std.specs.Prelude.{◌≡◌, ℕ, List, Option, Some, true, false, IfOk, OnOk, OnErr, IfErr};
+ghost use Rattle.rgc_outlines.specs.declared.write.Sides.{Sides as OutlineSides};
 ghost use Rattle.std.specs.Borrow.{Bor};
 ghost use Rattle.rg_words.specs.Written.{CanCount};
 ghost use Rattle.rgc_line.specs.declared.command.Command.TheVariants.{Challenge, Outline, RunOutline, Verify};
 ghost use Rattle.rgc_line.specs.declared.command.Format.{Format as LineFormat};
 ghost use Rattle.rgc_commands.specs.Stopped.{outline_line};
 ghost use Rattle.rgc_commands.specs.Inner.TextStops.{IsDevice};
-ghost use Rattle.rgc_commands.specs.PerformDone.{IsDoneOver, wanted_of};
-ghost use Rattle.rgc_commands.specs.Inner.Stops.{StopsLine};
+ghost use Rattle.rgc_commands.specs.PerformDone.{IsDoneOver, IsVerifyDone, files_of, outline_files, wanted_of};
+ghost use Rattle.rgc_commands.specs.PerformStopped.{search_steps};
+ghost use Rattle.rgc_commands.specs.Inner.Stops.{IsNotOutlined, IsWithoutFiles, StopsLine, StopsVerify};
 ghost use Rattle.rgc_answers.specs.Failures.{NoFailure};
 
 use crate::commands::{RunOptions, proved};
-use crate::files::{Files, inputs};
+use crate::files::{Expanded, Files, inputs};
 use crate::sides::Sides;
 use crate::stops::Stop;
 use rg_find::Watcher;
-use rg_outline_reports::{Format, OutlineSource};
-use rg_words::{Out, Taker, write_all};
+use rg_outline_reports::{NoFiles, Outlined};
+use rg_words::{Out, Refusal, Taker, write_all};
 use rgc_answers::Context;
 use rgc_line::Outlines;
 use rgc_outlines::{
-    Options, RunOutline as OutlineRun, VerdictForm, Wanted, challenge, run_outline, runs_only,
-    verify_outline, write_outline,
+    Options, RunOutline as OutlineRun, VerdictForm, Wanted, challenge, put_file, run_outline,
+    runs_only, verify_outline, write_outline,
 };
-use std::alloc::Global;
+use std::alloc::{AllocError, Global};
 use std::sync::Wait;
 use std::thread::Threads;
 
-/// The outline of a command, whose first fault is reported in this format.
-fn outline_source<'a>(
-    name: &'a str,
-    format: rgc_line::Format,
-    files: &Files<'a>,
-) -> Result<OutlineSource<'a>, Stop>
-    ensures source { IfOk result (λ o. files.now.text ≡ Some o.source) }
+/// What the outline of a command was worked out to.
+fn expanded_of<'a>(files: &Files<'a>) -> Result<&'a Expanded<'a>, Stop>
+    ensures expanded { IfOk result (λ e. files.now.outline ≡ Some e) }
     ensures unread { (rest : Option (List ℕ)) → IfErr result (IsDevice (outline_line files.now rest)) }
 {
-    let Some(source) = files.text else {
-        return Err(Stop::Device("device outline\n"));
+    match files.outline {
+        Some(expanded) => Ok(expanded),
+        None => Err(Stop::Device("device outline\n")),
+    }
+}
+
+/// The stop of an outline that is refused, with these lines.
+fn refused(alloc: Global, lines: &[u8]) -> Stop
+    ensures { IsWithoutFiles result }
+{
+    match Vec::from_slice(alloc, lines) {
+        Ok(lines) => Stop::Outline(lines),
+        Err(AllocError) => Stop::Refused(Refusal::from(AllocError)),
+    }
+}
+
+/// The outline, where it stands for files.
+fn outlined_in<'a>(alloc: Global, expanded: &'a Expanded<'a>) -> Result<&'a Outlined<'a>, Stop>
+    ensures files { IfOk result (λ o. files_of expanded.now ≡ Some o.now.files) }
+    ensures none { IfErr result IsWithoutFiles }
+{
+    match expanded {
+        Ok(outlined) => Ok(outlined),
+        Err(NoFiles::Reported(lines)) => Err(refused(alloc, lines)),
+        Err(NoFiles::Memory) => Err(Stop::Refused(Refusal::from(AllocError))),
+    }
+}
+
+/// The outline of a command, where it stands for files.
+fn outlined_of<'a>(alloc: Global, files: &Files<'a>) -> Result<&'a Outlined<'a>, Stop>
+    ensures files { IfOk result (λ o. outline_files files.now.outline ≡ Some o.now.files) }
+    ensures none { (rest : Option (List ℕ)) → IfErr result (IsNotOutlined (outline_line files.now rest)) }
+{
+    let expanded = match expanded_of(files) {
+        Ok(expanded) => expanded,
+        Err(stop) => return Err(stop),
     };
-    let format = match format {
-        rgc_line::Format::Plain => Format::Plain,
-        rgc_line::Format::Json => Format::Json,
-    };
-    Ok(OutlineSource {
-        name,
-        source,
-        format,
-    })
+    outlined_in(alloc, expanded)
 }
 
 /// The most decisions of each search, where a command doesn't name them.
@@ -100,34 +124,26 @@ impl<'a> Written<'a> {
 /// Writes what stands for an outline: into `sides` what is wanted there, and the text to the output where it isn't.
 pub(crate) fn outline<R: Threads + Wait + Sync, W: Out, P: Watcher + Copy + Sync>(
     context: &Context<'_, R, P>,
-    name: &str,
     written: Written<'_>,
     files: &Files<'_>,
     out: &mut W,
     sides: &mut Sides,
 ) -> Result<(), Stop>
     requires { CanCount (W.failures out.old) }
-    ensures done { (o : Bor (List ℕ)) → OnOk result (IsDoneOver (Outline o written.entry.text written.entry.derivation written.entry.proofs written.entry.map) files.now (W.contents out.old) (W.contents out.new)) }
+    ensures done { (o : Bor (List ℕ)) → OnOk result (IsDoneOver (Outline o written.entry.text written.entry.derivation written.entry.proofs written.entry.map) files.now sides.old.outline sides.new.outline (W.contents out.old) (W.contents out.new)) }
     ensures failures { NoFailure result (W.failures out.old) (W.failures out.new) }
     ensures stopped { (f : LineFormat) → (o : Bor (List ℕ)) → IfErr result (StopsLine f (Outline o written.entry.text written.entry.derivation written.entry.proofs written.entry.map) files.now (W.contents out.old) (W.contents out.new) (W.failures out.old) (W.failures out.new)) }
 {
-    let source = outline_source(name, rgc_line::Format::Plain, files)?;
+    let outlined = outlined_of(context.alloc, files)?;
     let side = &mut sides.outline;
     let wanted = written.wanted();
-    proved(write_outline(context, source, wanted, MOST_STEPS, out, side)?)
-}
-
-/// An outline that is run, by its name, and how.
-#[derive(Clone, Copy)]
-pub(crate) struct NamedRun<'a> {
-    pub(crate) name: &'a str,
-    pub(crate) options: RunOptions<'a>,
+    proved(write_outline(context, outlined, wanted, MOST_STEPS, out, side)?)
 }
 
 /// Verifies an outline, and runs its program.
 pub(crate) fn run_outline_of<R: Threads + Wait + Sync, W: Out, F: Out, P: Watcher + Copy + Sync>(
     context: &Context<'_, R, P>,
-    run: NamedRun<'_>,
+    options: RunOptions<'_>,
     files: &Files<'_>,
     out: &mut W,
     faults: &mut F,
@@ -135,15 +151,15 @@ pub(crate) fn run_outline_of<R: Threads + Wait + Sync, W: Out, F: Out, P: Watche
 ) -> Result<(), Stop>
     requires out { CanCount (W.failures out.old) }
     requires faults { CanCount (F.failures faults.old) }
-    ensures done { (o : Bor (List ℕ)) → (w : Option (Bor (List ℕ))) → OnOk result (IsDoneOver (RunOutline o run.entry.options.start run.entry.options.moves run.entry.options.limit w) files.now (W.contents out.old) (W.contents out.new)) }
+    ensures done { (o : Bor (List ℕ)) → (w : Option (Bor (List ℕ))) → OnOk result (IsDoneOver (RunOutline o options.entry.start options.entry.moves options.entry.limit w) files.now sides.old.outline sides.new.outline (W.contents out.old) (W.contents out.new)) }
     ensures failures { NoFailure result (W.failures out.old) (W.failures out.new) }
-    ensures stopped { (f : LineFormat) → (o : Bor (List ℕ)) → (w : Option (Bor (List ℕ))) → IfErr result (StopsLine f (RunOutline o run.entry.options.start run.entry.options.moves run.entry.options.limit w) files.now (W.contents out.old) (W.contents out.new) (W.failures out.old) (W.failures out.new)) }
+    ensures stopped { (f : LineFormat) → (o : Bor (List ℕ)) → (w : Option (Bor (List ℕ))) → IfErr result (StopsLine f (RunOutline o options.entry.start options.entry.moves options.entry.limit w) files.now (W.contents out.old) (W.contents out.new) (W.failures out.old) (W.failures out.new)) }
     ensures quiet { OnErr result (F.failures faults.new ≡ F.failures faults.old) }
     ensures silent { OnErr result (F.contents faults.new ≡ F.contents faults.old) }
 {
-    let source = outline_source(run.name, rgc_line::Format::Plain, files)?;
-    let options = run.options;
+    let expanded = expanded_of(files)?;
     let (first, moving) = inputs(options.start, options.moves, files)?;
+    let outlined = outlined_in(context.alloc, expanded)?;
     let how = OutlineRun {
         start: first,
         moves: moving,
@@ -155,9 +171,33 @@ pub(crate) fn run_outline_of<R: Threads + Wait + Sync, W: Out, F: Out, P: Watche
     // What is reported of moves goes out only after a run.
     let mut passed = Taker::new(context.alloc, usize::MAX);
     let reported = &mut passed;
-    proved(run_outline(context, source, how, out, reported, picture)?)?;
+    proved(run_outline(context, outlined, how, out, reported, picture)?)?;
     let _ = write_all(faults, passed.bytes());
     Ok(())
+}
+
+/// What is wanted of the verification of an outline.
+#[derive(Clone, Copy)]
+pub(crate) struct Wish<'a> {
+    /// The most decisions of each search, or steps of runs.
+    pub(crate) steps: Option<u64>,
+    /// Whether runs of its program are followed alone.
+    pub(crate) is_runs_only: bool,
+    /// The file for the program's text.
+    pub(crate) text: Option<&'a str>,
+}
+
+impl<'a> Wish<'a> {
+    /// This is wanted.
+    pub(crate) fn new(steps: Option<u64>, is_runs_only: bool, text: Option<&'a str>) -> Wish<'a>
+        ensures { result ≡ record { steps = steps; is_runs_only = is_runs_only; text = text.entry } }
+    {
+        Wish {
+            steps,
+            is_runs_only,
+            text,
+        }
+    }
 }
 
 /// What is asked of the verification of an outline, which may be one of several.
@@ -165,10 +205,7 @@ pub(crate) fn run_outline_of<R: Threads + Wait + Sync, W: Out, F: Out, P: Watche
 pub(crate) struct Verification<'a> {
     pub(crate) outlines: Outlines<'a>,
     pub(crate) format: rgc_line::Format,
-    /// The most decisions of each search.
-    pub(crate) steps: u64,
-    /// Whether runs of its program are followed alone.
-    pub(crate) is_runs_only: bool,
+    pub(crate) wish: Wish<'a>,
 }
 
 impl<'a> Verification<'a> {
@@ -176,16 +213,14 @@ impl<'a> Verification<'a> {
     pub(crate) fn new(
         outlines: Outlines<'a>,
         format: rgc_line::Format,
-        steps: u64,
-        is_runs_only: bool,
+        wish: Wish<'a>,
     ) -> Verification<'a>
-        ensures { result ≡ record { outlines = outlines.entry; format = format; steps = steps; is_runs_only = is_runs_only } }
+        ensures { result ≡ record { outlines = outlines.entry; format = format; wish = wish.entry } }
     {
         Verification {
             outlines,
             format,
-            steps,
-            is_runs_only,
+            wish,
         }
     }
 
@@ -200,28 +235,38 @@ impl<'a> Verification<'a> {
     }
 }
 
+/// The most decisions of each search, where a command says so or not.
+fn search_steps(steps: Option<u64>) -> u64
+    ensures { result ≡ search_steps steps }
+{
+    match steps {
+        Some(steps) => steps,
+        None => MOST_STEPS,
+    }
+}
+
 /// Prints how many conditions of an outline's program were proved; else which have no proof, and a run that breaks the specification or that
 /// none was found. Its warnings go to the faults.
 fn prove_outline<R: Threads + Wait + Sync, W: Out, F: Out, P: Watcher + Copy + Sync>(
     context: &Context<'_, R, P>,
     asked: Verification<'_>,
-    files: &Files<'_>,
+    outlined: &Outlined<'_>,
     out: &mut W,
     faults: &mut F,
 ) -> Result<(), Stop>
     requires out { CanCount (W.failures out.old) }
     requires faults { CanCount (F.failures faults.old) }
-    ensures done { OnOk result (IsDoneOver (Verify asked.entry.outlines asked.entry.steps false) files.now (W.contents out.old) (W.contents out.new)) }
+    ensures done { OnOk result (IsVerifyDone false outlined.now.files (W.contents out.old) (W.contents out.new)) }
     ensures failures { NoFailure result (W.failures out.old) (W.failures out.new) }
-    ensures stopped { (f : LineFormat) → IfErr result (StopsLine f (Verify asked.entry.outlines asked.entry.steps false) files.now (W.contents out.old) (W.contents out.new) (W.failures out.old) (W.failures out.new)) }
+    ensures stopped { IfErr result (StopsVerify false asked.entry.wish.steps outlined.now.files (W.contents out.old) (W.contents out.new) (W.failures out.old) (W.failures out.new)) }
     ensures quiet { OnErr result (F.failures faults.new ≡ F.failures faults.old) }
     ensures silent { OnErr result (F.contents faults.new ≡ F.contents faults.old) }
 {
-    let source = outline_source(asked.outlines.outline, asked.format, files)?;
     let form = asked.form();
+    let steps = search_steps(asked.wish.steps);
     let mut reported = Vec::new(context.alloc);
     let warnings = &mut reported;
-    let is_verified = verify_outline(context, source, form, asked.steps, out, warnings)?;
+    let is_verified = verify_outline(context, outlined, form, steps, out, warnings)?;
     if is_verified {
         let _ = write_all(faults, &reported);
         return Ok(());
@@ -233,54 +278,83 @@ fn prove_outline<R: Threads + Wait + Sync, W: Out, F: Out, P: Watcher + Copy + S
 fn walk_outline<W: Out>(
     alloc: Global,
     asked: Verification<'_>,
-    files: &Files<'_>,
+    outlined: &Outlined<'_>,
     out: &mut W,
 ) -> Result<(), Stop>
     requires { CanCount (W.failures out.old) }
-    ensures done { OnOk result (IsDoneOver (Verify asked.entry.outlines asked.entry.steps true) files.now (W.contents out.old) (W.contents out.new)) }
+    ensures done { OnOk result (IsVerifyDone true outlined.now.files (W.contents out.old) (W.contents out.new)) }
     ensures failures { NoFailure result (W.failures out.old) (W.failures out.new) }
-    ensures stopped { (f : LineFormat) → IfErr result (StopsLine f (Verify asked.entry.outlines asked.entry.steps true) files.now (W.contents out.old) (W.contents out.new) (W.failures out.old) (W.failures out.new)) }
+    ensures stopped { IfErr result (StopsVerify true asked.entry.wish.steps outlined.now.files (W.contents out.old) (W.contents out.new) (W.failures out.old) (W.failures out.new)) }
 {
-    let source = outline_source(asked.outlines.outline, asked.format, files)?;
-    proved(runs_only(alloc, source, asked.form(), out)?)
+    let steps = asked.wish.steps;
+    proved(runs_only(alloc, outlined, steps, asked.form(), out)?)
 }
 
 /// Verifies an outline, or follows the runs of its program alone.
+fn verify_outlined<R: Threads + Wait + Sync, W: Out, F: Out, P: Watcher + Copy + Sync>(
+    context: &Context<'_, R, P>,
+    asked: Verification<'_>,
+    outlined: &Outlined<'_>,
+    out: &mut W,
+    faults: &mut F,
+) -> Result<(), Stop>
+    requires out { CanCount (W.failures out.old) }
+    requires faults { CanCount (F.failures faults.old) }
+    ensures done { OnOk result (IsVerifyDone asked.entry.wish.is_runs_only outlined.now.files (W.contents out.old) (W.contents out.new)) }
+    ensures failures { NoFailure result (W.failures out.old) (W.failures out.new) }
+    ensures stopped { IfErr result (StopsVerify asked.entry.wish.is_runs_only asked.entry.wish.steps outlined.now.files (W.contents out.old) (W.contents out.new) (W.failures out.old) (W.failures out.new)) }
+    ensures quiet { OnErr result (F.failures faults.new ≡ F.failures faults.old) }
+    ensures silent { OnErr result (F.contents faults.new ≡ F.contents faults.old) }
+{
+    if asked.wish.is_runs_only {
+        return walk_outline(context.alloc, asked, outlined, out);
+    }
+    prove_outline(context, asked, outlined, out, faults)
+}
+
+/// Verifies an outline, or follows the runs of its program alone. Where a file is named for it, the program's text is put after what is there.
 pub(crate) fn verify<R: Threads + Wait + Sync, W: Out, F: Out, P: Watcher + Copy + Sync>(
     context: &Context<'_, R, P>,
     asked: Verification<'_>,
     files: &Files<'_>,
     out: &mut W,
     faults: &mut F,
+    sides: &mut Sides,
 ) -> Result<(), Stop>
     requires out { CanCount (W.failures out.old) }
     requires faults { CanCount (F.failures faults.old) }
-    ensures done { OnOk result (IsDoneOver (Verify asked.entry.outlines asked.entry.steps asked.entry.is_runs_only) files.now (W.contents out.old) (W.contents out.new)) }
+    ensures done { OnOk result (IsDoneOver (Verify asked.entry.outlines asked.entry.wish.steps asked.entry.wish.is_runs_only asked.entry.wish.text) files.now sides.old.outline sides.new.outline (W.contents out.old) (W.contents out.new)) }
     ensures failures { NoFailure result (W.failures out.old) (W.failures out.new) }
-    ensures stopped { (f : LineFormat) → IfErr result (StopsLine f (Verify asked.entry.outlines asked.entry.steps asked.entry.is_runs_only) files.now (W.contents out.old) (W.contents out.new) (W.failures out.old) (W.failures out.new)) }
+    ensures stopped { (f : LineFormat) → IfErr result (StopsLine f (Verify asked.entry.outlines asked.entry.wish.steps asked.entry.wish.is_runs_only asked.entry.wish.text) files.now (W.contents out.old) (W.contents out.new) (W.failures out.old) (W.failures out.new)) }
     ensures quiet { OnErr result (F.failures faults.new ≡ F.failures faults.old) }
     ensures silent { OnErr result (F.contents faults.new ≡ F.contents faults.old) }
 {
-    if asked.is_runs_only {
-        return walk_outline(context.alloc, asked, files, out);
+    if let Some(_) = asked.wish.text {
+        if asked.outlines.count != 1 {
+            return Err(Stop::Usage("error: --text takes one outline\n"));
+        }
     }
-    prove_outline(context, asked, files, out, faults)
+    let outlined = outlined_of(context.alloc, files)?;
+    let is_wanted = asked.wish.text.is_some();
+    match put_file(is_wanted, &outlined.files.text, &mut sides.outline.text) {
+        Ok(()) => verify_outlined(context, asked, outlined, out, faults),
+        Err(AllocError) => Err(Stop::Refused(Refusal::from(AllocError))),
+    }
 }
 
 /// Verifies an outline, and then reports which small changes of its program its specification doesn't see.
 pub(crate) fn challenge_outline<R: Threads + Wait + Sync, W: Out, P: Watcher + Copy + Sync>(
     context: &Context<'_, R, P>,
-    name: &str,
     has_refused: bool,
     files: &Files<'_>,
     out: &mut W,
 ) -> Result<(), Stop>
     requires { CanCount (W.failures out.old) }
-    ensures done { (o : Bor (List ℕ)) → OnOk result (IsDoneOver (Challenge o has_refused) files.now (W.contents out.old) (W.contents out.new)) }
+    ensures done { (o : Bor (List ℕ)) → (before after : OutlineSides) → OnOk result (IsDoneOver (Challenge o has_refused) files.now before after (W.contents out.old) (W.contents out.new)) }
     ensures failures { NoFailure result (W.failures out.old) (W.failures out.new) }
     ensures stopped { (f : LineFormat) → (o : Bor (List ℕ)) → IfErr result (StopsLine f (Challenge o has_refused) files.now (W.contents out.old) (W.contents out.new) (W.failures out.old) (W.failures out.new)) }
 {
-    let source = outline_source(name, rgc_line::Format::Plain, files)?;
+    let outlined = outlined_of(context.alloc, files)?;
     let options = Options {
         steps: MOST_STEPS,
         steps_for_changes: MOST_STEPS_FOR_CHANGES,
@@ -288,7 +362,7 @@ pub(crate) fn challenge_outline<R: Threads + Wait + Sync, W: Out, P: Watcher + C
     };
     let mut reported = Vec::new(context.alloc);
     let warnings = &mut reported;
-    match challenge(context, source, options, out, warnings)? {
+    match challenge(context, outlined, options, out, warnings)? {
         Some(_) => Ok(()),
         None => Err(Stop::Outline(reported)),
     }

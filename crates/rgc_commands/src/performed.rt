@@ -137,7 +137,7 @@ fn tell<F: Out>(
 /// explain), 3 where a file can't be read, where the output can't be written, or where memory is refused. A refusal is one line on `faults`,
 /// and what explains it below, where that is asked; why the search of `find` gave up is one line there. Moves of a run that were passed over are
 /// reported there too, and change no status. Each search has a copy of the watcher, which hears of a long one. A run that is drawn has its picture
-/// put after what `sides` holds, and an outline its derivation and its map; of what is put there nothing is promised.
+/// put after what `sides` holds, and an outline the files that it stands for and its map; of the picture and the map nothing is promised.
 pub fn perform<R: Threads + Wait + Sync, W: Out, F: Out, P: Watcher + Copy + Sync>(
     context: &Context<'_, R, P>,
     line: &Line<'_>,
@@ -150,7 +150,8 @@ pub fn perform<R: Threads + Wait + Sync, W: Out, F: Out, P: Watcher + Copy + Syn
     requires faults { CanCount (F.failures faults.old) }
     ensures status { result ≤ 3 }
     ensures failures { result ≡ 0 → W.failures out.new ≡ W.failures out.old }
-    ensures done { result ≡ 0 → IsLineDone line.now files.now (W.contents out.old) (W.contents out.new) }
+    // What is said to be proved of an outline is so of the files that it stands for, which are those that are written.
+    ensures done { result ≡ 0 → IsLineDone line.now files.now sides.old.outline sides.new.outline (W.contents out.old) (W.contents out.new) }
 
     // There is no proof, and the output says why; or it says that the search gave up, and the faults why; or the files are refused, nothing
     // went out, and the refusal is reported; or an outline is refused.

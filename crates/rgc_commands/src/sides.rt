@@ -1,6 +1,5 @@
 //! What a command writes beside its output.
 
-use rgc_line::Command;
 use rgc_outlines::Sides as OutlineSides;
 use std::alloc::Global;
 
@@ -19,30 +18,6 @@ impl Sides {
         Sides {
             picture: Vec::new(alloc),
             outline: OutlineSides::new(alloc),
-        }
-    }
-
-    /// What goes to the file that a command names first, of those that it writes beside its output.
-    pub fn first(self, command: &Command<'_>) -> Vec<u8> {
-        let Sides { picture, outline } = self;
-        let OutlineSides {
-            text,
-            derivation,
-            proofs,
-            map,
-        } = outline;
-        match command {
-            Command::Run { .. } | Command::RunOutline { .. } => picture,
-            Command::Outline { text: Some(_), .. } => text,
-            Command::Outline {
-                derivation: Some(_),
-                ..
-            } => derivation,
-            Command::Outline {
-                proofs: Some(_),
-                ..
-            } => proofs,
-            _ => map,
         }
     }
 }

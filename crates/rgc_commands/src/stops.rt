@@ -1,7 +1,6 @@
 //! Why a command isn't done.
 
 use rg_words::Refusal;
-use rgc_outlines::NotDone;
 
 /// Why a command isn't done.
 #[derive(Drop)]
@@ -27,19 +26,5 @@ impl From<Refusal> for Stop {
 
     fn from(refusal: Refusal) -> Stop {
         Stop::Refused(refusal)
-    }
-}
-
-impl From<NotDone> for Stop {
-    ghost use Rattle.std.specs.Prelude.{◌≡◌};
-    ghost use Rattle.rgc_commands.specs.Inner.Stops.{stop_of_outline};
-
-    ghost from_gives = { λ none stop. stop ≡ stop_of_outline none };
-
-    fn from(none: NotDone) -> Stop {
-        match none {
-            NotDone::Outline(lines) => Stop::Outline(lines),
-            NotDone::Refused(refusal) => Stop::Refused(refusal),
-        }
     }
 }

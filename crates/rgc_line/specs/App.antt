@@ -72,7 +72,7 @@ row_of Valid = leaf (codes "valid") (field File "TEXT" ∷ field File "PROOFS" �
 row_of Clauses = leaf (codes "clauses") (field File "TEXT" ∷ chosen_derivation ∷ chosen_condition ∷ output ∷ explained ∷ [])
 row_of Find = leaf (codes "find") (field File "TEXT" ∷ chosen_derivation ∷ chosen_condition ∷ field NumberOrMillion "steps" ∷ output ∷ explained ∷ [])
 row_of Outline = leaf (codes "outline") (field File "OUTLINE" ∷ field OptionalFile "text" ∷ field OptionalFile "derivation" ∷ field OptionalFile "proofs" ∷ field OptionalFile "map" ∷ threads ∷ [])
-row_of Verify = leaf (codes "verify") (field Files "OUTLINE" ∷ field NumberOrMillion "steps" ∷ field Flag "runs-only" ∷ threads ∷ format ∷ [])
+row_of Verify = leaf (codes "verify") (field Files "OUTLINE" ∷ field OptionalNumber "steps" ∷ field Flag "runs-only" ∷ field OptionalFile "text" ∷ threads ∷ format ∷ [])
 row_of Challenge = leaf (codes "challenge") (field File "OUTLINE" ∷ field Flag "refused" ∷ threads ∷ [])
 row_of Explain = leaf (codes "explain") (field NeededNumber "NUMBER" ∷ [])
 

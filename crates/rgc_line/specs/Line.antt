@@ -75,7 +75,7 @@ contents_of (Valid text proofs) = (kind.Valid, file text ∷ file proofs ∷ [])
 contents_of (Clauses text chosen) = (kind.Clauses, file text ∷ chosen_values chosen [])
 contents_of (Find text steps chosen) = (kind.Find, file text ∷ chosen_values chosen (number steps ∷ []))
 contents_of (Outline outline text derivation proofs map) = (kind.Outline, file outline ∷ optional file text ∷ optional file derivation ∷ optional file proofs ∷ optional file map ∷ [])
-contents_of (Verify outlines steps is_runs_only) = (kind.Verify, file_of outlines ∷ number steps ∷ flag is_runs_only ∷ [])
+contents_of (Verify outlines steps is_runs_only text) = (kind.Verify, file_of outlines ∷ optional number steps ∷ flag is_runs_only ∷ optional file text ∷ [])
 contents_of (Challenge outline has_refused) = (kind.Challenge, file outline ∷ flag has_refused ∷ [])
 contents_of (Explain n) = (kind.Explain, number n ∷ [])
 
@@ -97,7 +97,7 @@ pub record HasSettings (rows : List Row) (settings : Settings) : Type 0 where
 
 -- a command over several files is the one over the file at this place
 abbrev pub IsAt : ℕ → Command → Type 0
-IsAt place (Verify outlines _ _) = outlines.place ≡ place
+IsAt place (Verify outlines _ _ _) = outlines.place ≡ place
 IsAt place _ = Unit {0}
 
 -- the subcommand and its matches are those of this line

@@ -24,5 +24,5 @@ named (Find text _ chosen) = files (Some text) (option_map (λ c. c.derivation) 
 named (RunOutline outline start moves _ _) = record (files (Some outline) None None) { start = start; moves = moves }
 named (Challenge outline _) = files (Some outline) None None
 named (Outline outline _ _ _ _) = files (Some outline) None None
-named (Verify outlines _ _) = files (Some outlines.outline) None None
+named (Verify outlines _ _ _) = files (Some outlines.outline) None None
 named (Explain _) = files None None None

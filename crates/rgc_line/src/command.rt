@@ -131,11 +131,13 @@ pub enum Command<'a> {
         proofs: Option<&'a str>,
         map: Option<&'a str>,
     },
-    /// Whether what an outline stands for is proved, with at most so many decisions for each condition; or the runs of its program alone.
+    /// Whether what an outline stands for is proved, with at most so many decisions for each condition; or the runs of its program alone, with
+    /// at most so many steps. The program's text goes to a file where one is named, which is written and not read.
     Verify {
         outlines: Outlines<'a>,
-        steps: u64,
+        steps: Option<u64>,
         is_runs_only: bool,
+        text: Option<&'a str>,
     },
     /// The small changes of an outline's program that its specification doesn't see, and the others too where that is asked.
     Challenge {

@@ -93,6 +93,12 @@ pub const CHOSEN_CONDITION: Field =
 
 pub const STEPS: Field = field!(NumberOrMillion "steps": "the most decisions, of each search");
 
+pub const VERIFY_STEPS: Field =
+    field!(OptionalNumber "steps": "the most decisions of each search; with --runs-only the most steps of all runs together");
+
+pub const VERIFIED_TEXT: Field =
+    field!(OptionalFile "text": "a file to write the program to that is verified");
+
 pub const START: Field =
     field!(OptionalFile "start": "the values of the words at the start; without it each is 0");
 
@@ -269,7 +275,14 @@ pub static COMMANDS: [Row; 13] = [
         name: "verify",
         about: "Proves that an outline's program meets its specification, or says where it doesn't",
         example: "Example: rgc verify lock.rgo",
-        fields: &[OUTLINES, STEPS, RUNS_ONLY, THREADS, FORMAT],
+        fields: &[
+            OUTLINES,
+            VERIFY_STEPS,
+            RUNS_ONLY,
+            VERIFIED_TEXT,
+            THREADS,
+            FORMAT,
+        ],
     },
     Row {
         kind: Kind::Challenge,

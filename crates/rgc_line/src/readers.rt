@@ -13,10 +13,12 @@ use crate::command::Command;
 use crate::commands::{
     COMMANDS, CONDITIONS, DERIVATION, DRAW, FORMULA, FORMULA_OR_PROGRAM, FORMULAS, HINTS, Kind,
     LIMIT, MAP, MOVES, OUTLINE, PROGRAM, PROOFS, REFUSAL, REFUSED, RUN_DERIVATION, RUN_OUTLINE,
-    RUN_PROGRAM, RUN_PROOFS, RUNS_ONLY, Row, START, STEPS, WRITTEN_DERIVATION, WRITTEN_PROOFS,
-    WRITTEN_TEXT,
+    RUN_PROGRAM, RUN_PROOFS, RUNS_ONLY, Row, START, STEPS, VERIFIED_TEXT, VERIFY_STEPS,
+    WRITTEN_DERIVATION, WRITTEN_PROOFS, WRITTEN_TEXT,
 };
-use crate::fields::{FieldFault, chosen, file, given_number, is_given, option, outline_at};
+use crate::fields::{
+    FieldFault, chosen, file, given_number, is_given, number_or_none, option, outline_at,
+};
 use crate::line::Line;
 use crate::settings::settings_of;
 use clap::ArgMatches;
@@ -162,8 +164,9 @@ fn command_of<'a>(
         Kind::Outline => Ok(outline(matches)),
         Kind::Verify => Ok(Command::Verify {
             outlines: outline_at(matches, place)?,
-            steps: given_number(matches, STEPS.id),
+            steps: number_or_none(matches, VERIFY_STEPS.id),
             is_runs_only: is_given(matches, RUNS_ONLY.id),
+            text: option(matches, VERIFIED_TEXT.id),
         }),
         Kind::Challenge => Ok(Command::Challenge {
             outline: file(matches, OUTLINE.id),

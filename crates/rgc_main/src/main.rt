@@ -12,10 +12,11 @@ use clap::error::ErrorKind;
 use memory::Memory;
 use paint::painted;
 use rg_find::Watcher;
+use rg_outline_reports::{Format as OutlineFormat, OutlineSource, Outlined, read_outline};
 use rg_words::limits::{MOST_PROOF_BYTES, MOST_TEXT_BYTES};
 use rg_words::{Buffered, Device, Out, write_all};
-use rgc_commands::{Context, Files, Sides, perform};
-use rgc_line::{Command, Line, LineFault, Named};
+use rgc_commands::{Context, Expanded, Files, Sides, perform};
+use rgc_line::{Command, Format, Line, LineFault, Named};
 use std::alloc::AllocError;
 use std::env::VarError;
 use std::fs::{self, File};
@@ -121,9 +122,9 @@ impl Watcher for Terminal<'_> {
 
 /// What a command is done with.
 #[derive(Drop)]
-struct Means<'m, R> {
+struct Means<'m, 't, R> {
     rt: &'m HostRuntime,
-    threads: &'m R,
+    threads: &'t R,
     /// The most threads for one command.
     most: usize,
 }
@@ -165,7 +166,7 @@ fn way_of(rt: &HostRuntime, line: &Line<'_>) -> Way {
 
 /// Does the command with these writers for its output and its faults; the status.
 fn performed<R: Threads + Wait + Sync, W: Out, F: Out>(
-    means: &Means<'_, R>,
+    means: &Means<'_, '_, R>,
     line: &Line<'_>,
     files: &Files<'_>,
     out: &mut W,
@@ -193,7 +194,7 @@ fn performed<R: Threads + Wait + Sync, W: Out, F: Out>(
 
 /// Does the command through a buffer; the status.
 fn buffered<R: Threads + Wait + Sync>(
-    means: &Means<'_, R>,
+    means: &Means<'_, '_, R>,
     line: &Line<'_>,
     files: &Files<'_>,
     sides: &mut Sides,
@@ -248,7 +249,7 @@ fn written(rt: &HostRuntime, line: &Line<'_>, bytes: &[u8], status: u8) -> Resul
 
 /// Does the command with its output and its faults in memory, and writes these; the status.
 fn whole<R: Threads + Wait + Sync>(
-    means: &Means<'_, R>,
+    means: &Means<'_, '_, R>,
     line: &Line<'_>,
     files: &Files<'_>,
     sides: &mut Sides,
@@ -267,7 +268,7 @@ fn whole<R: Threads + Wait + Sync>(
 
 /// Does the command over its files, and writes what it printed; the status. What it writes beside that is put into `sides`.
 fn done<R: Threads + Wait + Sync>(
-    means: &Means<'_, R>,
+    means: &Means<'_, '_, R>,
     line: &Line<'_>,
     files: &Files<'_>,
     sides: &mut Sides,
@@ -334,13 +335,14 @@ fn write_sides(rt: &HostRuntime, command: &Command<'_>, sides: &Sides) -> u8 {
                 .max(write_side(rt, proofs, &side.proofs, "device proofs"))
                 .max(write_side(rt, map, &side.map, "device map"))
         }
+        Command::Verify { text, .. } => write_side(rt, text, &sides.outline.text, "device text"),
         _ => 0,
     }
 }
 
 /// Does the command over its files, and writes all that it made; the status.
 fn done_and_drawn<R: Threads + Wait + Sync>(
-    means: &Means<'_, R>,
+    means: &Means<'_, '_, R>,
     line: &Line<'_>,
     files: &Files<'_>,
 ) -> Result<u8, AllocError> {
@@ -404,6 +406,7 @@ impl Contents {
             proofs: self.proofs.as_ref().map(|bytes| bytes.as_slice()),
             start: self.start.as_ref().map(|bytes| bytes.as_slice()),
             moves: self.moves.as_ref().map(|bytes| bytes.as_slice()),
+            outline: None,
         }
     }
 }
@@ -441,6 +444,64 @@ fn most_threads<R: Threads>(threads: &R, line: &Line<'_>, files: &Files<'_>) -> 
     }
 }
 
+/// The file of the outline that a command is over.
+fn outline_of<'a>(line: &Line<'a>) -> Option<&'a str> {
+    match line.command {
+        Command::Verify { outlines, .. } => Some(outlines.outline),
+        Command::Outline { outline, .. }
+        | Command::RunOutline { outline, .. }
+        | Command::Challenge { outline, .. } => Some(outline),
+        _ => None,
+    }
+}
+
+/// The format in which an outline is reported of: JSON where its verification asks for that.
+fn format_of(line: &Line<'_>) -> OutlineFormat {
+    match (line.command, line.settings.format) {
+        (Command::Verify { .. }, Format::Json) => OutlineFormat::Json,
+        _ => OutlineFormat::Plain,
+    }
+}
+
+/// Does the command over the outline of this name, which is worked out once where it can be read; the status.
+fn done_over<'a, R: Threads + Wait + Sync>(
+    means: &Means<'_, '_, R>,
+    line: &Line<'_>,
+    files: Files<'a>,
+    name: &'a str,
+) -> Result<u8, AllocError> {
+    let Some(source) = files.text else {
+        return done_and_drawn(means, line, &files);
+    };
+    let alloc = means.rt.alloc();
+    let outline = OutlineSource {
+        name,
+        source,
+        format: format_of(line),
+    };
+    match read_outline(alloc, outline) {
+        Ok(read) => {
+            let expanded = Outlined::of(alloc, outline, &read);
+            done_with(means, line, files, &expanded)
+        }
+        Err(none) => done_with(means, line, files, &Err(none)),
+    }
+}
+
+/// Does the command over an outline that was worked out to this; the status.
+fn done_with<'a, R: Threads + Wait + Sync>(
+    means: &Means<'_, '_, R>,
+    line: &Line<'_>,
+    files: Files<'a>,
+    expanded: &'a Expanded<'a>,
+) -> Result<u8, AllocError> {
+    let files = Files {
+        outline: Some(expanded),
+        ..files
+    };
+    done_and_drawn(means, line, &files)
+}
+
 /// Reads the files that the command names, and does it; the status.
 fn run<R: Threads + Wait + Sync>(
     rt: &HostRuntime,
@@ -456,7 +517,10 @@ fn run<R: Threads + Wait + Sync>(
     contents.read(rt, &named)?;
     let files = contents.files();
     let most = most_threads(threads, line, &files);
-    done_and_drawn(&Means { rt, threads, most }, line, &files)
+    match outline_of(line) {
+        Some(name) => done_over(&Means { rt, threads, most }, line, files, name),
+        None => done_and_drawn(&Means { rt, threads, most }, line, &files),
+    }
 }
 
 /// Over how many files the command is to be done, one after another.
@@ -478,6 +542,9 @@ fn run_words<R: Threads + Wait + Sync>(
         Err(fault) => return Ok(usage(rt, &fault)),
     };
     let mut worst = run(rt, threads, &first)?;
+    if worst == 2 {
+        return Ok(worst);
+    }
     for place in 1..files_of(&first.command) {
         if let Ok(line) = Line::read(rt.alloc(), words, place) {
             worst = worst.max(run(rt, threads, &line)?);

@@ -1,20 +1,12 @@
--- Why nothing is done with an outline, from why a call below it does nothing.
-use Rattle.std.proofs.Common.{◌≡◌, ℕ, List, Option, refl, inl, inr, arith}
+-- Why a run prints nothing, from why a call below it does nothing.
+use Rattle.std.proofs.Common.{ℕ, List, Option, refl, inl, inr, arith}
 use Rattle.std.specs.Borrow.{Bor}
 use Rattle.rg_words.specs.declared.refusal.Refusal.{Refusal}
 use Rattle.rg_words.proofs.Written.{appends_none}
-use Rattle.rg_outline_reports.specs.declared.files.NoFiles.{NoFiles}
-use Rattle.rg_outline_reports.specs.declared.files.NoFiles.TheVariants.{Reported, Memory}
 use Rattle.rg_words.specs.Stopped.{IsStopped}
 use Rattle.rg_tree.specs.Statements.{ProgramTree}
 use Rattle.rgc_answers.specs.Refused.{IsUnbegun, IsRunStopped}
 use Rattle.rgc_outlines.specs.RunStopped.{IsUnrun}
-use Rattle.rgc_outlines.specs.Stopped.{not_done_of, IsNotDone}
-
--- an outline stands for no files, before anything went out
-pub no_files_done : (Refuses : Refusal → Type 0) (old : Option (List ℕ)) (m : ℕ) (none : NoFiles) → IsNotDone Refuses old old m m (not_done_of none)
-no_files_done Refuses old m (Reported lines) = (appends_none old, refl)
-no_files_done Refuses old m Memory = inr (inr (refl, refl))
 
 -- a run that prints for nobody, whose writer counts no failure, is refused before anything went out
 pub unprinted_run : (program : ProgramTree) (start moves : Option (Bor (List ℕ))) (limit : ℕ) (x y old : Option (List ℕ)) (k m : ℕ) (e : Refusal) → IsRunStopped (IsUnbegun program start moves limit) x y k k e → IsStopped (IsUnrun program start moves limit) old old m m e

@@ -6,7 +6,8 @@ use Rattle.rg_words.proofs.Cuts.{stops_weaker}
 use Rattle.rg_parse.specs.Programs.{IsProgramRefusal}
 use Rattle.rgc.specs.Chosen.{IsDeriveRefusal}
 use Rattle.rgc.specs.declared.proofs_found.Unproved.{Unproved}
-use Rattle.rgc_outlines.specs.Refused.{IsVerifyRefusal, IsSomeVerifyRefusal}
+use Rattle.rg_outline_reports.specs.declared.files.OutlineFiles.{OutlineFiles}
+use Rattle.rgc_outlines.specs.Refused.{IsVerifyRefusal}
 use Rattle.rgc_outlines.specs.Unproved.{AreUnprovedOf}
 
 -- files are refused that are these by other names
@@ -14,16 +15,11 @@ pub refused_same : (a b text derivation : List ℕ) (e : Refusal) → a ≡ text
 refused_same a b text derivation e first second h =
     subst (λ (t : List ℕ). IsDeriveRefusal t derivation e) first (subst (λ (d : List ℕ). IsDeriveRefusal a d e) second h)
 
-module _ (text derivation : List ℕ) (steps : ℕ) where
-  -- the files of this outline are refused
-  pub files_stop : (old new : Option (List ℕ)) (m n : ℕ) (e : Refusal) → IsStopped (IsVerifyRefusal text derivation steps) old new m n e → IsStopped (IsSomeVerifyRefusal steps) old new m n e
-  files_stop old new m n e (inl why) = inl ((text, derivation, why.0), why.1, why.2)
-  files_stop old new m n e (inr why) = inr why
-
-  -- of conditions without a proof nothing is reported: the text is refused, or what is reported is cut
-  pub telling_stops : (unproved : List Unproved) (old middle new : Option (List ℕ)) (m k n : ℕ) (e : Refusal) → AreUnprovedOf text derivation unproved → middle ≡ old → k ≡ m → IsStopped (IsProgramRefusal text) middle new k n e → IsStopped (IsSomeVerifyRefusal steps) old new m n e
-  telling_stops unproved old middle new m k n e are same even h =
-      let from_old = subst (λ (o : Option (List ℕ)). IsStopped (IsProgramRefusal text) o new k n e) same h in
-      stops_weaker {A = Unit {0}} (IsProgramRefusal text) (IsSomeVerifyRefusal steps) old new m n (Err e)
-      (λ _ why. (text, derivation, inl (inr (are.derived.pieces, are.derived.cut, inl why))))
-      (subst (λ (f : ℕ). IsStopped (IsProgramRefusal text) old new f n e) even from_old)
+-- of conditions without a proof nothing is reported: the text is refused, or what is reported is cut
+pub telling_stops : (files : OutlineFiles) (steps : ℕ) (unproved : List Unproved) (old middle new : Option (List ℕ)) (m k n : ℕ) (e : Refusal) → AreUnprovedOf files unproved → middle ≡ old → k ≡ m → IsStopped (IsProgramRefusal files.text.items) middle new k n e → IsStopped (IsVerifyRefusal files steps) old new m n e
+telling_stops files steps unproved old middle new m k n e are same even h =
+    let Refuses = IsProgramRefusal files.text.items in
+    let from_old = subst (λ (o : Option (List ℕ)). IsStopped Refuses o new k n e) same h in
+    stops_weaker {A = Unit {0}} Refuses (IsVerifyRefusal files steps) old new m n (Err e)
+    (λ _ why. inl (inr (are.derived.pieces, are.derived.cut, inl why)))
+    (subst (λ (f : ℕ). IsStopped Refuses old new f n e) even from_old)

@@ -6,7 +6,7 @@ use Rattle.rgc.specs.Pieces.{AreAcceptedInPieces}
 use Rattle.rgc_outlines.specs.Cut.{ArePiecesOf}
 use Rattle.rgc_outlines.specs.WalkedRefuted.{IsRefuted}
 use Rattle.rgc_outlines.specs.declared.answers.Answer.{Answer}
-use Rattle.rgc_outlines.specs.declared.answers.Answer.TheVariants.{Survives, Breaks, Unfit, Undecided}
+use Rattle.rgc_outlines.specs.declared.answers.Answer.TheVariants.{Survives, Breaks, Undecided}
 use Rattle.rgc_outlines.specs.declared.answers.Answered.{Answered}
 
 -- the text, the pieces of some derivation, and some proofs are accepted for a program, which therefore satisfies its specification
@@ -19,11 +19,10 @@ pub record IsProvedText (text : List ℕ) : Type 0 where
   pub accepted : AreAcceptedInPieces text pieces proofs program
   pub satisfied : IsSatisfied program
 
--- what is said of a text is so; where only the assertions don't fit, or it is undecided, that says nothing
+-- what is said of a text is so; that it is undecided says nothing
 abbrev pub IsSaid : List ℕ → Answer → Type 0
 IsSaid text Survives = IsProvedText text
 IsSaid text Breaks = IsRefuted text
-IsSaid text Unfit = Unit {0}
 IsSaid text Undecided = Unit {0}
 
 -- what is said of the text of a changed program is so

@@ -2,6 +2,7 @@
 use Rattle.std.specs.Prelude.{ℕ, List, ◌++◌, Option}
 use Rattle.std.specs.Borrow.{Bor}
 use Rattle.std.specs.Io.KnownBytes.{Appends}
+use Rattle.rg_outline_reports.specs.declared.files.OutlineFiles.{OutlineFiles}
 use Rattle.rg_tree.specs.Statements.{ProgramTree}
 use Rattle.rg_code.specs.Code.{BlockTree}
 use Rattle.rg_floor.specs.Turns.{ClosedView}
@@ -16,16 +17,14 @@ pub record HasReportedRunOf (program : ProgramTree) (blocks : List (List BlockTr
   pub left : IsRunLeft program blocks start moves limit closed
   pub printed : Appends old new (reported_lines naming program closed.history ++ why_text closed.why)
 
--- some text, the pieces of some derivation, and some proofs are accepted for a program, and these are exactly the blocks of its code; it was run, and what it did went
--- out, by some names of words and some lines of statements
-pub record HasReportedRun (start moves : Option (Bor (List ℕ))) (limit : ℕ) (old new : Option (List ℕ)) : Type 0 where
-  pub text : List ℕ
-  pub derivation : List ℕ
+-- the text of these files, the pieces of their derivation, and some proofs are accepted for a program, and these are exactly the blocks of its code; it was run, and
+-- what it did went out, by some names of words and some lines of statements
+pub record HasReportedRun (files : OutlineFiles) (start moves : Option (Bor (List ℕ))) (limit : ℕ) (old new : Option (List ℕ)) : Type 0 where
   pub pieces : List (List ℕ)
   pub proofs : List ℕ
   pub program : ProgramTree
   pub blocks : List (List BlockTree)
-  pub cut : ArePiecesOf derivation pieces
-  pub built : IsBuiltInPieces text pieces proofs program blocks
+  pub cut : ArePiecesOf files.derivation.items pieces
+  pub built : IsBuiltInPieces files.text.items pieces proofs program blocks
   pub naming : NamingView
   pub run : HasReportedRunOf program blocks naming start moves limit old new

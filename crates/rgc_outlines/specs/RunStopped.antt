@@ -2,6 +2,7 @@
 use Rattle.std.specs.Prelude.{◌⊎◌, ℕ, List, Option}
 use Rattle.std.specs.Borrow.{Bor}
 use Rattle.rg_words.specs.declared.refusal.Refusal.{Refusal}
+use Rattle.rg_outline_reports.specs.declared.files.OutlineFiles.{OutlineFiles}
 use Rattle.rg_tree.specs.Lines.{LineTree}
 use Rattle.rg_tree.specs.Statements.{ProgramTree}
 use Rattle.rg_accept.specs.Accepted.{conditions_of}
@@ -15,12 +16,8 @@ IsUnrun program start moves limit e = IsUnbegun program start moves limit e ⊎ 
 
 -- why an outline's files aren't run: for a fault of the text, or of the pieces of the derivation; else of the search for proofs of the conditions of what
 -- they derive, or of the proofs that it found; else a run isn't begun
-abbrev pub IsOutlineRunRefusal : List ℕ → List ℕ → Option (Bor (List ℕ)) → Option (Bor (List ℕ)) → ℕ → ℕ → Refusal → Type 0
-IsOutlineRunRefusal text derivation start moves limit steps e =
-    IsOfPiecesRefusal text derivation e
-    ⊎ ((program : ProgramTree) × (lines : List LineTree) × IsOfPieces text derivation program lines
+abbrev pub IsOutlineRunRefusal : OutlineFiles → Option (Bor (List ℕ)) → Option (Bor (List ℕ)) → ℕ → ℕ → Refusal → Type 0
+IsOutlineRunRefusal files start moves limit steps e =
+    IsOfPiecesRefusal files.text.items files.derivation.items e
+    ⊎ ((program : ProgramTree) × (lines : List LineTree) × IsOfPieces files.text.items files.derivation.items program lines
     × (IsSearchRefusal (conditions_of program lines) steps e ⊎ IsUnrun program start moves limit e))
-
--- some text and some derivation are refused so
-abbrev pub IsSomeRunRefusal : Option (Bor (List ℕ)) → Option (Bor (List ℕ)) → ℕ → ℕ → Refusal → Type 0
-IsSomeRunRefusal start moves limit steps e = (text : List ℕ) × (derivation : List ℕ) × IsOutlineRunRefusal text derivation start moves limit steps e

@@ -1,6 +1,7 @@
 -- What is reported of an outline that isn't verified.
 use Rattle.std.specs.Prelude.{ℕ, ◌+◌, List, length, Option}
 use Rattle.std.specs.Io.KnownBytes.{Appends}
+use Rattle.rg_outline_reports.specs.declared.files.OutlineFiles.{OutlineFiles}
 use Rattle.rg_tree.specs.Lines.{LineTree}
 use Rattle.rg_tree.specs.Statements.{ProgramTree}
 use Rattle.rg_accept.specs.Accepted.{conditions_of}
@@ -8,19 +9,17 @@ use Rattle.rgc.specs.Proofs.{AreUnproved}
 use Rattle.rgc.specs.declared.proofs_found.Unproved.{Unproved}
 use Rattle.rgc_outlines.specs.Cut.{IsOfPieces}
 
--- the text spells a program, and the pieces of the derivation spell lines that derive its parts; some of their conditions have no proof, what was found of these
--- is so, and all others hold
-pub record AreUnprovedOf (text derivation : List ℕ) (unproved : List Unproved) : Type 0 where
+-- the text of these files spells a program, and the pieces of their derivation spell lines that derive its parts; some of their conditions have no proof, what
+-- was found of these is so, and all others hold
+pub record AreUnprovedOf (files : OutlineFiles) (unproved : List Unproved) : Type 0 where
   pub program : ProgramTree
   pub lines : List LineTree
-  pub derived : IsOfPieces text derivation program lines
+  pub derived : IsOfPieces files.text.items files.derivation.items program lines
   pub are : AreUnproved (conditions_of program lines) 1 (length (conditions_of program lines) + 1) unproved
 
--- the same of some text and some derivation; and a text went out
-pub record HasReportedUnverified (old new : Option (List ℕ)) : Type 0 where
-  pub text : List ℕ
-  pub derivation : List ℕ
+-- the same of some conditions; and a text went out
+pub record HasReportedUnverified (files : OutlineFiles) (old new : Option (List ℕ)) : Type 0 where
   pub unproved : List Unproved
-  pub are : AreUnprovedOf text derivation unproved
+  pub are : AreUnprovedOf files unproved
   pub reported : List ℕ
   pub printed : Appends old new reported

@@ -4,12 +4,12 @@ use Rattle.std.specs.Io.KnownBytes.{Appends}
 use Rattle.serde_json.specs.Data.{Data, object, member, no_members, number, string, unsigned}
 use Rattle.serde_json.specs.Written.{compact_text}
 use Rattle.rg_words.specs.declared.limits.TheConstants.{MOST_TEXT_BYTES}
+use Rattle.rg_outline_reports.specs.declared.files.OutlineFiles.{OutlineFiles}
 use Rattle.rg_tree.specs.Statements.{ProgramTree}
 use Rattle.rg_tree.specs.Programs.{IsSatisfied}
 use Rattle.rg_accept.specs.Accepted.{conditions_of, AreAccepted}
 use Rattle.rgc.specs.Pieces.{AreAcceptedInPieces}
 use Rattle.rgc_outlines.specs.Cut.{ArePiecesOf}
-use Rattle.rgc_outlines.specs.WalkedRefuted.{IsRefuted}
 use Rattle.rgc_outlines.specs.declared.verdict.VerdictForm.{VerdictForm}
 use Rattle.rgc_outlines.specs.declared.verdict.VerdictForm.TheVariants.{Alone, Named, Json}
 
@@ -28,16 +28,14 @@ verdict_text Alone conditions found = verified_text conditions found
 verdict_text (Named name) conditions found = name.now ++ (codes ": " ++ verified_text conditions found)
 verdict_text (Json name) conditions found = compact_text (verdict_data name.now conditions found) ++ codes "\n"
 
--- some text, the pieces of some derivation, and some proofs are accepted for a program, which therefore satisfies its specification, and the count of
--- its conditions went out in this form
-pub record HasPrintedVerdict (form : VerdictForm) (old new : Option (List ℕ)) : Type 0 where
-  pub text : List ℕ
-  pub derivation : List ℕ
+-- the text of these files, the pieces of their derivation, and some proofs are accepted for a program, which therefore satisfies its specification, and the
+-- count of its conditions went out in this form
+pub record HasPrintedVerdict (form : VerdictForm) (files : OutlineFiles) (old new : Option (List ℕ)) : Type 0 where
   pub pieces : List (List ℕ)
   pub proofs : List ℕ
   pub program : ProgramTree
-  pub cut : ArePiecesOf derivation pieces
-  pub accepted : AreAcceptedInPieces text pieces proofs program
+  pub cut : ArePiecesOf files.derivation.items pieces
+  pub accepted : AreAcceptedInPieces files.text.items pieces proofs program
   pub satisfied : IsSatisfied program
   pub found : ℕ
   pub printed : Appends old new (verdict_text form (length (conditions_of program accepted.lines)) found)
@@ -45,11 +43,7 @@ pub record HasPrintedVerdict (form : VerdictForm) (old new : Option (List ℕ)) 
 -- where the derivation is no longer than a file may be, it is accepted with the text and the proofs
 abbrev pub ShortDerivationsAreAccepted : Type 0
 ShortDerivationsAreAccepted =
-    (form : VerdictForm) (old new : Option (List ℕ)) (v : HasPrintedVerdict form old new) → length v.derivation ≤ MOST_TEXT_BYTES → AreAccepted v.text v.derivation v.proofs v.program
-
--- some text spells a program that doesn't satisfy its specification
-abbrev pub HasBreakingRun : Type 0
-HasBreakingRun = (text : List ℕ) × IsRefuted text
+    (form : VerdictForm) (files : OutlineFiles) (old new : Option (List ℕ)) (v : HasPrintedVerdict form files old new) → length files.derivation.items ≤ MOST_TEXT_BYTES → AreAccepted files.text.items files.derivation.items v.proofs v.program
 
 -- what a walk found went out
 abbrev pub HasPrintedRuns : Option (List ℕ) → Option (List ℕ) → Type 0

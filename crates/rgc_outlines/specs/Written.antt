@@ -1,6 +1,7 @@
 -- What was written of an outline.
 use Rattle.std.specs.Prelude.{◌≡◌, ℕ, ◌+◌, List, ◌++◌, length, Bool, true, false, Option}
 use Rattle.std.specs.Io.KnownBytes.{Appends}
+use Rattle.rg_outline_reports.specs.declared.files.OutlineFiles.{OutlineFiles}
 use Rattle.rg_tree.specs.Lines.{LineTree}
 use Rattle.rg_tree.specs.Statements.{ProgramTree}
 use Rattle.rg_hints.specs.Proved.{AreProved}
@@ -33,27 +34,23 @@ abbrev pub AreProvedWhere : Bool → ProgramTree → List LineTree → List ℕ 
 AreProvedWhere true program lines proofs = AreProved (conditions_of program lines) proofs
 AreProvedWhere false program lines proofs = Unit {0}
 
--- a text spells a program, whose parts a derivation derives, and proofs prove its conditions; what is wanted of them was put, and the text went out where it
--- isn't
-pub record HasWritten (wanted : Wanted) (before after : Sides) (old new : Option (List ℕ)) : Type 0 where
-  pub text : List ℕ
-  pub derivation : List ℕ
+-- the text of these files spells a program, whose parts their derivation derives, and proofs prove its conditions; what is wanted of them was put, and the text
+-- went out where it isn't
+pub record HasWritten (files : OutlineFiles) (wanted : Wanted) (before after : Sides) (old new : Option (List ℕ)) : Type 0 where
   pub proofs : List ℕ
   pub program : ProgramTree
   pub lines : List LineTree
-  pub derived : AreDerived text derivation program lines
+  pub derived : AreDerived files.text.items files.derivation.items program lines
   pub proved : AreProvedWhere wanted.has_proofs program lines proofs
-  pub put : HasPut text derivation proofs wanted before after old new
+  pub put : HasPut files.text.items files.derivation.items proofs wanted before after old new
 
--- proofs are wanted, and aren't found: a text spells a program, whose parts a derivation derives; some of its conditions have no proof, what was found of these
--- is so, and all others hold; and a text went out
-pub record HasReportedMissing (wanted : Wanted) (old new : Option (List ℕ)) : Type 0 where
+-- proofs are wanted, and aren't found: the text of these files spells a program, whose parts their derivation derives; some of its conditions have no proof, what
+-- was found of these is so, and all others hold; and a text went out
+pub record HasReportedMissing (files : OutlineFiles) (wanted : Wanted) (old new : Option (List ℕ)) : Type 0 where
   pub proofs_wanted : wanted.has_proofs ≡ true
-  pub text : List ℕ
-  pub derivation : List ℕ
   pub program : ProgramTree
   pub lines : List LineTree
-  pub derived : AreDerived text derivation program lines
+  pub derived : AreDerived files.text.items files.derivation.items program lines
   pub unproved : List Unproved
   pub are : AreUnproved (conditions_of program lines) 1 (length (conditions_of program lines) + 1) unproved
   pub reported : List ℕ

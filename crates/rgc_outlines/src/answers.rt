@@ -20,8 +20,8 @@ use std::thread::Threads;
 
 /// How far the walk of a changed program goes.
 const BOUNDS: Bounds = Bounds {
-    configurations: 20_000,
-    work: 2_000_000,
+    steps: 60_000,
+    bytes: 100_000_000,
     with_parts: false,
 };
 
@@ -32,9 +32,7 @@ pub enum Answer {
     Survives,
     /// A run of it breaks the specification.
     Breaks,
-    /// It isn't so with these assertions, and no run was found that breaks the specification.
-    Unfit,
-    /// No proof was found within the steps, and no run that breaks the specification.
+    /// It isn't proved with these assertions, and no run was found that breaks the specification.
     Undecided,
 }
 
@@ -65,12 +63,11 @@ fn proved_with<R, P: Watcher + Copy>(
     subject: Subject<'_, '_, '_>,
     change: &Change,
     files: OutlineFiles,
-    is_open: &mut bool,
 ) -> Result<Option<Answered>, Refusal>
     ensures { IfOk result (λ found. IfSome found IsAnswered) }
 {
     let (known, steps) = (subject.known, subject.steps);
-    if !is_proved(context, &files, known, steps, is_open)? {
+    if !is_proved(context, &files, known, steps)? {
         return Ok(None);
     }
     Ok(Some(Answered {
@@ -86,13 +83,12 @@ fn proved<R, P: Watcher + Copy>(
     context: &Context<'_, R, P>,
     subject: Subject<'_, '_, '_>,
     change: &Change,
-    is_open: &mut bool,
 ) -> Result<Option<Answered>, Refusal>
     ensures { IfOk result (λ found. IfSome found IsAnswered) }
 {
     for between in Between::ALL {
         if let Some(files) = files_with(context.alloc, subject.source, change, between)? {
-            let found = proved_with(context, subject, change, files, is_open)?;
+            let found = proved_with(context, subject, change, files)?;
             if found.is_some() {
                 return Ok(found);
             }
@@ -114,12 +110,7 @@ fn run_lines(alloc: Global, source: &[u8], run: &BreakingRun) -> Result<Vec<u8>,
 }
 
 /// A change that isn't proved, with what a walk finds of it.
-fn walked(
-    alloc: Global,
-    source: &[u8],
-    candidate: &Candidate,
-    is_open: bool,
-) -> Result<Answered, Refusal>
+fn walked(alloc: Global, source: &[u8], candidate: &Candidate) -> Result<Answered, Refusal>
     ensures { IfOk result IsAnswered }
 {
     let change = candidate.change;
@@ -137,11 +128,7 @@ fn walked(
         }
         Walked::NotFound(_) => Ok(Answered {
             change,
-            answer: if is_open {
-                Answer::Undecided
-            } else {
-                Answer::Unfit
-            },
+            answer: Answer::Undecided,
             text,
             reported: Vec::new(alloc),
         }),
@@ -156,11 +143,9 @@ fn answer_of<R, P: Watcher + Copy>(
 ) -> Result<Answered, Refusal>
     ensures { IfOk result IsAnswered }
 {
-    let mut is_open = false;
-    let change = &candidate.change;
-    match proved(context, subject, change, &mut is_open)? {
+    match proved(context, subject, &candidate.change)? {
         Some(answered) => Ok(answered),
-        None => walked(context.alloc, subject.source, candidate, is_open),
+        None => walked(context.alloc, subject.source, candidate),
     }
 }
 

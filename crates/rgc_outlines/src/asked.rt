@@ -21,17 +21,6 @@ use rgc::Derived;
 use rgc_answers::Context;
 use std::alloc::{AllocError, Global};
 
-/// What searches say of conditions.
-#[derive(Clone, Copy, PartialEq, Eq)]
-enum Judgement {
-    /// All of them are true, by the lines that are known or were found.
-    True,
-    /// One of them fails.
-    Fails,
-    /// For some of them there are no lines, and none fails.
-    Open,
-}
-
 /// Adds the section of a condition of this number, where it has lines.
 fn push_section(
     alloc: Global,
@@ -48,14 +37,14 @@ fn push_section(
     Ok(())
 }
 
-/// What a search says of a condition of this number; where it is true, its section is added.
+/// Whether a search finds lines for a condition of this number; where it does, its section is added.
 fn search<R, P: Watcher + Copy>(
     context: &Context<'_, R, P>,
     condition: &Condition,
     number: u64,
     steps: u64,
     proofs: &mut Vec<u8>,
-) -> Result<Judgement, Refusal>
+) -> Result<bool, Refusal>
     ensures { IfErr result (IsJudgeRefusal (condition_tree condition.now) Derivation number steps) }
 {
     let alloc = context.alloc;
@@ -65,15 +54,14 @@ fn search<R, P: Watcher + Copy>(
         Ok(Judged::Holds(lines)) => {
             let text = lines.text(alloc)?;
             push_section(alloc, proofs, number, text.as_bytes())?;
-            Ok(Judgement::True)
+            Ok(true)
         }
-        Ok(Judged::Fails(..)) => Ok(Judgement::Fails),
-        Ok(Judged::GaveUp | Judged::TooLarge) => Ok(Judgement::Open),
+        Ok(_) => Ok(false),
         Err(refusal) => Err(refusal),
     }
 }
 
-/// What is known of a condition of this number, or else what a search says of it; where it is true, its section is added.
+/// Whether lines are known for a condition of this number, or else a search finds some; where there are any, its section is added.
 fn judge_one<R, P: Watcher + Copy>(
     context: &Context<'_, R, P>,
     condition: &Condition,
@@ -81,55 +69,53 @@ fn judge_one<R, P: Watcher + Copy>(
     known: &Known<'_>,
     steps: u64,
     proofs: &mut Vec<u8>,
-) -> Result<Judgement, Refusal>
+) -> Result<bool, Refusal>
     ensures { IfErr result (IsJudgeRefusal (condition_tree condition.now) Derivation number steps) }
 {
     match known.lines_of(condition) {
         Some(lines) => {
             push_section(context.alloc, proofs, number, lines)?;
-            Ok(Judgement::True)
+            Ok(true)
         }
         None => search(context, condition, number, steps, proofs),
     }
 }
 
-/// What is known of conditions, or else what searches say of them, up to the first that fails; the sections of those that are true are added.
+/// Whether there are lines for all conditions, known or found, up to the first for which there are none; the sections of those before it are added.
 fn judge_all<R, P: Watcher + Copy>(
     context: &Context<'_, R, P>,
     conditions: &[Condition],
     known: &Known<'_>,
     steps: u64,
     proofs: &mut Vec<u8>,
-) -> Result<Judgement, Refusal>
+) -> Result<bool, Refusal>
     ensures { IfErr result (IsUnjudged (map condition_tree conditions.now) steps) }
 {
-    let mut all = Judgement::True;
     for place in 0..conditions.len() {
         let condition = &conditions[place];
         let number = place as u64 + 1;
         match judge_one(context, condition, number, known, steps, proofs) {
-            Ok(Judgement::True) => {}
-            Ok(Judgement::Fails) => return Ok(Judgement::Fails),
-            Ok(Judgement::Open) => all = Judgement::Open,
+            Ok(true) => {}
+            Ok(false) => return Ok(false),
             Err(refusal) => return Err(refusal),
         }
     }
-    Ok(all)
+    Ok(true)
 }
 
-/// What is known of the conditions of a program's derivation, or else what searches say of them, as `judge_all` has it.
+/// Whether there are lines for all conditions of a program's derivation, as `judge_all` has it.
 fn judge_derived<R, P: Watcher + Copy>(
     context: &Context<'_, R, P>,
     derived: &Derived,
     known: &Known<'_>,
     steps: u64,
     proofs: &mut Vec<u8>,
-) -> Result<Judgement, Refusal>
+) -> Result<bool, Refusal>
     ensures { IfErr result (λ e. (e ≡ no_memory) ⊎ IsUnjudged (conditions_of (derived_program derived.now) (derived_lines derived.now)) steps e) }
 {
     let conditions = derived.conditions(context.alloc)?;
     match judge_all(context, &conditions, known, steps, proofs) {
-        Ok(judgement) => Ok(judgement),
+        Ok(has_lines) => Ok(has_lines),
         Err(refusal) => Err(refusal),
     }
 }
@@ -147,8 +133,8 @@ fn has_proofs(alloc: Global, derived: Derived, proofs: &[u8]) -> Result<bool, Re
 }
 
 /// Whether all conditions of the program of an outline's text with its derivation, which may be longer than a file may be, are proved: by lines that
-/// are known, or that a search finds, which makes so many decisions at most; all lines are checked. Where they aren't all proved, and none of them is
-/// found to fail, `is_open` becomes true. The conditions are looked at in their order up to the first that fails.
+/// are known, or that a search finds, which makes so many decisions at most; all lines are checked. The conditions are looked at in their order up to the
+/// first for which there are no lines.
 ///
 /// # Errors
 ///
@@ -158,7 +144,6 @@ pub fn is_proved<R, P: Watcher + Copy>(
     files: &OutlineFiles,
     known: &Known<'_>,
     steps: u64,
-    is_open: &mut bool,
 ) -> Result<bool, Refusal>
     // It is said only where the text, the pieces of a derivation and some proofs are accepted.
     ensures proved { IfOk result (λ b. IsTrue b → IsProvedText files.now.text.items) }
@@ -170,13 +155,12 @@ pub fn is_proved<R, P: Watcher + Copy>(
         Err(refusal) => return Err(refusal),
     };
     let mut proofs = Vec::new(alloc);
-    let judgement = match judge_derived(context, &derived, known, steps, &mut proofs) {
-        Ok(judgement) => judgement,
+    let has_lines = match judge_derived(context, &derived, known, steps, &mut proofs) {
+        Ok(has_lines) => has_lines,
         Err(refusal) => return Err(refusal),
     };
-    if judgement == Judgement::True && has_proofs(alloc, derived, &proofs)? {
+    if has_lines && has_proofs(alloc, derived, &proofs)? {
         return Ok(true);
     }
-    *is_open = *is_open || judgement != Judgement::Fails;
     Ok(false)
 }

@@ -1,4 +1,4 @@
-//! The challenge of an outline, from its bytes to what is printed.
+//! The challenge of an outline, to what is printed.
 
 ghost use Rattle.std.specs.Prelude.{◌≡◌, ℕ, List, Option, None, All, IfOk, IfErr, IfSome};
 ghost use Rattle.rg_words.specs.Stopped.{IsStopped};
@@ -13,14 +13,13 @@ ghost use Rattle.rgc_answers.specs.Failures.{NoFailure};
 use crate::answers::{Answer, Answered, Subject, answers_of};
 use crate::candidates::{Original, candidates_of};
 use crate::known::Known;
-use crate::outlines::verify_outlined;
 use crate::verdict::VerdictForm;
-use crate::{NotDone, derive_outline};
+use crate::{derive_outline, verify_outline};
 use rg_find::Watcher;
 use rg_outline_challenge::{
     Change, Counts, changes_of, push_change, push_counts, push_survivors, push_unspoken,
 };
-use rg_outline_reports::{OutlineSource, Outlined, ReadOutline, read_outline};
+use rg_outline_reports::{OutlineSource, Outlined};
 use rg_outline_syntax::Span;
 use rg_words::{Out, Refusal, write_all};
 use rgc::{Derived, ProofsFound, find_proofs};
@@ -59,8 +58,7 @@ fn push_refused(
         let said: &[u8] = match answered.answer {
             Answer::Survives => continue,
             Answer::Breaks => b": breaks the specification\n",
-            Answer::Unfit => b": only the assertions don't fit\n",
-            Answer::Undecided => b": undecided within the steps\n",
+            Answer::Undecided => b": undecided\n",
         };
         push_change(alloc, lines, outline.name, outline.source, &answered.change)?;
         lines.extend_from_slice(said)?;
@@ -96,7 +94,6 @@ fn lines_of(
     let counts = Counts {
         surviving: count(answers, Answer::Survives),
         breaking: count(answers, Answer::Breaks),
-        unfitting: count(answers, Answer::Unfit),
         undecided: count(answers, Answer::Undecided),
     };
     push_counts(&mut lines, counts)?;
@@ -148,11 +145,9 @@ fn answers_in<R: Threads + Wait + Sync, P: Watcher + Copy + Sync>(
     answers_of(context, subject, &candidates)
 }
 
-/// Challenges an outline that was read and worked out.
-fn challenge_outlined<R: Threads + Wait + Sync, W: Out, P: Watcher + Copy + Sync>(
+/// Asks of each small change of an outline's program whether its specification still holds, and prints what it found.
+fn challenge_verified<R: Threads + Wait + Sync, W: Out, P: Watcher + Copy + Sync>(
     context: &Context<'_, R, P>,
-    outline: OutlineSource<'_>,
-    read: &ReadOutline,
     outlined: &Outlined<'_>,
     options: Options,
     out: &mut W,
@@ -162,6 +157,7 @@ fn challenge_outlined<R: Threads + Wait + Sync, W: Out, P: Watcher + Copy + Sync
     ensures failures { NoFailure result (W.failures out.old) (W.failures out.new) }
     ensures stopped { IfErr result (IsStopped (λ _. Unit {0}) (W.contents out.old) (W.contents out.new) (W.failures out.old) (W.failures out.new)) }
 {
+    let (outline, read) = (outlined.outline, outlined.read);
     let (source, steps) = (outline.source, options.steps_for_changes);
     let found = changes_of(context.alloc, source, &read.tokens, &read.written)?;
     let answers = answers_in(context, outlined, source, &found.changes, steps)?;
@@ -179,37 +175,35 @@ fn challenge_outlined<R: Threads + Wait + Sync, W: Out, P: Watcher + Copy + Sync
 /// # Errors
 ///
 /// - As `crate::verify_outline`.
-/// - After the verdict, `NotDone::Refused` where the files of a changed outline are too deep, where more decisions are asked than a search may
-///   make, where the writer failed, or where memory is refused.
+/// - After the verdict, where the files of a changed outline are too deep, where more decisions are asked than a search may make, where the
+///   writer failed, or where memory is refused.
 pub fn challenge<R: Threads + Wait + Sync, W: Out, P: Watcher + Copy + Sync>(
     context: &Context<'_, R, P>,
-    outline: OutlineSource<'_>,
+    outlined: &Outlined<'_>,
     options: Options,
     out: &mut W,
     warnings: &mut Vec<u8>,
-) -> Result<Option<Vec<Answered>>, NotDone>
+) -> Result<Option<Vec<Answered>>, Refusal>
     requires { CanCount (W.failures out.old) }
-    ensures verdict { IfOk result (λ found. IfSome found (λ _. (middle : Option (List ℕ)) × HasPrintedVerdict Alone (W.contents out.old) middle)) }
+    ensures verdict { IfOk result (λ found. IfSome found (λ _. (middle : Option (List ℕ)) × HasPrintedVerdict Alone outlined.now.files (W.contents out.old) middle)) }
     // A change is said to survive only where its text, the pieces of a derivation and proofs are accepted; and to break the specification only where
     // its text's program doesn't satisfy it.
     ensures answers { IfOk result (λ found. IfSome found (λ answers. All IsAnswered answers.items)) }
-    ensures reported { IfOk result (λ found. found ≡ None → HasReportedUnverified (W.contents out.old) (W.contents out.new)) }
+    ensures reported { IfOk result (λ found. found ≡ None → HasReportedUnverified outlined.now.files (W.contents out.old) (W.contents out.new)) }
     ensures failures { NoFailure result (W.failures out.old) (W.failures out.new) }
     // Where a changed program is refused, nothing went out after the verdict, unless the writer failed; of why it is refused nothing is said.
-    ensures stopped { IfErr result (IsChallengeStopped options.steps (W.contents out.old) (W.contents out.new) (W.failures out.old) (W.failures out.new)) }
+    ensures stopped { IfErr result (IsChallengeStopped outlined.now.files options.steps (W.contents out.old) (W.contents out.new) (W.failures out.old) (W.failures out.new)) }
 {
-    let read = read_outline(context.alloc, outline)?;
-    let outlined = Outlined::of(context.alloc, outline, &read)?;
     let (form, steps) = (VerdictForm::Alone, options.steps);
-    let is_verified = match verify_outlined(context, &outlined, form, steps, out, warnings) {
+    let is_verified = match verify_outline(context, outlined, form, steps, out, warnings) {
         Ok(is_verified) => is_verified,
-        Err(refusal) => return Err(NotDone::Refused(refusal)),
+        Err(refusal) => return Err(refusal),
     };
     if !is_verified {
         return Ok(None);
     }
-    match challenge_outlined(context, outline, &read, &outlined, options, out) {
+    match challenge_verified(context, outlined, options, out) {
         Ok(answers) => Ok(Some(answers)),
-        Err(refusal) => Err(NotDone::Refused(refusal)),
+        Err(refusal) => Err(refusal),
     }
 }

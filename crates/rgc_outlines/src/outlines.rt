@@ -5,17 +5,16 @@ ghost use Rattle.std.specs.Io.KnownBytes.{Appends};
 ghost use Rattle.rg_words.specs.Stopped.{IsStopped};
 ghost use Rattle.rg_words.specs.Written.{CanCount};
 ghost use Rattle.rg_parse.specs.Programs.{IsProgramRefusal};
-ghost use Rattle.rgc_outlines.specs.Refused.{IsSomeVerifyRefusal};
-ghost use Rattle.rgc_outlines.specs.Stopped.{IsNotDone};
+ghost use Rattle.rgc_outlines.specs.Refused.{IsVerifyRefusal};
 ghost use Rattle.rgc_outlines.specs.Unproved.{HasReportedUnverified};
 ghost use Rattle.rgc_outlines.specs.Verified.{HasPrintedVerdict};
 ghost use Rattle.rgc_answers.specs.Failures.{NoFailure};
 
 use crate::verdict::{VerdictForm, push_name};
 use crate::verify::print_verified;
-use crate::{NotDone, conditions_reported, tell_walk};
+use crate::{conditions_reported, tell_walk};
 use rg_find::{Judged, Unwatched, Watcher};
-use rg_outline_reports::{OutlineSource, Outlined, read_outline, values_of};
+use rg_outline_reports::{Outlined, values_of};
 use rg_words::{Out, Refusal, write_all};
 use rgc::{Unproved, find};
 use rgc_answers::Context;
@@ -23,8 +22,8 @@ use std::alloc::{AllocError, Global};
 use std::sync::Wait;
 use std::thread::Threads;
 
-/// The most decisions of the search for a state that meets a pre.
-const MOST_STEPS_FOR_PRE: u64 = 1_000;
+/// The most decisions of a search for a warning.
+const MOST_STEPS_FOR_WARNING: u64 = 1_000;
 
 /// The states at which conditions fail.
 fn states_of(alloc: Global, unproved: &[Unproved]) -> Result<Vec<Vec<u64>>, AllocError> {
@@ -73,24 +72,37 @@ fn print_unproved<W: Out>(
 
 /// Whether a short search finds that a formula to show is true in all states.
 fn is_shown(alloc: Global, text: &[u8]) -> bool {
-    match find(alloc, text, MOST_STEPS_FOR_PRE, &mut Unwatched) {
+    match find(alloc, text, MOST_STEPS_FOR_WARNING, &mut Unwatched) {
         Ok((_, judged)) => matches!(judged, Judged::Holds(_)),
         Err(_) => false,
     }
 }
 
-/// Adds the warnings of an outline.
+/// Adds the warnings of an outline, of which some are found by a short search.
 fn push_warnings(
     alloc: Global,
     outlined: &Outlined<'_>,
     warnings: &mut Vec<u8>,
 ) -> Result<(), AllocError> {
-    let reported = outlined.warnings(is_shown(alloc, &outlined.files.unmet))?;
+    let questions = outlined.questions()?;
+    let mut shown = Vec::new(alloc);
+    for question in &questions {
+        if is_shown(alloc, &question.text) {
+            shown.push(question.asks)?;
+        }
+    }
+    let reported = outlined.warnings(&shown)?;
     warnings.extend_from_slice(&reported)
 }
 
-/// Does what `verify_outline` does with an outline that was worked out.
-pub(crate) fn verify_outlined<R: Threads + Wait + Sync, W: Out, P: Watcher + Copy + Sync>(
+/// Prints how many conditions of an outline's program were proved, in this form; else reports which aren't, and a run that breaks the
+/// specification or that none was found, and answers false. Proofs are looked for and checked in threads, each search with a copy of the
+/// watcher. The outline's warnings are put after what `warnings` holds; they change no answer.
+///
+/// # Errors
+///
+/// As `print_verified`.
+pub fn verify_outline<R: Threads + Wait + Sync, W: Out, P: Watcher + Copy + Sync>(
     context: &Context<'_, R, P>,
     outlined: &Outlined<'_>,
     form: VerdictForm<'_>,
@@ -99,10 +111,12 @@ pub(crate) fn verify_outlined<R: Threads + Wait + Sync, W: Out, P: Watcher + Cop
     warnings: &mut Vec<u8>,
 ) -> Result<bool, Refusal>
     requires { CanCount (W.failures out.old) }
-    ensures printed { IfOk result (λ b. IsTrue b → HasPrintedVerdict form.entry (W.contents out.old) (W.contents out.new)) }
-    ensures reported { IfOk result (λ b. b ≡ false → HasReportedUnverified (W.contents out.old) (W.contents out.new)) }
+    // It is said only where the outline's text, its derivation and some proofs are accepted.
+    ensures printed { IfOk result (λ b. IsTrue b → HasPrintedVerdict form.entry outlined.now.files (W.contents out.old) (W.contents out.new)) }
+    // Else some of its conditions have no proof; what was found of these is true, all others hold, and a text went out.
+    ensures reported { IfOk result (λ b. b ≡ false → HasReportedUnverified outlined.now.files (W.contents out.old) (W.contents out.new)) }
     ensures failures { NoFailure result (W.failures out.old) (W.failures out.new) }
-    ensures stopped { IfErr result (IsStopped (IsSomeVerifyRefusal steps) (W.contents out.old) (W.contents out.new) (W.failures out.old) (W.failures out.new)) }
+    ensures stopped { IfErr result (IsStopped (IsVerifyRefusal outlined.now.files steps) (W.contents out.old) (W.contents out.new) (W.failures out.old) (W.failures out.new)) }
 {
     push_warnings(context.alloc, outlined, warnings)?;
     match print_verified(context, &outlined.files, steps, form, out)? {
@@ -111,37 +125,5 @@ pub(crate) fn verify_outlined<R: Threads + Wait + Sync, W: Out, P: Watcher + Cop
             print_unproved(context.alloc, outlined, &unproved, form, out)?;
             Ok(false)
         }
-    }
-}
-
-/// Prints how many conditions of an outline were proved, in this form; else reports which aren't, and a run that breaks the specification or
-/// that none was found, and answers false. Proofs are looked for and checked in threads, each search with a copy of the watcher. The outline's
-/// warnings are put after what `warnings` holds; they change no answer.
-///
-/// # Errors
-///
-/// - `NotDone::Outline` where the outline is refused, with what reports its first fault.
-/// - `NotDone::Refused` as `print_verified`.
-pub fn verify_outline<R: Threads + Wait + Sync, W: Out, P: Watcher + Copy + Sync>(
-    context: &Context<'_, R, P>,
-    outline: OutlineSource<'_>,
-    form: VerdictForm<'_>,
-    steps: u64,
-    out: &mut W,
-    warnings: &mut Vec<u8>,
-) -> Result<bool, NotDone>
-    requires { CanCount (W.failures out.old) }
-    // It is said only where some text, derivation and proofs are accepted.
-    ensures printed { IfOk result (λ b. IsTrue b → HasPrintedVerdict form.entry (W.contents out.old) (W.contents out.new)) }
-    // Else some conditions have no proof; what was found of these is true, all others hold, and a text went out.
-    ensures reported { IfOk result (λ b. b ≡ false → HasReportedUnverified (W.contents out.old) (W.contents out.new)) }
-    ensures failures { NoFailure result (W.failures out.old) (W.failures out.new) }
-    ensures stopped { IfErr result (IsNotDone (IsSomeVerifyRefusal steps) (W.contents out.old) (W.contents out.new) (W.failures out.old) (W.failures out.new)) }
-{
-    let written = read_outline(context.alloc, outline)?;
-    let outlined = Outlined::of(context.alloc, outline, &written)?;
-    match verify_outlined(context, &outlined, form, steps, out, warnings) {
-        Ok(is_verified) => Ok(is_verified),
-        Err(refusal) => Err(NotDone::Refused(refusal)),
     }
 }

@@ -12,17 +12,16 @@ ghost use Rattle.rgc_outlines.specs.Reported.{reported_lines};
 ghost use Rattle.rgc_outlines.specs.Unproved.{HasReportedUnverified};
 ghost use Rattle.rgc_outlines.specs.Outlined.{HasReportedRunOf, HasReportedRun};
 ghost use Rattle.rgc_outlines.specs.Inner.OutlinedProved.{IsEmittedBy, HasReportedProved, IsProvedRunRefusal};
-ghost use Rattle.rgc_outlines.specs.RunStopped.{IsUnrun, IsSomeRunRefusal};
-ghost use Rattle.rgc_outlines.specs.Stopped.{IsNotDone};
+ghost use Rattle.rgc_outlines.specs.RunStopped.{IsUnrun, IsOutlineRunRefusal};
 ghost use Rattle.rgc_answers.specs.Failures.{NoFailure};
 
+use crate::derive_outline;
 use crate::failures::print_unproved;
 use crate::naming::{Naming, naming_of, push_reported};
-use crate::{NotDone, derive_outline};
 use rg_code::checked::Checked;
 use rg_find::Watcher;
 use rg_floor::closed::Closed;
-use rg_outline_reports::{OutlineSource, Outlined, read_outline};
+use rg_outline_reports::Outlined;
 use rg_tree::program::Program;
 use rg_words::{Out, Refusal, write_all};
 use rgc::{Derived, Emitted, InThreads, ProofsFound, find_proofs};
@@ -148,8 +147,15 @@ fn run_proved<R: Threads + Wait + Sync, W: Out, F: Out, P>(
     Ok(())
 }
 
-/// Does what `run_outline` does with an outline that was worked out.
-fn run_outlined<R: Threads + Wait + Sync, W: Out, F: Out, P: Watcher + Copy + Sync>(
+/// Runs an outline's program where its conditions are proved: prints a line for each step, with the outline's line of the statement and the
+/// outline's names of the words, and why the run is over. Else reports which conditions aren't proved, and answers false. The moves that were
+/// passed over are reported after a run. Proofs are looked for and checked in threads, each search with a copy of the watcher. Where the run is
+/// drawn, the picture is put after what is there.
+///
+/// # Errors
+///
+/// As `crate::derive_outline`; then as `rgc::find_proofs`; then as `rgc_answers::print_run` from the start on.
+pub fn run_outline<R: Threads + Wait + Sync, W: Out, F: Out, P: Watcher + Copy + Sync>(
     context: &Context<'_, R, P>,
     outlined: &Outlined<'_>,
     how: RunOutline<'_>,
@@ -159,10 +165,12 @@ fn run_outlined<R: Threads + Wait + Sync, W: Out, F: Out, P: Watcher + Copy + Sy
 ) -> Result<bool, Refusal>
     requires out { CanCount (W.failures out.old) }
     requires faults { CanCount (F.failures faults.old) }
-    ensures printed { IfOk result (λ b. IsTrue b → HasReportedRun how.entry.start how.entry.moves how.entry.limit (W.contents out.old) (W.contents out.new)) }
+    // It is run only where the outline's text, the pieces of its derivation and some proofs are accepted.
+    ensures printed { IfOk result (λ b. IsTrue b → HasReportedRun outlined.now.files how.entry.start how.entry.moves how.entry.limit (W.contents out.old) (W.contents out.new)) }
     ensures failures { NoFailure result (W.failures out.old) (W.failures out.new) }
-    ensures reported { IfOk result (λ b. b ≡ false → HasReportedUnverified (W.contents out.old) (W.contents out.new)) }
-    ensures stopped { IfErr result (IsStopped (IsSomeRunRefusal how.entry.start how.entry.moves how.entry.limit how.entry.steps) (W.contents out.old) (W.contents out.new) (W.failures out.old) (W.failures out.new)) }
+    // Else some conditions have no proof; what was found of these is true, all others hold, and a text went out.
+    ensures reported { IfOk result (λ b. b ≡ false → HasReportedUnverified outlined.now.files (W.contents out.old) (W.contents out.new)) }
+    ensures stopped { IfErr result (IsStopped (IsOutlineRunRefusal outlined.now.files how.entry.start how.entry.moves how.entry.limit how.entry.steps) (W.contents out.old) (W.contents out.new) (W.failures out.old) (W.failures out.new)) }
     ensures quiet { OnErr result (F.failures faults.new ≡ F.failures faults.old) }
 {
     let (rt, alloc, threads) = (context.rt, context.alloc, context.threads);
@@ -188,40 +196,5 @@ fn run_outlined<R: Threads + Wait + Sync, W: Out, F: Out, P: Watcher + Copy + Sy
             print_unproved(alloc, outlined, &unproved, out)?;
             Ok(false)
         }
-    }
-}
-
-/// Runs an outline's program where its conditions are proved: prints a line for each step, with the outline's line of the statement and the
-/// outline's names of the words, and why the run is over. Else reports which conditions aren't proved, and answers false. The moves that were
-/// passed over are reported after a run. Proofs are looked for and checked in threads, each search with a copy of the watcher. Where the run is
-/// drawn, the picture is put after what is there.
-///
-/// # Errors
-///
-/// - `NotDone::Outline` where the outline is refused, with what reports its first fault.
-/// - `NotDone::Refused` as `crate::derive_outline`; then as `rgc::find_proofs`; then as `rgc_answers::print_run` from the start on.
-pub fn run_outline<R: Threads + Wait + Sync, W: Out, F: Out, P: Watcher + Copy + Sync>(
-    context: &Context<'_, R, P>,
-    outline: OutlineSource<'_>,
-    how: RunOutline<'_>,
-    out: &mut W,
-    faults: &mut F,
-    picture: &mut Vec<u8>,
-) -> Result<bool, NotDone>
-    requires out { CanCount (W.failures out.old) }
-    requires faults { CanCount (F.failures faults.old) }
-    // It is run only where some text, the pieces of some derivation and some proofs are accepted.
-    ensures printed { IfOk result (λ b. IsTrue b → HasReportedRun how.entry.start how.entry.moves how.entry.limit (W.contents out.old) (W.contents out.new)) }
-    ensures failures { NoFailure result (W.failures out.old) (W.failures out.new) }
-    // Else some conditions have no proof; what was found of these is true, all others hold, and a text went out.
-    ensures reported { IfOk result (λ b. b ≡ false → HasReportedUnverified (W.contents out.old) (W.contents out.new)) }
-    ensures stopped { IfErr result (IsNotDone (IsSomeRunRefusal how.entry.start how.entry.moves how.entry.limit how.entry.steps) (W.contents out.old) (W.contents out.new) (W.failures out.old) (W.failures out.new)) }
-    ensures quiet { OnErr result (F.failures faults.new ≡ F.failures faults.old) }
-{
-    let written = read_outline(context.alloc, outline)?;
-    let outlined = Outlined::of(context.alloc, outline, &written)?;
-    match run_outlined(context, &outlined, how, out, faults, picture) {
-        Ok(is_found) => Ok(is_found),
-        Err(refusal) => Err(NotDone::Refused(refusal)),
     }
 }

@@ -68,12 +68,12 @@ pub fn print_verified<R: Threads + Wait + Sync, W: Out, P: Watcher + Copy + Sync
     out: &mut W,
 ) -> Result<Option<Vec<Unproved>>, Refusal>
     requires { CanCount (W.failures out.old) }
-    ensures printed { IfOk result (λ unproved. unproved ≡ None → HasPrintedVerdict form.entry (W.contents out.old) (W.contents out.new)) }
+    ensures printed { IfOk result (λ unproved. unproved ≡ None → HasPrintedVerdict form.entry files.now (W.contents out.old) (W.contents out.new)) }
     ensures failures { NoFailure result (W.failures out.old) (W.failures out.new) }
     // What is handed back of conditions is true of them, and nothing was printed.
-    ensures unproved { IfOk result (λ found. IfSome found (λ unproved. AreUnprovedOf files.now.text.items files.now.derivation.items unproved.items)) }
+    ensures unproved { IfOk result (λ found. IfSome found (λ unproved. AreUnprovedOf files.now unproved.items)) }
     ensures untouched { IfOk result (λ found. IfSome found (λ _. W.contents out.new ≡ W.contents out.old)) }
-    ensures stopped { IfErr result (IsStopped (IsVerifyRefusal files.now.text.items files.now.derivation.items steps) (W.contents out.old) (W.contents out.new) (W.failures out.old) (W.failures out.new)) }
+    ensures stopped { IfErr result (IsStopped (IsVerifyRefusal files.now steps) (W.contents out.old) (W.contents out.new) (W.failures out.old) (W.failures out.new)) }
 {
     let derived = derive_outline(context.alloc, files)?;
     let (rt, alloc, threads) = (context.rt, context.alloc, context.threads);

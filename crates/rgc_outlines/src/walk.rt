@@ -5,26 +5,35 @@ ghost use Rattle.rg_words.specs.Stopped.{IsStopped};
 ghost use Rattle.rg_words.specs.Written.{CanCount};
 ghost use Rattle.rg_parse.specs.Programs.{IsProgramRefusal};
 ghost use Rattle.rg_walk.specs.Breaking.{OnBreaks};
-ghost use Rattle.rgc_outlines.specs.Refused.{IsSomeTextRefusal};
-ghost use Rattle.rgc_outlines.specs.Stopped.{IsNotDone};
-ghost use Rattle.rgc_outlines.specs.Verified.{HasPrintedRuns, HasBreakingRun};
+ghost use Rattle.rgc_outlines.specs.Verified.{HasPrintedRuns};
 ghost use Rattle.rgc_outlines.specs.WalkedRefuted.{IsRefuted, IsReported};
 ghost use Rattle.rgc_answers.specs.Failures.{NoFailure};
 
-use crate::NotDone;
 use crate::verdict::{VerdictForm, push_name};
-use rg_outline_reports::{OutlineSource, Outlined, read_outline};
+use rg_outline_reports::Outlined;
 use rg_parse::program;
 use rg_walk::{Bounds, Walked, walk};
 use rg_words::{Out, Refusal, write_all};
 use std::alloc::Global;
 
-/// How far a walk goes: about a second.
+/// How far a walk goes where conditions have no proof: about five seconds.
 const BOUNDS: Bounds = Bounds {
-    configurations: 200_000,
-    work: 20_000_000,
+    steps: 12_000_000,
+    bytes: 1_500_000_000,
     with_parts: true,
 };
+
+/// The most steps of the runs of a program that are followed alone, where a command doesn't name them: about ten seconds.
+const MOST_STEPS: u64 = 25_000_000;
+
+/// How far the runs of a program are followed alone.
+fn bounds_of(steps: Option<u64>) -> Bounds {
+    Bounds {
+        steps: steps.unwrap_or(MOST_STEPS),
+        with_parts: false,
+        ..BOUNDS
+    }
+}
 
 /// What was reported of a walk.
 #[derive(Clone, Copy, PartialEq, Eq)]
@@ -55,6 +64,32 @@ pub fn walk_text(
     Ok(walked)
 }
 
+/// Walks the text of an outline within these bounds, and adds what was found, in the outline's words: a run that breaks the specification, or that
+/// none was found and how far was looked. `given` are states from which it looks, too, each as the values of the words in their order.
+///
+/// # Errors
+///
+/// As `walk_text`.
+fn push_found(
+    alloc: Global,
+    outlined: &Outlined<'_>,
+    given: &[Vec<u64>],
+    bounds: Bounds,
+    reported: &mut Vec<u8>,
+) -> Result<WalkReported, Refusal>
+    // Where a run is reported, the program that the text spells doesn't satisfy its specification.
+    ensures reported { IfOk result (IsReported outlined.now.files.text.items) }
+    ensures refused { IfErr result (IsProgramRefusal outlined.now.files.text.items) }
+{
+    let walked = walk_text(alloc, &outlined.files.text, given, bounds)?;
+    let lines = outlined.walked(&walked)?;
+    reported.extend_from_slice(&lines)?;
+    match walked {
+        Walked::Breaks(_) => Ok(WalkReported::Breaks),
+        Walked::NotFound(_) => Ok(WalkReported::NotFound),
+    }
+}
+
 /// Walks the text of an outline, and adds what was found, in the outline's words: a run that breaks the specification of the program or of
 /// one of its parts, or that none was found and how far was looked. `given` are states from which it looks, too, each as the values of
 /// the words in their order.
@@ -72,62 +107,35 @@ pub fn tell_walk(
     ensures reported { IfOk result (IsReported outlined.now.files.text.items) }
     ensures refused { IfErr result (IsProgramRefusal outlined.now.files.text.items) }
 {
-    let walked = walk_text(alloc, &outlined.files.text, given, BOUNDS)?;
-    let lines = outlined.walked(&walked)?;
-    reported.extend_from_slice(&lines)?;
-    match walked {
-        Walked::Breaks(_) => Ok(WalkReported::Breaks),
-        Walked::NotFound(_) => Ok(WalkReported::NotFound),
-    }
+    push_found(alloc, outlined, given, BOUNDS, reported)
 }
 
-/// Does what `runs_only` does with an outline that was worked out.
-fn runs_of_outlined<W: Out>(
+/// Prints a run of an outline's program that breaks its specification, in this form, and answers false; or that none was found and how far
+/// was looked, and answers true. At most so many steps are made, or as many as take about ten seconds.
+///
+/// # Errors
+///
+/// Where the outline's text is refused, as any text is; then `Write` where the writer failed. `Memory` where memory is refused.
+pub fn runs_only<W: Out>(
     alloc: Global,
     outlined: &Outlined<'_>,
+    steps: Option<u64>,
     form: VerdictForm<'_>,
     out: &mut W,
 ) -> Result<bool, Refusal>
     requires { CanCount (W.failures out.old) }
-    ensures refuted { IfOk result (λ b. b ≡ false → HasBreakingRun) }
+    // A run is reported only where the program that the outline's text spells doesn't satisfy its specification.
+    ensures refuted { IfOk result (λ b. b ≡ false → IsRefuted outlined.now.files.text.items) }
     ensures printed { OnOk result (HasPrintedRuns (W.contents out.old) (W.contents out.new)) }
     ensures failures { NoFailure result (W.failures out.old) (W.failures out.new) }
-    ensures stopped { IfErr result (IsStopped IsSomeTextRefusal (W.contents out.old) (W.contents out.new) (W.failures out.old) (W.failures out.new)) }
+    ensures stopped { IfErr result (IsStopped (IsProgramRefusal outlined.now.files.text.items) (W.contents out.old) (W.contents out.new) (W.failures out.old) (W.failures out.new)) }
 {
     let mut reported = Vec::new(alloc);
     push_name(form, &mut reported)?;
-    let walk = tell_walk(alloc, outlined, &[], &mut reported)?;
+    let walk = push_found(alloc, outlined, &[], bounds_of(steps), &mut reported)?;
     write_all(out, &reported)?;
     match walk {
         WalkReported::Breaks => Ok(false),
         WalkReported::NotFound => Ok(true),
-    }
-}
-
-/// Prints a run of an outline's program that breaks its specification, in this form, and answers false; or that none was found and how far
-/// was looked, and answers true.
-///
-/// # Errors
-///
-/// - `NotDone::Outline` where the outline is refused, with what reports its first fault.
-/// - `NotDone::Refused` where its text is refused, as any text is; then `Write` where the writer failed. `Memory` where memory is refused.
-pub fn runs_only<W: Out>(
-    alloc: Global,
-    outline: OutlineSource<'_>,
-    form: VerdictForm<'_>,
-    out: &mut W,
-) -> Result<bool, NotDone>
-    requires { CanCount (W.failures out.old) }
-    // A run is reported only where some text spells a program that doesn't satisfy its specification.
-    ensures refuted { IfOk result (λ b. b ≡ false → HasBreakingRun) }
-    ensures printed { OnOk result (HasPrintedRuns (W.contents out.old) (W.contents out.new)) }
-    ensures failures { NoFailure result (W.failures out.old) (W.failures out.new) }
-    ensures stopped { IfErr result (IsNotDone IsSomeTextRefusal (W.contents out.old) (W.contents out.new) (W.failures out.old) (W.failures out.new)) }
-{
-    let written = read_outline(alloc, outline)?;
-    let outlined = Outlined::of(alloc, outline, &written)?;
-    match runs_of_outlined(alloc, &outlined, form, out) {
-        Ok(is_unbroken) => Ok(is_unbroken),
-        Err(refusal) => Err(NotDone::Refused(refusal)),
     }
 }

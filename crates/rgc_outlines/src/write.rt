@@ -4,15 +4,14 @@ ghost use Rattle.std.specs.Prelude.{◌≡◌, IsTrue, false, IfOk, IfErr, OnOk}
 ghost use Rattle.rg_words.specs.Stopped.{IsFailure, IsStopped};
 ghost use Rattle.rg_words.specs.Written.{CanCount};
 ghost use Rattle.rg_accept.specs.Stages.{derived_program, derived_lines};
-ghost use Rattle.rgc_outlines.specs.Stopped.{IsNotDone, IsSearchRefusalWhere, IsSomeWriteRefusal};
+ghost use Rattle.rgc_outlines.specs.Stopped.{IsSearchRefusalWhere, IsWriteRefusal};
 ghost use Rattle.rgc_outlines.specs.Written.{IsPut, IsPrinted, HasPut, HasWritten, HasReportedMissing};
 ghost use Rattle.rgc_outlines.specs.Inner.Proved.{AreFoundWhere};
 ghost use Rattle.rgc_answers.specs.Failures.{NoFailure};
 
-use crate::NotDone;
 use crate::failures::print_unproved;
 use rg_find::Watcher;
-use rg_outline_reports::{OutlineFiles, OutlineSource, Outlined, read_outline};
+use rg_outline_reports::{OutlineFiles, Outlined};
 use rg_words::{Out, Refusal, write_all};
 use rgc::{Derived, ProofsFound, derive_program, find_proofs};
 use rgc_answers::Context;
@@ -55,7 +54,8 @@ impl Sides {
 }
 
 /// Puts a file after what is there, where it is wanted.
-fn put_one(is_wanted: bool, file: &[u8], side: &mut Vec<u8>) -> Result<(), AllocError>
+/// An error comes only where memory is refused.
+pub fn put_file(is_wanted: bool, file: &[u8], side: &mut Vec<u8>) -> Result<(), AllocError>
     ensures { OnOk result (IsPut is_wanted file.now side.old.items side.new.items) }
 {
     if is_wanted {
@@ -91,14 +91,14 @@ fn put<W: Out>(
     ensures failures { NoFailure result (W.failures out.old) (W.failures out.new) }
     ensures stopped { IfErr result (IsFailure (W.failures out.old) (W.failures out.new)) }
 {
-    put_one(wanted.has_text, &files.text, &mut sides.text)?;
-    put_one(
+    put_file(wanted.has_text, &files.text, &mut sides.text)?;
+    put_file(
         wanted.has_derivation,
         &files.derivation,
         &mut sides.derivation,
     )?;
-    put_one(wanted.has_proofs, proofs, &mut sides.proofs)?;
-    put_one(wanted.has_map, map, &mut sides.map)?;
+    put_file(wanted.has_proofs, proofs, &mut sides.proofs)?;
+    put_file(wanted.has_map, map, &mut sides.map)?;
     print_text(wanted.has_text, &files.text, out)
 }
 
@@ -131,8 +131,15 @@ fn map_where(
     Ok(Vec::new(alloc))
 }
 
-/// Does what `write_outline` does with an outline that was worked out.
-fn write_outlined<R: Threads + Wait + Sync, W: Out, P: Watcher + Copy + Sync>(
+/// Puts the files that an outline stands for after what is there, those that are wanted, and prints the program's text where it isn't
+/// wanted so. Proofs are looked for only where they are wanted, in threads, each search with a copy of the watcher; they prove all conditions. Where
+/// they aren't found, it is printed which conditions have none, no file is put, and the answer is false. Of the map nothing is promised.
+///
+/// # Errors
+///
+/// Where the outline's text or derivation is refused, as any files are; where proofs are wanted, as `rgc::find_proofs`; then `Write` where the
+/// writer failed. `Memory` where memory is refused.
+pub fn write_outline<R: Threads + Wait + Sync, W: Out, P: Watcher + Copy + Sync>(
     context: &Context<'_, R, P>,
     outlined: &Outlined<'_>,
     wanted: Wanted,
@@ -141,10 +148,11 @@ fn write_outlined<R: Threads + Wait + Sync, W: Out, P: Watcher + Copy + Sync>(
     sides: &mut Sides,
 ) -> Result<bool, Refusal>
     requires { CanCount (W.failures out.old) }
-    ensures written { IfOk result (λ b. IsTrue b → HasWritten wanted sides.old sides.new (W.contents out.old) (W.contents out.new)) }
-    ensures reported { IfOk result (λ b. b ≡ false → HasReportedMissing wanted (W.contents out.old) (W.contents out.new)) }
+    ensures written { IfOk result (λ b. IsTrue b → HasWritten outlined.now.files wanted sides.old sides.new (W.contents out.old) (W.contents out.new)) }
+    // Else proofs are wanted, and some conditions have none; what was found of these is true, all others hold, and a text went out.
+    ensures reported { IfOk result (λ b. b ≡ false → HasReportedMissing outlined.now.files wanted (W.contents out.old) (W.contents out.new)) }
     ensures failures { NoFailure result (W.failures out.old) (W.failures out.new) }
-    ensures stopped { IfErr result (IsStopped (IsSomeWriteRefusal wanted.has_proofs steps) (W.contents out.old) (W.contents out.new) (W.failures out.old) (W.failures out.new)) }
+    ensures stopped { IfErr result (IsStopped (IsWriteRefusal wanted.has_proofs outlined.now.files steps) (W.contents out.old) (W.contents out.new) (W.failures out.old) (W.failures out.new)) }
 {
     let alloc = context.alloc;
     let files = &outlined.files;
@@ -159,37 +167,5 @@ fn write_outlined<R: Threads + Wait + Sync, W: Out, P: Watcher + Copy + Sync>(
             print_unproved(alloc, outlined, &unproved, out)?;
             Ok(false)
         }
-    }
-}
-
-/// Puts the files that an outline stands for after what is there, those that are wanted, and prints the program's text where it isn't
-/// wanted so. Proofs are looked for only where they are wanted, in threads, each search with a copy of the watcher; they prove all conditions. Where
-/// they aren't found, it is printed which conditions have none, no file is put, and the answer is false. Of the map nothing is promised.
-///
-/// # Errors
-///
-/// - `NotDone::Outline` where the outline is refused, with what reports its first fault.
-/// - `NotDone::Refused` where its text or derivation is refused, as any files are; where proofs are wanted, as `rgc::find_proofs`; then
-///   `Write` where the writer failed. `Memory` where memory is refused.
-pub fn write_outline<R: Threads + Wait + Sync, W: Out, P: Watcher + Copy + Sync>(
-    context: &Context<'_, R, P>,
-    outline: OutlineSource<'_>,
-    wanted: Wanted,
-    steps: u64,
-    out: &mut W,
-    sides: &mut Sides,
-) -> Result<bool, NotDone>
-    requires { CanCount (W.failures out.old) }
-    ensures written { IfOk result (λ b. IsTrue b → HasWritten wanted sides.old sides.new (W.contents out.old) (W.contents out.new)) }
-    // Else proofs are wanted, and some conditions have none; what was found of these is true, all others hold, and a text went out.
-    ensures reported { IfOk result (λ b. b ≡ false → HasReportedMissing wanted (W.contents out.old) (W.contents out.new)) }
-    ensures failures { NoFailure result (W.failures out.old) (W.failures out.new) }
-    ensures stopped { IfErr result (IsNotDone (IsSomeWriteRefusal wanted.has_proofs steps) (W.contents out.old) (W.contents out.new) (W.failures out.old) (W.failures out.new)) }
-{
-    let written = read_outline(context.alloc, outline)?;
-    let outlined = Outlined::of(context.alloc, outline, &written)?;
-    match write_outlined(context, &outlined, wanted, steps, out, sides) {
-        Ok(is_found) => Ok(is_found),
-        Err(refusal) => Err(NotDone::Refused(refusal)),
     }
 }

@@ -4,15 +4,39 @@ use crate::program::{DERIVATION, PROOFS, TEXT};
 use rgc_commands::Files;
 use rgc_line::{Chosen, Command};
 
+/// The bytes of the files of a command over texts.
+#[derive(Clone, Copy)]
+pub(crate) struct Texts {
+    pub(crate) text: Option<&'static [u8]>,
+    pub(crate) derivation: Option<&'static [u8]>,
+    pub(crate) proofs: Option<&'static [u8]>,
+    pub(crate) start: Option<&'static [u8]>,
+    pub(crate) moves: Option<&'static [u8]>,
+}
+
+impl Texts {
+    /// The files that the command takes.
+    pub(crate) fn files(self) -> Files<'static> {
+        Files {
+            text: self.text,
+            derivation: self.derivation,
+            proofs: self.proofs,
+            start: self.start,
+            moves: self.moves,
+            outline: None,
+        }
+    }
+}
+
 /// A command over files, and what it prints.
 #[derive(Clone, Copy)]
 pub(crate) struct Printed {
     pub(crate) command: Command<'static>,
-    pub(crate) files: Files<'static>,
+    pub(crate) files: Texts,
     pub(crate) text: &'static str,
 }
 
-const PROGRAM: Files<'static> = Files {
+const PROGRAM: Texts = Texts {
     text: Some(TEXT),
     derivation: Some(DERIVATION),
     proofs: Some(PROOFS),
@@ -20,7 +44,7 @@ const PROGRAM: Files<'static> = Files {
     moves: None,
 };
 
-const FORMULA: Files<'static> = Files {
+const FORMULA: Texts = Texts {
     text: Some(b"words x:1 y:1 show (((x = 1) and (y = 1)) implies (x = 1))"),
     derivation: None,
     proofs: Some(b"8 0 7 5 1 4 0"),
@@ -29,7 +53,7 @@ const FORMULA: Files<'static> = Files {
 };
 
 /// A part that waits for a move.
-const WAITING: Files<'static> = Files {
+const WAITING: Texts = Texts {
     text: Some(
         b"words x:2 turn:1\npre true rely true guar true post true\npart p pre true rely true guar true post true\nbegin await (turn = 1) do x := 2; turn := 0 end end\n",
     ),
@@ -40,7 +64,7 @@ const WAITING: Files<'static> = Files {
 };
 
 /// Two parts, of which the first waits for the second.
-const IN_TURN: Files<'static> = Files {
+const IN_TURN: Texts = Texts {
     text: Some(
         b"words x:1 y:1\npre true rely true guar true post true\npart a pre true rely true guar true post true\nbegin await (y = 1) do x := 1 end end\npart b pre true rely true guar true post true\nbegin await (x = 1) do y := 1 end end\n",
     ),

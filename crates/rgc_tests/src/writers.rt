@@ -2,10 +2,10 @@
 
 ghost use Rattle.rg_words.specs.Written.{CanCount};
 
-use crate::commands::{COMMANDS, Printed};
+use crate::commands::{COMMANDS, Printed, Texts};
 use rg_find::Unwatched;
 use rg_words::{Fuse, Out, Taker};
-use rgc_commands::{Context, Files, Sides, perform};
+use rgc_commands::{Context, Sides, perform};
 use rgc_line::{Command, Line, PLAIN};
 use std::alloc::Global;
 use std::sync::Wait;
@@ -36,7 +36,7 @@ pub(crate) fn status_of<R: Threads + Wait + Sync, W: Out, F: Out>(
         watcher: &watcher,
     };
     let mut sides = Sides::new(alloc);
-    perform(&context, &line, &row.files, out, faults, &mut sides)
+    perform(&context, &line, &row.files.files(), out, faults, &mut sides)
 }
 
 /// A beginning of the text of this length went out, and the status and the faults say whether that is all.
@@ -79,7 +79,7 @@ fn clauses_of(text: Option<&'static [u8]>) -> Printed {
             text: "text",
             chosen: None,
         },
-        files: Files {
+        files: Texts {
             text,
             derivation: None,
             proofs: None,

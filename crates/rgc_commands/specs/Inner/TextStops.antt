@@ -14,7 +14,7 @@ use Rattle.rgc_commands.specs.Stopped.{IsUntouched, unread_line, RefusesFiles, I
 abbrev pub IsOverTexts : Command → Type 0
 IsOverTexts (RunOutline _ _ _ _ _) = ⊥
 IsOverTexts (the_outline _ _ _ _ _) = ⊥
-IsOverTexts (Verify _ _ _) = ⊥
+IsOverTexts (Verify _ _ _ _) = ⊥
 IsOverTexts (Challenge _ _) = ⊥
 IsOverTexts _ = Unit {0}
 

@@ -14,8 +14,6 @@ returns-in-Proofs-clause-printed g c = λ _.
     let of_pieces = c.in_ok-derived.ensures.derived in
     let counts = c.in_ok-print_counts-in-Proofs.ensures.printed in
     record {
-      text = c.args.files.now.text.items;
-      derivation = c.args.files.now.derivation.items;
       pieces = of_pieces.pieces;
       proofs = c.as_bytes.result.now;
       program = derived_program c.in_ok-derived.derived;
@@ -55,15 +53,13 @@ returns-clause-unproved g c =
 pub returns-in_err-derived-clause-stopped : goal.returns-in_err-derived-clause-stopped
 returns-in_err-derived-clause-stopped g c =
     let p = err_from_is_err_and c.from_residual.result c.from_residual.ensures.1 in
-    let files = c.args.files.now in
-    rw (p.1, p.2) (refused_stops (IsVerifyRefusal files.text.items files.derivation.items c.args.steps) _ _ _ (inl c.in_err-derived.ensures.refused))
+    rw (p.1, p.2) (refused_stops (IsVerifyRefusal c.args.files.now c.args.steps) _ _ _ (inl c.in_err-derived.ensures.refused))
 
 pub returns-in_err-proofs-clause-stopped : goal.returns-in_err-proofs-clause-stopped
 returns-in_err-proofs-clause-stopped g c =
     let p = err_from_is_err_and c.from_residual-in_err-proofs.result c.from_residual-in_err-proofs.ensures.1 in
-    let files = c.args.files.now in
     let derived = c.in_ok-derived.derived in
-    rw (p.1, p.2) (refused_stops (IsVerifyRefusal files.text.items files.derivation.items c.args.steps) _ _ _ (inr (derived_program derived, derived_lines derived, c.in_ok-derived.ensures.derived, c.in_err-proofs.ensures.refused)))
+    rw (p.1, p.2) (refused_stops (IsVerifyRefusal c.args.files.now c.args.steps) _ _ _ (inr (derived_program derived, derived_lines derived, c.in_ok-derived.ensures.derived, c.in_err-proofs.ensures.refused)))
 
 pub returns-in_err-print_counts-in-Proofs-clause-stopped : goal.returns-in_err-print_counts-in-Proofs-clause-stopped
 returns-in_err-print_counts-in-Proofs-clause-stopped g c =

@@ -1,13 +1,69 @@
+use Rattle.std.proofs.Common.{inl, inr, refl}
 use Rattle.std.proofs.lemmas.Result.{err_from_is_err_and}
-use Rattle.rgc_outlines.specs.Stopped.{IsSomeWriteRefusal}
-use Rattle.rgc_outlines.proofs.OutlinedStops.{no_files_done}
+use Rattle.rg_words.proofs.Cuts.{refused_stops}
+use Rattle.rg_accept.specs.Stages.{derived_program, derived_lines}
+use Rattle.rgc_outlines.specs.Stopped.{IsWriteRefusal}
+use Rattle.rgc_outlines.proofs.Proved.{derived_same, refused_same, proved_where, unproved_where}
 use Rattle.rgc_outlines.proofs.write.write_outline.Goals as goal
 
-pub returns-in_err-written-clause-stopped : goal.returns-in_err-written-clause-stopped
-returns-in_err-written-clause-stopped g c =
-    let p = err_from_is_err_and c.from_residual.result c.from_residual.ensures.1 in rw (p.1, p.2) (no_files_done (IsSomeWriteRefusal c.args.wanted.has_proofs c.args.steps) _ _ _)
+pub returns-in-Proofs-clause-written : goal.returns-in-Proofs-clause-written
+returns-in-Proofs-clause-written g c = λ _.
+    let files = c.args.outlined.now.files in
+    let program = derived_program c.in_ok-derived.derived in
+    let lines = derived_lines c.in_ok-derived.derived in
+    record {
+      proofs = c.as_bytes.result.now;
+      program = program;
+      lines = lines;
+      derived = derived_same c.deref.result.now c.deref-2.result.now files.text.items files.derivation.items program lines c.deref.ensures.value c.deref-2.ensures.value c.in_ok-derived.ensures.derived;
+      proved = proved_where c.args.wanted.has_proofs program lines c.in_ok-proofs.field-0 c.in-Proofs.proofs c.as_bytes.result.now c.in-Proofs.is c.as_bytes.ensures.value c.in_ok-proofs.ensures.found;
+      put = c.in_ok-put-in-Proofs.ensures.put;
+    }
 
-pub returns-in_err-outlined-clause-stopped : goal.returns-in_err-outlined-clause-stopped
-returns-in_err-outlined-clause-stopped g c =
-    let p = err_from_is_err_and c.from_residual-in_err-outlined.result c.from_residual-in_err-outlined.ensures.1 in
-    rw (p.1, p.2) (no_files_done (IsSomeWriteRefusal c.args.wanted.has_proofs c.args.steps) _ _ _)
+pub returns-clause-reported : goal.returns-clause-reported
+returns-clause-reported g c = λ _.
+    let files = c.args.outlined.now.files in
+    let program = derived_program c.in_ok-derived.derived in
+    let lines = derived_lines c.in_ok-derived.derived in
+    let (reported, went) = c.in_ok-print_unproved-in-Failures.ensures.reported in
+    let (wanted, are) = unproved_where c.args.wanted.has_proofs program lines c.in_ok-proofs.field-0 c.in-Failures.unproved c.in-Failures.is c.in_ok-proofs.ensures.found in
+    record {
+      proofs_wanted = wanted;
+      program = program;
+      lines = lines;
+      derived = derived_same c.deref.result.now c.deref-2.result.now files.text.items files.derivation.items program lines c.deref.ensures.value c.deref-2.ensures.value c.in_ok-derived.ensures.derived;
+      unproved = c.in-Failures.unproved.items;
+      are = are;
+      reported = reported;
+      printed = went;
+    }
+
+pub returns-in_err-map-clause-stopped : goal.returns-in_err-map-clause-stopped
+returns-in_err-map-clause-stopped g c =
+    let p = err_from_is_err_and c.from_residual.result c.from_residual.ensures.1 in rw (p.1, p.2) (inr (inr (refl, refl)))
+
+pub returns-in_err-derived-clause-stopped : goal.returns-in_err-derived-clause-stopped
+returns-in_err-derived-clause-stopped g c =
+    let p = err_from_is_err_and c.from_residual-in_err-derived.result c.from_residual-in_err-derived.ensures.1 in
+    let files = c.args.outlined.now.files in
+    let refused = refused_same c.deref.result.now c.deref-2.result.now files.text.items files.derivation.items _ c.deref.ensures.value c.deref-2.ensures.value c.in_err-derived.ensures.refused in
+    rw (p.1, p.2) (refused_stops (IsWriteRefusal c.args.wanted.has_proofs c.args.outlined.now.files c.args.steps) _ _ _ (inl refused))
+
+pub returns-in_err-proofs-clause-stopped : goal.returns-in_err-proofs-clause-stopped
+returns-in_err-proofs-clause-stopped g c =
+    let p = err_from_is_err_and c.from_residual-in_err-proofs.result c.from_residual-in_err-proofs.ensures.1 in
+    let files = c.args.outlined.now.files in
+    let program = derived_program c.in_ok-derived.derived in
+    let lines = derived_lines c.in_ok-derived.derived in
+    let derived = derived_same c.deref.result.now c.deref-2.result.now files.text.items files.derivation.items program lines c.deref.ensures.value c.deref-2.ensures.value c.in_ok-derived.ensures.derived in
+    rw (p.1, p.2) (refused_stops (IsWriteRefusal c.args.wanted.has_proofs c.args.outlined.now.files c.args.steps) _ _ _ (inr (program, lines, derived, c.in_err-proofs.ensures.refused)))
+
+pub returns-in_err-put-in-Proofs-clause-stopped : goal.returns-in_err-put-in-Proofs-clause-stopped
+returns-in_err-put-in-Proofs-clause-stopped g c =
+    let p = err_from_is_err_and c.from_residual-in_err-put-in-Proofs.result c.from_residual-in_err-put-in-Proofs.ensures.1 in
+    rw (p.1, p.2) (inr c.in_err-put-in-Proofs.ensures.stopped)
+
+pub returns-in_err-print_unproved-in-Failures-clause-stopped : goal.returns-in_err-print_unproved-in-Failures-clause-stopped
+returns-in_err-print_unproved-in-Failures-clause-stopped g c =
+    let p = err_from_is_err_and c.from_residual-in_err-print_unproved-in-Failures.result c.from_residual-in_err-print_unproved-in-Failures.ensures.1 in
+    rw (p.1, p.2) (inr c.in_err-print_unproved-in-Failures.ensures.stopped)

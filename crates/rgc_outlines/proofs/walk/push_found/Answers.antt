@@ -1,6 +1,6 @@
 use Rattle.std.proofs.Common.{inl, inr, refl}
 use Rattle.std.proofs.lemmas.Result.{err_from_is_err_and}
-use Rattle.rgc_outlines.proofs.walk.tell_walk.Goals as goal
+use Rattle.rgc_outlines.proofs.walk.push_found.Goals as goal
 
 pub returns-in_err-walked-clause-refused : goal.returns-in_err-walked-clause-refused
 returns-in_err-walked-clause-refused c =

@@ -1,7 +1,7 @@
 use Rattle.std.proofs.Common.{inl, inr, refl}
 use Rattle.std.proofs.lemmas.Result.{err_from_is_err_and}
 use Rattle.rg_words.proofs.Cuts.{refused_stops}
-use Rattle.rgc_outlines.proofs.challenges.challenge_outlined.Goals as goal
+use Rattle.rgc_outlines.proofs.challenges.challenge_verified.Goals as goal
 
 pub returns-in_err-found-clause-stopped : goal.returns-in_err-found-clause-stopped
 returns-in_err-found-clause-stopped g c =

@@ -1,0 +1,57 @@
+//! Warnings of quantifiers and sums in promises whose range has no number.
+
+use crate::reports::{Reports, Warning};
+use crate::warnings::warn;
+use crate::written::expressions_in;
+use rg_outline::Expansion;
+use rg_outline_syntax::{Binder, Expression, ExpressionKind, Span};
+use std::alloc::AllocError;
+
+/// What is made of no instance, and the place of the range: of a quantifier or a sum whose range never has a number.
+fn empty_range(expansion: &Expansion<'_>, expression: Expression) -> Option<(Binder, Span)> {
+    let ExpressionKind::Bound { binder, range, .. } = expression.kind else {
+        return None;
+    };
+    if !expansion.scope.is_always_empty(range) {
+        return None;
+    }
+    let place = expansion.scope.written.ranges.get(range)?.span;
+    Some((binder, place))
+}
+
+/// Whether a quantifier or a sum in a formula has a range that never has a number.
+pub(crate) fn has_empty_range(expansion: &Expansion<'_>, formula: usize) -> bool {
+    let mut expressions = expressions_in(expansion.scope.written, formula).iter();
+    expressions.any(|expression| empty_range(expansion, *expression).is_some())
+}
+
+/// What is said of a quantifier or a sum over no number.
+fn sentence_of(binder: Binder) -> &'static [u8] {
+    match binder {
+        Binder::All => {
+            b"no number is in this range, so this `all` is true and says nothing: a range counts up, without what stands after `but`"
+        }
+        Binder::Some => {
+            b"no number is in this range, so this `some` is false: a range counts up, without what stands after `but`"
+        }
+        Binder::Sum => {
+            b"no number is in this range, so this sum is 0: a range counts up, without what stands after `but`"
+        }
+    }
+}
+
+/// Reports each quantifier and each sum in a formula, which a part or the program promises, whose range never has a number.
+pub(crate) fn report_empty_ranges(
+    expansion: &Expansion<'_>,
+    formula: usize,
+    part: Option<usize>,
+    reports: &mut Reports,
+) -> Result<(), AllocError> {
+    for expression in expressions_in(expansion.scope.written, formula) {
+        if let Some((binder, range)) = empty_range(expansion, *expression) {
+            let said = sentence_of(binder);
+            warn(reports, Warning::EmptyRange, range, part, said)?;
+        }
+    }
+    Ok(())
+}

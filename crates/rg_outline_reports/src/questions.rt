@@ -1,0 +1,60 @@
+//! What a search is asked for warnings.
+
+use crate::always::promises_of;
+use rg_outline::{Expansion, push_question};
+use rg_outline_syntax::{Fault, FaultKind};
+use std::alloc::AllocError;
+
+/// What a question asks.
+#[derive(Clone, Copy, PartialEq, Eq)]
+pub enum Asks {
+    /// Whether no state meets the program's pre.
+    PreUnmet,
+    /// Whether a promise is true in all states: the one at this place of those that are written.
+    PromiseTrue(usize),
+}
+
+/// A question: the answer is yes where a formula is true in all states.
+#[derive(Drop)]
+pub struct Question {
+    pub asks: Asks,
+    /// The formula as a text to show.
+    pub text: Vec<u8>,
+}
+
+/// Adds a question, but for one that is too large for a text.
+fn push_asked(
+    expansion: &Expansion<'_>,
+    questions: &mut Vec<Question>,
+    asks: Asks,
+    formula: usize,
+) -> Result<(), AllocError> {
+    let mut text = Vec::new(expansion.scope.alloc);
+    match push_question(expansion, &mut text, formula, asks == Asks::PreUnmet) {
+        Ok(()) => questions.push(Question { asks, text })?,
+        Err(
+            Fault {
+                kind: FaultKind::Memory,
+                ..
+            },
+        ) => return Err(AllocError),
+        Err(_) => {}
+    }
+    Ok(())
+}
+
+/// What a search is asked: whether no state meets the program's pre, and whether the promises are true in all states, each one that isn't a truth.
+pub(crate) fn questions_of(expansion: &Expansion<'_>) -> Result<Vec<Question>, AllocError> {
+    let mut questions = Vec::new(expansion.scope.alloc);
+    let pre = expansion.specification.pre;
+    push_asked(expansion, &mut questions, Asks::PreUnmet, pre)?;
+    let promises = promises_of(expansion)?;
+    for (place, promise) in promises.iter().enumerate() {
+        let asks = Asks::PromiseTrue(place);
+        let forest = &expansion.scope.forest;
+        if !forest.is_truth(promise.tree, true) && !forest.is_truth(promise.tree, false) {
+            push_asked(expansion, &mut questions, asks, promise.tree)?;
+        }
+    }
+    Ok(questions)
+}
