@@ -163,6 +163,7 @@ impl Expansion<'_> {
         if let Some(statement) = self.statements.get_mut(index) {
             statement.number = number;
         }
+        self.ask_indices(index, part);
         let statement = self.statement(index);
         let claim = self.claim_of(index, part);
         match statement.action {

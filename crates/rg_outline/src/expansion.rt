@@ -1,5 +1,6 @@
 //! What an outline stands for: a program with the assertions between its statements. The first fault is kept in the scope, and no call returns it.
 
+use crate::indices::{IndexAsked, Indexed};
 use rg_outline_syntax::{Binding, Fault, List, Names, Span, Texts, Written};
 use rg_outline_terms::Scope;
 use rg_tree::line::Rule;
@@ -59,6 +60,10 @@ pub struct Statement {
     pub test: usize,
     /// What a step assigns: a list of `updates`.
     pub updates: List,
+    /// Whether it is an assignment outside `atomic` to a member of a family that an index chooses.
+    pub is_choice: bool,
+    /// The indices over words in its test and in what it assigns: a list of `indices`.
+    pub(crate) indices: List,
     /// The blocks of an `if`, or the body of a `while` as the first.
     pub blocks: (usize, usize),
     /// The invariant of a `while`, where it is written.
@@ -159,6 +164,9 @@ pub struct Expansion<'a> {
     pub(crate) blocks: Vec<Block>,
     pub(crate) rows: Vec<BlockRow>,
     pub(crate) updates: Vec<Update>,
+    pub(crate) indices: Vec<Indexed>,
+    /// What is asked of indices.
+    pub asked: Vec<IndexAsked>,
     pub parts: Vec<OutlinePart>,
     pub part_names: Texts,
     pub clauses: Vec<usize>,
@@ -188,6 +196,8 @@ impl Statement {
         span: NOWHERE,
         test: 0,
         updates: List::EMPTY,
+        is_choice: false,
+        indices: List::EMPTY,
         blocks: (0, 0),
         invariant: None,
         before: Assertion::NOTHING,
@@ -272,6 +282,8 @@ impl<'a> Expansion<'a> {
             blocks: Vec::new(alloc),
             rows: Vec::new(alloc),
             updates: Vec::new(alloc),
+            indices: Vec::new(alloc),
+            asked: Vec::new(alloc),
             parts: Vec::new(alloc),
             part_names: Texts::new(alloc),
             clauses: Vec::new(alloc),

@@ -4,6 +4,7 @@
 mod derivation;
 mod derive;
 mod expansion;
+mod indices;
 mod parts;
 mod print;
 mod settle;
@@ -16,6 +17,7 @@ pub use expansion::{
     Action, Assertion, Block, BlockRow, Expansion, Line, Origin, OutlinePart, PartWord,
     Specification, Statement, Update,
 };
+pub use indices::IndexAsked;
 pub use print::{middle, push_flat};
 use rg_outline_syntax::Fault;
 pub use rg_tree::line::Rule;

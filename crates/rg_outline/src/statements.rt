@@ -4,7 +4,7 @@ use crate::expansion::{
     Action, Block, BlockRow, Expansion, Origin, PartWord, Statement, Update, add, add_all, place_of,
 };
 use rg_outline_syntax::{Assignment, Item, ItemKind, List, MeaningFault, Span, Standing};
-use rg_outline_terms::bit_of;
+use rg_outline_terms::{Chosen, Target, bit_of};
 use rg_words::limits::{MOST_ASSIGNMENTS, MOST_STATEMENTS};
 
 impl Expansion<'_> {
@@ -112,10 +112,12 @@ impl Expansion<'_> {
             return 0;
         }
         let mut statement = self.plain(item.span);
+        let first = self.indices.len();
         match item.kind {
             ItemKind::If { test, yes, no } => {
                 statement.action = Action::If;
                 statement.test = self.test_of(test);
+                statement.indices = self.indices_since(first);
                 statement.blocks.0 = self.block_of(yes, item.span, depth - 1);
                 statement.blocks.1 = match no {
                     Some(no) => self.block_of(no, item.span, depth - 1),
@@ -129,12 +131,16 @@ impl Expansion<'_> {
             } => {
                 statement.action = Action::While;
                 statement.test = self.test_of(test);
+                statement.indices = self.indices_since(first);
                 if let Some(formula) = invariant {
                     statement.invariant = Some(self.state_assertion(formula));
                 }
                 statement.blocks.0 = self.block_of(body, item.span, depth - 1);
             }
-            _ => self.take_step(&mut statement, item.kind),
+            _ => {
+                self.take_step(&mut statement, item.kind);
+                statement.indices = self.indices_since(first);
+            }
         }
         self.add_statement(statement)
     }
@@ -150,9 +156,14 @@ impl Expansion<'_> {
     fn take_step(&mut self, statement: &mut Statement, kind: ItemKind) {
         match kind {
             ItemKind::Assign(start) => {
-                statement.action = Action::Assign;
                 let end = start.saturating_add(1);
                 statement.updates = self.updates_in(List { start, end });
+                statement.is_choice = statement.updates.len() > 1;
+                statement.action = if statement.is_choice {
+                    Action::Await
+                } else {
+                    Action::Assign
+                };
             }
             ItemKind::Atomic(assignments) => {
                 statement.action = Action::Await;
@@ -172,7 +183,9 @@ impl Expansion<'_> {
 
     /// A test or a guard, which reads no auxiliary word.
     fn test_of(&mut self, formula: usize) -> usize {
+        let known = self.scope.chosen.len();
         let tree = self.scope.state_formula(formula);
+        self.note_indices(known, None);
         self.refuse_auxiliary(tree);
         tree
     }
@@ -193,39 +206,91 @@ impl Expansion<'_> {
     /// The updates of assignments.
     fn updates_in(&mut self, assignments: List) -> List {
         let start = self.updates.len();
-        for (place, assignment) in self.scope.written.assigned(assignments).iter().enumerate() {
-            if place >= MOST_ASSIGNMENTS {
+        for assignment in self.scope.written.assigned(assignments) {
+            if self.updates.len().saturating_sub(start) >= MOST_ASSIGNMENTS {
                 self.scope
                     .refuse(MeaningFault::TooManyAssignments, assignment.span);
                 break;
             }
-            let update = self.update_of(*assignment);
-            add(&mut self.scope, &mut self.updates, update);
+            let known = self.scope.chosen.len();
+            let end = self.updates.len();
+            self.take_assignment(*assignment, start);
+            self.note_indices(known, Some(List { start, end }));
         }
         let end = self.updates.len();
         List { start, end }
     }
 
-    fn update_of(&mut self, assignment: Assignment) -> Update {
+    /// Adds the updates of an assignment to those of its step, which begin at `start`.
+    fn take_assignment(&mut self, assignment: Assignment, start: usize) {
         let target = self.scope.written.expression(assignment.target);
         let span = target.map_or(assignment.span, |expression| expression.span);
-        let word = self.scope.word_of(assignment.target);
-        let standing = self.scope.word(word).standing;
-        if standing == Standing::Fixed {
-            self.scope
-                .refuse(MeaningFault::FixedAssigned { word }, span);
+        match self.scope.target_of(assignment.target) {
+            Target::Word(word) => {
+                let value = self.value_for(word, assignment.value, span);
+                self.add_update(word, value, span);
+            }
+            Target::Chosen(chosen) => {
+                let value = self.value_for(chosen.member(0), assignment.value, span);
+                self.refuse_index(chosen, span);
+                self.add_choice(chosen, value, span, start);
+            }
         }
-        let value = self.scope.state_value(assignment.value);
-        self.scope.refuse_assignment(word, value, span);
-        if standing == Standing::Plain {
-            self.refuse_auxiliary(value);
+    }
+
+    /// Refuses the index of a target that reads a word which the assignment may change, or an auxiliary word where the members are real ones.
+    fn refuse_index(&mut self, chosen: Chosen, span: Span) {
+        let read = self.scope.forest.reads(chosen.index).plain;
+        for place in 0..chosen.count {
+            let word = chosen.member(place);
+            if read & bit_of(word) != 0 {
+                let fault = MeaningFault::IndexReadsAssigned { word };
+                self.scope.refuse(fault, chosen.span);
+            }
         }
+        if self.scope.word(chosen.member(0)).standing == Standing::Plain {
+            self.refuse_auxiliary(chosen.index);
+        }
+    }
+
+    /// Adds an update of each member from which an index chooses, to those of its step, which begin at `start`.
+    fn add_choice(&mut self, chosen: Chosen, value: usize, span: Span, start: usize) {
+        let before = self.updates.len().saturating_sub(start);
+        let count = before.saturating_add(chosen.count);
+        if count > MOST_ASSIGNMENTS {
+            self.scope.refuse(MeaningFault::TooManyChosen(count), span);
+            return;
+        }
+        for place in 0..chosen.count {
+            let update = self.scope.chosen_update(chosen, place, value, span);
+            self.add_update(chosen.member(place), update, span);
+        }
+    }
+
+    /// Adds an update.
+    fn add_update(&mut self, word: usize, value: usize, span: Span) {
         let part = self.parts.len().saturating_sub(1);
         if place_of(&self.assigned, part, word).is_none() {
             let assigned = PartWord { part, word, span };
             add(&mut self.scope, &mut self.assigned, assigned);
         }
-        Update { word, value }
+        let update = Update { word, value };
+        add(&mut self.scope, &mut self.updates, update);
+    }
+
+    /// The value that a word gets, which stands at a place.
+    fn value_for(&mut self, word: usize, written: usize, span: Span) -> usize {
+        let standing = self.scope.word(word).standing;
+        if standing == Standing::Fixed {
+            self.scope
+                .refuse(MeaningFault::FixedAssigned { word }, span);
+        }
+        let value = self.scope.state_value(written);
+        self.scope.refuse_assignment(word, value, span);
+        if standing == Standing::Plain {
+            self.refuse_auxiliary(value);
+        }
+        value
     }
 
     /// The update of an await without assignments: it keeps the first word that the part owns, else the first that isn't fixed.

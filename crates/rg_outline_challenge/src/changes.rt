@@ -59,6 +59,14 @@ impl Changing<'_> {
         }
     }
 
+    /// The group of the change that leaves out the whole statement: with a wait that has a step, the step is left out.
+    fn group_left_out(&self, kind: ItemKind) -> ChangeGroup {
+        match kind {
+            ItemKind::Await(_, Some(_)) => self.group(self.words.touched(self.statement), 0),
+            _ => self.group_of_statement(),
+        }
+    }
+
     /// Adds a change.
     pub(crate) fn add(
         &mut self,
@@ -129,7 +137,7 @@ impl Changing<'_> {
         self.statement = extent(self.words.written, self.tokens, placed.item);
         self.is_wait = is_wait(self.words.written, placed.item);
         self.after = placed.after;
-        let group = self.group_of_statement();
+        let group = self.group_left_out(placed.item.kind);
         self.replace(self.statement, Replacement::Text("skip"), group)?;
         self.exchange(placed)?;
         self.change_within(placed.item.kind)

@@ -13,4 +13,6 @@ mod words;
 pub use change::{Between, Change, ChangeGroup, Edit, Replacement};
 pub use changes::{Changes, changes_of};
 pub use edits::changed_outline;
-pub use report::{Counts, push_change, push_counts, push_survivors, push_unspoken};
+pub use report::{
+    Counts, push_change, push_change_alone, push_counts, push_survivors, push_unspoken,
+};

@@ -74,6 +74,20 @@ pub fn push_change(
     text.push(b':')?;
     push_count(text, position.column as u64)?;
     push_text(text, ": ")?;
+    push_change_alone(alloc, text, source, change)
+}
+
+/// Adds what is changed, without the place.
+///
+/// # Errors
+///
+/// As `push_change`.
+pub fn push_change_alone(
+    alloc: Global,
+    text: &mut Vec<u8>,
+    source: &[u8],
+    change: &Change,
+) -> Result<(), AllocError> {
     let piece = change.place.of(source);
     match change.edit {
         Edit::Replaced(_, replacement) => push_replaced(alloc, text, piece, replacement),
@@ -154,6 +168,17 @@ pub fn push_survivors(
     Ok(())
 }
 
+/// Adds a count with the verb for one, or for several.
+fn push_counted(
+    text: &mut Vec<u8>,
+    count: usize,
+    one: &str,
+    several: &str,
+) -> Result<(), AllocError> {
+    push_count(text, count as u64)?;
+    push_text(text, if count == 1 { one } else { several })
+}
+
 /// Adds a line with how many changes there are of each kind.
 ///
 /// # Errors
@@ -161,12 +186,12 @@ pub fn push_survivors(
 /// As `push_change`.
 pub fn push_counts(text: &mut Vec<u8>, counts: Counts) -> Result<(), AllocError> {
     push_text(text, "of the changed programs ")?;
-    push_count(text, counts.breaking as u64)?;
-    push_text(text, " break the specification, ")?;
-    push_count(text, counts.undecided as u64)?;
-    push_text(text, " are undecided, and ")?;
-    push_count(text, counts.surviving as u64)?;
-    push_text(text, " are proved all the same\n")
+    push_counted(text, counts.breaking, " breaks", " break")?;
+    push_text(text, " the specification, ")?;
+    push_counted(text, counts.undecided, " is", " are")?;
+    push_text(text, " undecided, and ")?;
+    push_counted(text, counts.surviving, " is", " are")?;
+    push_text(text, " proved all the same\n")
 }
 
 /// Adds a line with the words of which nothing is said; nothing where there are none.

@@ -211,15 +211,15 @@ fn report_alone(
     Ok(())
 }
 
-/// Adds a count and what is counted.
-fn push_counted(text: &mut Vec<u8>, count: usize, what: &[u8]) -> Result<(), AllocError> {
+/// Adds a count and what is said of so many: of one, or of several.
+fn push_counted(
+    text: &mut Vec<u8>,
+    count: usize,
+    one: &[u8],
+    several: &[u8],
+) -> Result<(), AllocError> {
     push_count(text, count as u64)?;
-    text.push(b' ')?;
-    text.extend_from_slice(what)?;
-    if count != 1 {
-        text.push(b's')?;
-    }
-    Ok(())
+    text.extend_from_slice(if count == 1 { one } else { several })
 }
 
 /// What is reported of conditions that aren't proved: of those that are false each place once, and those for which there is no proof.
@@ -229,6 +229,8 @@ pub(crate) struct FailureReports {
     unproved: Reports,
     /// How many conditions are false.
     count: usize,
+    /// How many conditions are proved.
+    proved: usize,
 }
 
 impl FailureReports {
@@ -242,6 +244,7 @@ impl FailureReports {
             untrue: Reports::new(expansion.scope.alloc),
             unproved: Reports::new(expansion.scope.alloc),
             count: 0,
+            proved: asked.len().saturating_sub(failed.len()),
         };
         for one in failed {
             if let Some(asked) = asked.get(one.number.saturating_sub(1)) {
@@ -298,17 +301,18 @@ impl FailureReports {
         push_json_of_verdict(text, self.untrue.alloc, subject.file, self.count, unproved)
     }
 
-    /// Adds the last line: how many conditions aren't true, in how many places this was reported, and for how many no proof was found.
+    /// Adds the last line: how many conditions hold, how many don't, and for how many no proof was found.
     fn push_counts(&self, text: &mut Vec<u8>) -> Result<(), AllocError> {
-        let unproved = self.unproved.listed.len();
+        let open = self.unproved.listed.len();
         text.extend_from_slice(b"\nnot verified: ")?;
-        push_counted(text, self.count, b"condition")?;
-        text.extend_from_slice(b" not true, told in ")?;
-        push_counted(text, self.untrue.listed.len(), b"place")?;
-        if unproved > 0 {
-            text.extend_from_slice(b"; ")?;
-            push_counted(text, unproved, b"condition")?;
-            text.extend_from_slice(b" without a proof")?;
+        push_counted(text, self.proved, b" condition holds", b" conditions hold")?;
+        if self.count > 0 {
+            text.extend_from_slice(b", ")?;
+            push_counted(text, self.count, b" does not", b" do not")?;
+        }
+        if open > 0 {
+            text.extend_from_slice(b", ")?;
+            push_counted(text, open, b" is open", b" are open")?;
         }
         text.push(b'\n')?;
         Ok(())

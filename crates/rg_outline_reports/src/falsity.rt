@@ -1,5 +1,6 @@
 //! What is false of a formula: its first conjunct that is, the premises that hold, and the names within which it stands; and a report of it.
 
+use crate::meanings::push_meanings;
 use crate::reports::{Cause, Claim, Detail, Key, Moved, Reports, Said};
 use crate::show::{push_name, push_shown};
 use crate::subject::line_of;
@@ -135,13 +136,14 @@ impl<'s> Falsity<'s> {
         Ok(words)
     }
 
-    /// The conjunct, the premises that hold, and the names within which it stands, the innermost first.
+    /// The conjunct, the premises that hold, what the names in it stand for, and the names within which it stands, the innermost first.
     pub(crate) fn details(&self, expansion: &Expansion<'_>) -> Result<Vec<Detail>, AllocError> {
         let mut details = Vec::new(expansion.scope.alloc);
         details.push(detail(expansion, Said::Conjunct, self.conjunct, 0)?)?;
         for premise in &self.premises {
             details.push(detail(expansion, Said::Premise, *premise, 3)?)?;
         }
+        push_meanings(expansion, &mut details, self.conjunct, &self.premises)?;
         for name in self.names.iter().rev() {
             details.push(detail(expansion, Said::Name, *name, 0)?)?;
         }
@@ -197,7 +199,11 @@ impl Finding<'_> {
             return Ok(false);
         }
         let details = self.falsity.details(expansion)?;
-        reports.explain(details, self.moved, self.words.values(self.moment)?);
+        reports.explain(
+            details,
+            self.moved,
+            self.words.values(expansion, self.moment)?,
+        );
         reports.claims.push(self.falsity.claim(expansion)?)?;
         Ok(true)
     }

@@ -50,12 +50,14 @@ pub enum Format {
     Json,
 }
 
-/// An outline: its file, as places name it, with its bytes; and how what is reported of it is printed.
+/// An outline: its file, as places name it, with its bytes; how what is reported of it is printed; and whether it is to be warned of what it is perhaps
+/// not meant to say.
 #[derive(Clone, Copy)]
 pub struct OutlineSource<'a> {
     pub name: &'a str,
     pub source: &'a [u8],
     pub format: Format,
+    pub has_warnings: bool,
 }
 
 impl From<AllocError> for NoFiles {

@@ -89,6 +89,7 @@ pub(crate) fn push_details(text: &mut Vec<u8>, details: &[Detail]) -> Result<(),
         let before = match detail.said {
             Said::Conjunct => b"    false: ",
             Said::Premise => premise,
+            Said::Meaning => b"\n    ",
             Said::Name => name,
             Said::Hint => continue,
         };

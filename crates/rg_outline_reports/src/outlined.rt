@@ -3,16 +3,20 @@
 use crate::failures::{Failed, FailureReports};
 use crate::faults::{printable, refused_expansion, refused_source};
 use crate::files::{Failures, Format, NoFiles, OutlineFiles, OutlineSource, Places};
+use crate::inputs::{Input, Inputs, inputs_of, report_outside_pre};
 use crate::lines::push_reports;
 use crate::map::push_conditions;
-use crate::questions::{Asks, Question, questions_of};
+use crate::marks::take_marks;
+use crate::questions::{Asks, Outside, Question, questions_of};
 use crate::reports::Reports;
 use crate::run::{push_run, push_walked};
+use crate::run_json::push_json_of_run;
+use crate::stuck::report_stuck;
 use crate::subject::{Subject, line_of};
 use crate::warnings::report_warnings;
 use rg_outline::{Expansion, push_derivation, push_map, push_text, work_out};
 use rg_outline_syntax::{Fault, Tokens, Written, parse};
-use rg_walk::{BreakingRun, Walked};
+use rg_walk::{BreakingRun, StuckRun, Walked};
 use std::alloc::{AllocError, Global};
 
 /// What is written in an outline: its tokens, and the tree over them.
@@ -145,6 +149,30 @@ impl<'a> Outlined<'a> {
         Ok(Places { words, lines })
     }
 
+    /// What the start and the moves of a run stand for, which name words as the outline does or as the text does.
+    ///
+    /// # Errors
+    ///
+    /// - `NoFiles::Reported`, with the first fault of the start, else of the moves.
+    /// - `NoFiles::Memory` where memory is refused.
+    pub fn inputs(
+        &self,
+        start: Option<Input<'_>>,
+        moves: Option<Input<'_>>,
+    ) -> Result<Inputs, NoFiles> {
+        inputs_of(&self.expansion, start, moves)
+    }
+
+    /// What of the program's pre is false where the words have these values; nothing where they are in the pre.
+    /// An error comes only where memory is refused.
+    pub fn outside_pre(&self, values: &[u64]) -> Result<Vec<u8>, AllocError> {
+        let mut reports = Reports::new(self.expansion.scope.alloc);
+        report_outside_pre(&self.expansion, values, &mut reports)?;
+        let mut lines = Vec::new(self.expansion.scope.alloc);
+        push_reports(&mut lines, self.outline.format, &reports, self.subject())?;
+        self.printed(lines)
+    }
+
     /// What is reported of conditions of the derivation that aren't proved, and what that says to be false.
     /// An error comes only where memory is refused.
     pub fn failures(&self, failed: &[Failed<'_>]) -> Result<Failures, AllocError> {
@@ -157,17 +185,24 @@ impl<'a> Outlined<'a> {
         })
     }
 
-    /// What a search is asked for the warnings.
+    /// What a search is asked for the warnings; nothing where no warnings are wanted.
     /// An error comes only where memory is refused.
     pub fn questions(&self) -> Result<Vec<Question>, AllocError> {
+        if !self.outline.has_warnings {
+            return Ok(Vec::new(self.expansion.scope.alloc));
+        }
         questions_of(&self.expansion)
     }
 
-    /// The warnings; nothing where there are none. `shown` are the questions to which a search answered yes.
+    /// The warnings but for those that are meant; nothing where there are none, or none are wanted. `shown` are the questions to which a search answered
+    /// yes, and `outside` are the indices of which it found that they are outside their ranges.
     /// An error comes only where memory is refused.
-    pub fn warnings(&self, shown: &[Asks]) -> Result<Vec<u8>, AllocError> {
+    pub fn warnings(&self, shown: &[Asks], outside: &[Outside]) -> Result<Vec<u8>, AllocError> {
         let mut reports = Reports::new(self.expansion.scope.alloc);
-        report_warnings(&self.expansion, shown, &mut reports)?;
+        if self.outline.has_warnings {
+            report_warnings(&self.expansion, shown, outside, &mut reports)?;
+            take_marks(self.outline.source, &mut reports)?;
+        }
         let mut lines = Vec::new(self.expansion.scope.alloc);
         push_reports(&mut lines, self.outline.format, &reports, self.subject())?;
         self.printed(lines)
@@ -180,11 +215,28 @@ impl<'a> Outlined<'a> {
         push_walked(&self.expansion, &mut lines, self.outline, walked)?;
         self.printed(lines)
     }
-    /// The lines that report a run of the program, in the outline's words.
+
+    /// The warning of a run that gets stuck.
+    /// An error comes only where memory is refused.
+    pub fn stuck(&self, run: &StuckRun) -> Result<Vec<u8>, AllocError> {
+        let mut reports = Reports::new(self.expansion.scope.alloc);
+        report_stuck(&self.expansion, run, &mut reports)?;
+        let mut lines = Vec::new(self.expansion.scope.alloc);
+        push_reports(&mut lines, self.outline.format, &reports, self.subject())?;
+        self.printed(lines)
+    }
+
+    /// The lines that report a run of the program, in the outline's words; or a JSON value in a line of its own.
     /// An error comes only where memory is refused.
     pub fn run_lines(&self, run: &BreakingRun) -> Result<Vec<u8>, AllocError> {
         let mut lines = Vec::new(self.expansion.scope.alloc);
-        push_run(&self.expansion, &mut lines, run)?;
+        match self.outline.format {
+            Format::Plain => push_run(&self.expansion, &mut lines, run)?,
+            Format::Json => {
+                let file = self.outline.name.as_bytes();
+                push_json_of_run(&self.expansion, &mut lines, file, run)?
+            }
+        }
         Ok(lines)
     }
 }

@@ -12,6 +12,15 @@ pub enum Asks {
     PreUnmet,
     /// Whether a promise is true in all states: the one at this place of those that are written.
     PromiseTrue(usize),
+    /// Whether an index over words is in its range: the one at this place of those that are asked of.
+    IndexInside(usize),
+}
+
+/// An index over words that isn't in its range, by its place among those that are asked of, and the values of all words in a state where it isn't.
+#[derive(Drop)]
+pub struct Outside {
+    pub place: usize,
+    pub state: Vec<u64>,
 }
 
 /// A question: the answer is yes where a formula is true in all states.
@@ -43,7 +52,8 @@ fn push_asked(
     Ok(())
 }
 
-/// What a search is asked: whether no state meets the program's pre, and whether the promises are true in all states, each one that isn't a truth.
+/// What a search is asked: whether no state meets the program's pre; whether the promises are true in all states, each one that isn't a truth; and
+/// whether indices over words are in their ranges.
 pub(crate) fn questions_of(expansion: &Expansion<'_>) -> Result<Vec<Question>, AllocError> {
     let mut questions = Vec::new(expansion.scope.alloc);
     let pre = expansion.specification.pre;
@@ -55,6 +65,10 @@ pub(crate) fn questions_of(expansion: &Expansion<'_>) -> Result<Vec<Question>, A
         if !forest.is_truth(promise.tree, true) && !forest.is_truth(promise.tree, false) {
             push_asked(expansion, &mut questions, asks, promise.tree)?;
         }
+    }
+    for (place, asked) in expansion.asked.iter().enumerate() {
+        let asks = Asks::IndexInside(place);
+        push_asked(expansion, &mut questions, asks, asked.formula)?;
     }
     Ok(questions)
 }

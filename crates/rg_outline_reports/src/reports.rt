@@ -20,6 +20,8 @@ pub(crate) enum Cause {
     Parallel,
     /// A condition for which there is no proof.
     Unproved,
+    /// A start that isn't in the pre.
+    OutsidePre,
     Warned(Warning),
 }
 
@@ -44,8 +46,14 @@ pub(crate) enum Warning {
     AsksNothing,
     /// A step or a test outside `atomic` that uses words several times which others use.
     SharedWords,
+    /// An index over words that can be outside its range.
+    IndexOutside,
     /// A name or a word that nothing uses.
     Unused,
+    /// A mark that says of no warning that it is meant.
+    MarkUnmet,
+    /// A run in which no part can go on, though not all have ended.
+    Stuck,
 }
 
 /// What makes two conditions fail for one cause: its kind, where it is, and what is false.
@@ -73,6 +81,8 @@ pub(crate) enum Said {
     Conjunct,
     /// A premise that holds.
     Premise,
+    /// What a name stands for that the conjunct uses.
+    Meaning,
     /// A name within which the conjunct stands.
     Name,
     /// What would help.
@@ -108,6 +118,8 @@ pub(crate) struct Report {
     pub(crate) details: Vec<Detail>,
     pub(crate) moved: Moved,
     pub(crate) values: Vec<Valued>,
+    /// Whether a mark of the outline says that it is meant: then it isn't told.
+    pub(crate) is_meant: bool,
 }
 
 /// What a report says to be false: a formula as the text spells it, and the values of all words in the two states in which it is.
@@ -165,6 +177,7 @@ impl Reports {
             details: Vec::new(self.alloc),
             moved: Moved::Nothing,
             values: Vec::new(self.alloc),
+            is_meant: false,
         };
         report.add_part(part)?;
         self.listed.push(report)?;
@@ -192,11 +205,13 @@ impl Reports {
         Ok(())
     }
 
-    /// The reports in the order of their places, and of their making where these are the same.
+    /// The reports that are told, in the order of their places, and of their making where these are the same.
     pub(crate) fn ordered(&self) -> Result<Vec<&Report>, AllocError> {
         let mut ordered = Vec::new(self.alloc);
         for report in &self.listed {
-            ordered.push(report)?;
+            if !report.is_meant {
+                ordered.push(report)?;
+            }
         }
         ordered.sort_by_key(|report: &&Report| (report.place.start, report.place.end))?;
         Ok(ordered)

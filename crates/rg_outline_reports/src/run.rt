@@ -1,4 +1,4 @@
-//! What a walk of an outline's text found: a run, one line for each step, or how far was looked.
+//! What a walk of an outline's text found: a run, or how far was looked.
 
 use crate::broken::{Breaks, breaks_of, details_of};
 use crate::files::{Format, OutlineSource};
@@ -6,6 +6,7 @@ use crate::lines::{push_details, push_value};
 use crate::places::statement_at;
 use crate::reports::Valued;
 use crate::run_json::{push_json_of_not_found, push_json_of_run};
+use crate::run_rows::{RunRows, Steps, rows_of};
 use crate::subject::line_of;
 use rg_outline::Expansion;
 use rg_outline_syntax::{Span, push_count, push_phrase};
@@ -13,8 +14,8 @@ use rg_walk::{BreakingRun, Broken, RunStep, Unbroken, Walked};
 use rg_words::State;
 use std::alloc::AllocError;
 
-/// The most steps of a run that are shown.
-const MOST_STEPS: usize = 200;
+/// The most rows of a run that are shown.
+const MOST_ROWS: usize = 200;
 
 /// The most bytes of a statement that is shown.
 const MOST_NAMED: usize = 60;
@@ -45,8 +46,8 @@ pub(crate) fn push_start(
     text.extend_from_slice(rest)
 }
 
-/// Adds the words that a step changes.
-fn push_changes(
+/// Adds the words that differ in two states.
+pub(crate) fn push_changes(
     expansion: &Expansion<'_>,
     text: &mut Vec<u8>,
     before: &State,
@@ -74,7 +75,7 @@ fn push_changes(
 }
 
 /// Adds a statement in one line; its beginning, where it is long.
-fn push_statement(
+pub(crate) fn push_statement(
     expansion: &Expansion<'_>,
     text: &mut Vec<u8>,
     span: Span,
@@ -113,26 +114,37 @@ pub(crate) fn push_step(
     push_changes(expansion, text, before, &step.after)
 }
 
-/// Adds the steps of a run, one line for each.
+/// Adds how many steps the first rows stand for, which are not shown.
+fn push_hidden(text: &mut Vec<u8>, rows: &RunRows, hidden: usize) -> Result<(), AllocError> {
+    let mut steps = 0usize;
+    for count in rows.counts.iter().take(hidden) {
+        steps = steps.saturating_add(*count);
+    }
+    if steps > 0 {
+        text.extend_from_slice(b"    ")?;
+        push_count(text, steps as u64)?;
+        text.extend_from_slice(b" steps that are not shown\n")?;
+    }
+    Ok(())
+}
+
+/// Adds the steps of a run, in rows.
 fn push_steps(
     expansion: &Expansion<'_>,
     text: &mut Vec<u8>,
     run: &BreakingRun,
 ) -> Result<(), AllocError> {
-    let hidden = run.steps.len().saturating_sub(MOST_STEPS);
-    if hidden > 0 {
+    let steps = Steps {
+        start: &run.start,
+        steps: &run.steps,
+    };
+    let rows = rows_of(expansion, steps)?;
+    let hidden = rows.texts.len().saturating_sub(MOST_ROWS);
+    push_hidden(text, &rows, hidden)?;
+    for row in hidden..rows.texts.len() {
         text.extend_from_slice(b"    ")?;
-        push_count(text, hidden as u64)?;
-        text.extend_from_slice(b" steps that are not shown\n")?;
-    }
-    let mut before = &run.start;
-    for (index, step) in run.steps.iter().enumerate() {
-        if index >= hidden {
-            text.extend_from_slice(b"    ")?;
-            push_step(expansion, text, before, step)?;
-            text.push(b'\n')?;
-        }
-        before = &step.after;
+        text.extend_from_slice(rows.texts.at(row))?;
+        text.push(b'\n')?;
     }
     Ok(())
 }
@@ -189,8 +201,8 @@ fn push_head(
     }
 }
 
-/// Adds a run that breaks the specification, the invariant or what a part promises, one line for each step: who makes it, the line and the statement,
-/// and the words that it changes; and then what is broken, with its first conjunct that is false and where that stands.
+/// Adds a run that breaks the specification, the invariant or what a part promises, its steps in rows: who makes them, the lines and the
+/// statements, and the words that they change; and then what is broken, with its first conjunct that is false and where that stands.
 pub(crate) fn push_run(
     expansion: &Expansion<'_>,
     text: &mut Vec<u8>,
@@ -260,9 +272,9 @@ pub(crate) fn push_walked(
     match walked {
         Walked::Breaks(run) if is_plain => push_run(expansion, text, run),
         Walked::Breaks(run) => push_json_of_run(expansion, text, file, run),
-        Walked::NotFound(unbroken) if is_plain => push_not_found(text, *unbroken),
-        Walked::NotFound(unbroken) => {
-            push_json_of_not_found(text, expansion.scope.alloc, file, *unbroken)
+        Walked::NotFound(found) if is_plain => push_not_found(text, found.unbroken),
+        Walked::NotFound(found) => {
+            push_json_of_not_found(text, expansion.scope.alloc, file, found.unbroken)
         }
     }
 }

@@ -34,7 +34,7 @@ fn breaks_word(breaks: Breaks) -> &'static [u8] {
 
 /// Adds a run that breaks the specification, the invariant or what a part promises, as one JSON value in a line of its own: which of these, and its
 /// steps, which are those of `push_run`, all of them; then what is broken, with its first conjunct that is false, the premises that hold, and what it
-/// stands within.
+/// stands within. No file is named where its name has no bytes.
 ///
 /// # Errors
 ///
@@ -54,7 +54,9 @@ pub(crate) fn push_json_of_run(
     let details = details_of(expansion, run)?;
     let mut object = JsonObject::new(alloc);
     object.put_text("kind", b"run");
-    object.put_text("file", file);
+    if !file.is_empty() {
+        object.put_text("file", file);
+    }
     object.put_text("breaks", breaks_word(breaks));
     object.put_text("start", &start);
     object.put("steps", steps_value(expansion, run));

@@ -46,8 +46,22 @@ fn uses_of_others(expansion: &Expansion<'_>, part: usize) -> Uses {
 }
 
 /// Whether a line is of a step or a test that stands for one read or write alone in the usual machine: outside `atomic` and `await`.
-fn is_plain(line: Line) -> bool {
-    matches!(line.rule, Rule::Basic | Rule::If | Rule::Loop)
+fn is_plain(line: Line, statement: Statement) -> bool {
+    match line.rule {
+        Rule::Basic | Rule::If | Rule::Loop => true,
+        Rule::Atomic => statement.is_choice,
+        _ => false,
+    }
+}
+
+/// Which words are loaded for what is assigned: of an assignment to a chosen member those of the index and of the value, and none of the members.
+fn loaded_by(expansion: &Expansion<'_>, statement: Statement, loads: &Loads, value: usize) -> u64 {
+    if !statement.is_choice {
+        return loads.tree(expansion, value);
+    }
+    let forest = &expansion.scope.forest;
+    let index = loads.tree(expansion, forest.operand(value, 0));
+    index | loads.tree(expansion, forest.operand(value, 1))
 }
 
 /// Which shared words a statement loads, and which it stores to, as bits.
@@ -59,7 +73,7 @@ fn accesses_of(
 ) -> Uses {
     let mut read = loads.tree(expansion, statement.test);
     for update in expansion.updates_of(statement.updates) {
-        read |= loads.tree(expansion, update.value);
+        read |= loaded_by(expansion, statement, loads, update.value);
     }
     let own = uses_of(expansion, statement);
     let shared = (others.assigned | others.read) & !auxiliary_bits(expansion);
@@ -72,7 +86,7 @@ fn accesses_of(
 /// What is said of a statement that uses these shared words in one step.
 fn sentence_of(
     expansion: &Expansion<'_>,
-    action: Action,
+    statement: Statement,
     shared: u64,
 ) -> Result<Vec<u8>, AllocError> {
     let mut sentence = Vec::new(expansion.scope.alloc);
@@ -81,7 +95,7 @@ fn sentence_of(
             b"this assignment reads and writes the shared word ",
             b" in one step",
         )
-    } else if action == Action::Assign {
+    } else if statement.action == Action::Assign || statement.is_choice {
         (
             b"this assignment uses several shared words in one step (",
             b")",
@@ -106,15 +120,16 @@ fn report_statement(
 ) -> Result<(), AllocError> {
     let statement = expansion.statement(line.statement);
     let own = accesses_of(expansion, statement, loads, others);
-    let count = own
-        .read
-        .count_ones()
-        .saturating_add(own.assigned.count_ones());
+    let mut stores = own.assigned.count_ones();
+    if statement.is_choice {
+        stores = stores.min(1);
+    }
+    let count = own.read.count_ones().saturating_add(stores);
     if count < 2 {
         return Ok(());
     }
     let shared = own.read | own.assigned;
-    let sentence = sentence_of(expansion, statement.action, shared)?;
+    let sentence = sentence_of(expansion, statement, shared)?;
     warn(
         reports,
         Warning::SharedWords,
@@ -134,7 +149,8 @@ pub(crate) fn report_shared(
         let others = uses_of_others(expansion, part);
         let loads = Loads::of(expansion, others.assigned & !auxiliary_bits(expansion))?;
         for line in &expansion.lines {
-            if line.part == part && is_plain(*line) {
+            let statement = expansion.statement(line.statement);
+            if line.part == part && is_plain(*line, statement) {
                 report_statement(expansion, reports, *line, &loads, others)?;
             }
         }

@@ -1,5 +1,6 @@
 //! Formulas and values as an outline writes them: with no more parentheses than a reader needs.
 
+use crate::written::is_same_place;
 use rg_outline::{Expansion, middle};
 use rg_outline_syntax::{Operator, Span, push_number, push_phrase};
 use rg_outline_terms::Root;
@@ -13,11 +14,15 @@ const MOST_SHOWN: usize = 1_000;
 enum Pending {
     Text(&'static str),
     Number(i128),
+    /// A number, as it is written.
+    Numeral(Span),
     Word(usize, bool),
-    /// A name for a formula, as it is used, and whether the formula was primed as a whole.
+    /// The name of a word up to a place, or from a place on.
+    NameUpTo(usize, usize),
+    NameFrom(usize, usize),
+    /// A name, as it is used, and whether that for which it stands was primed as a whole.
     Name(Span, bool),
-    /// A tree, within parentheses where it binds more loosely than this. A tree with a name is shown by it, or not; never where the name has
-    /// arguments.
+    /// A tree, within parentheses where it binds more loosely than this. A tree with a name is shown by it, or not.
     Tree(usize, u8, bool),
 }
 
@@ -71,16 +76,25 @@ fn push_pending(
     match pending {
         Pending::Text(said) => text.extend_from_slice(said.as_bytes()),
         Pending::Number(number) => push_number(text, number),
+        Pending::Numeral(written) => { text.extend_from_slice(written.of(expansion.scope.source)) }
         Pending::Word(word, is_primed) => {
             text.extend_from_slice(expansion.scope.shown.at(word))?;
             push_prime(text, is_primed)
+        }
+        Pending::NameUpTo(word, end) => {
+            let name = expansion.scope.shown.at(word);
+            text.extend_from_slice(name.get(..end).unwrap_or(name))
+        }
+        Pending::NameFrom(word, start) => {
+            let name = expansion.scope.shown.at(word);
+            text.extend_from_slice(name.get(start..).unwrap_or(&[]))
         }
         Pending::Name(name, is_primed) => push_use(expansion, text, name, is_primed),
         Pending::Tree(tree, level, by_name) => open_tree(expansion, open, tree, level, by_name),
     }
 }
 
-/// Adds a name as it is used, with a prime where the formula for which it stands was primed as a whole.
+/// Adds a name as it is used, with a prime where that for which it stands was primed as a whole.
 fn push_use(
     expansion: &Expansion<'_>,
     text: &mut Vec<u8>,
@@ -112,8 +126,57 @@ fn push_prime(text: &mut Vec<u8>, is_primed: bool) -> Result<(), AllocError> {
     Ok(())
 }
 
-/// Adds what a tree is made of: its name, unless that is used with arguments, since as it stands it may speak of an index, and doesn't say which
-/// number that is; else its root, in parentheses where it binds too loosely.
+/// The name of a use, without its arguments.
+fn callee(expansion: &Expansion<'_>, used: Span) -> Span {
+    let written = used.of(expansion.scope.source).iter();
+    let length = written.take_while(|byte| **byte != b'(').count();
+    Span {
+        start: used.start,
+        end: used.start.saturating_add(length),
+    }
+}
+
+/// Adds a name as it is used, but its arguments as they are shown: as they stand they may speak of an index, and don't say which number that is.
+fn open_name(
+    expansion: &Expansion<'_>,
+    open: &mut Vec<Pending>,
+    tree: usize,
+    used: Span,
+) -> Result<(), AllocError> {
+    let forest = &expansion.scope.forest;
+    let reads = forest.reads(tree);
+    let is_primed = reads.primed != 0 && reads.plain == 0;
+    let arguments = forest.arguments(tree);
+    if arguments.is_empty() {
+        open.push(Pending::Name(used, is_primed))?;
+        return Ok(());
+    }
+    open.push(Pending::Text(if is_primed { ")'" } else { ")" }))?;
+    for place in (0..arguments.len()).rev() {
+        if let Some(argument) = arguments.get(place) {
+            open.push(Pending::Tree(*argument, 0, true))?;
+        }
+        open.push(Pending::Text(if place == 0 { "(" } else { ", " }))?;
+    }
+    open.push(Pending::Name(callee(expansion, used), false))?;
+    Ok(())
+}
+
+/// A number: as it is written, where it is, else in decimal.
+fn number_of(expansion: &Expansion<'_>, tree: usize, number: i128) -> Pending {
+    let span = expansion.scope.forest.span(tree);
+    let written = span.of(expansion.scope.source);
+    let is_whole = written
+        .iter()
+        .all(|byte| byte.is_ascii_alphanumeric() || *byte == b'_');
+    if is_whole && written.first().copied().unwrap_or(0).is_ascii_digit() {
+        Pending::Numeral(span)
+    } else {
+        Pending::Number(number)
+    }
+}
+
+/// Adds what a tree is made of: its name, where it is shown by that; else its root, in parentheses where it binds too loosely.
 fn open_tree(
     expansion: &Expansion<'_>,
     open: &mut Vec<Pending>,
@@ -124,10 +187,8 @@ fn open_tree(
     let forest = &expansion.scope.forest;
     if let Some(name) = forest.tree(tree).name
         && by_name
-        && !name.of(expansion.scope.source).contains(&b'(')
     {
-        open.push(Pending::Name(name, forest.reads(tree).primed != 0))?;
-        return Ok(());
+        return open_name(expansion, open, tree, name);
     }
     let is_loose = level_of(forest.root(tree)) < level;
     if is_loose {
@@ -159,7 +220,7 @@ fn open_root(
     let operand = |place: usize, level: u8| Pending::Tree(forest.operand(tree, place), level, true);
     let between = Pending::Text(middle(root));
     let (left, right) = match root {
-        Root::Number(number) => return open_all(open, &[Pending::Number(number)]),
+        Root::Number(number) => return open_all(open, &[number_of(expansion, tree, number)]),
         Root::Word { word, is_primed } => return open_all(open, &[Pending::Word(word, is_primed)]),
         Root::Truth(true) => return open_all(open, &[Pending::Text("true")]),
         Root::Truth(false) => return open_all(open, &[Pending::Text("false")]),
@@ -169,7 +230,12 @@ fn open_root(
             let count = Pending::Number(i128::from(count));
             return open_all(open, &[operand(0, 6), between, count]);
         }
-        Root::Choice => return open_choice(expansion, open, tree),
+        Root::Choice => {
+            if let Some(member) = member_of(expansion, tree) {
+                return open_member(expansion, open, tree, member);
+            }
+            return open_choice(expansion, open, tree);
+        }
         Root::Join(_) => return open_chain(expansion, open, tree),
         Root::Imply(_) => (2, 2),
         Root::Operate(_) if is_sum(root) && is_sum(forest.root(forest.operand(tree, 0))) => (5, 6),
@@ -177,6 +243,114 @@ fn open_root(
         _ => (5, 5),
     };
     open_all(open, &[operand(0, left), between, operand(1, right)])
+}
+
+/// The member that a choice reads first, where the choice was made of a family with an index over words: the word, whether it is primed, and where in
+/// its name the number of that index begins and ends.
+#[derive(Clone, Copy)]
+struct FirstMember {
+    word: usize,
+    is_primed: bool,
+    start: usize,
+    end: usize,
+}
+
+/// The word that a tree is, or that a choice reads first.
+fn first_word(expansion: &Expansion<'_>, tree: usize) -> Option<(usize, bool)> {
+    let forest = &expansion.scope.forest;
+    let mut read = tree;
+    if forest.root(tree) == Root::Choice {
+        read = forest.operand(tree, 1);
+    }
+    match forest.root(read) {
+        Root::Word { word, is_primed } => Some((word, is_primed)),
+        _ => None,
+    }
+}
+
+/// Where in the first one of two names of members the number begins by which they differ: after the last `[` before the first difference.
+fn number_start(first: &[u8], second: &[u8]) -> usize {
+    let mut start: usize = 0;
+    for (place, (byte, other)) in first.iter().zip(second).enumerate() {
+        if *byte != *other {
+            break;
+        }
+        if *byte == b'[' {
+            start = place.saturating_add(1);
+        }
+    }
+    start
+}
+
+/// How many digits stand at the front.
+fn digits_in(bytes: &[u8]) -> usize {
+    bytes.iter().take_while(|b| b.is_ascii_digit()).count()
+}
+
+/// The first member of a choice that was made of a family with an index over words: then the whole, its test and its member have one place.
+fn member_of(expansion: &Expansion<'_>, tree: usize) -> Option<FirstMember> {
+    let forest = &expansion.scope.forest;
+    let place = forest.span(tree);
+    let is_made = is_same_place(place, forest.span(forest.operand(tree, 0)))
+        && is_same_place(place, forest.span(forest.operand(tree, 1)));
+    if !is_made {
+        return None;
+    }
+    let (word, is_primed) = first_word(expansion, tree)?;
+    let (next, _) = first_word(expansion, forest.operand(tree, 2))?;
+    let name = expansion.scope.shown.at(word);
+    let start = number_start(name, expansion.scope.shown.at(next));
+    let digits = digits_in(name.get(start..).unwrap_or(&[]));
+    Some(FirstMember {
+        word,
+        is_primed,
+        start,
+        end: start.saturating_add(digits),
+    })
+}
+
+/// Whether a choice was made of a family with an index over words.
+pub(crate) fn is_member(expansion: &Expansion<'_>, tree: usize) -> bool {
+    member_of(expansion, tree).is_some()
+}
+
+/// The index, where a value was made for a member of a family by an assignment to the member that an index chooses.
+pub(crate) fn assigned_index(expansion: &Expansion<'_>, value: usize) -> Option<usize> {
+    let forest = &expansion.scope.forest;
+    let place = forest.span(value);
+    let test = forest.operand(value, 0);
+    let is_made = forest.root(value) == Root::Choice
+        && is_same_place(place, forest.span(test))
+        && is_same_place(place, forest.span(forest.operand(value, 2)));
+    if is_made {
+        Some(forest.operand(test, 0))
+    } else {
+        None
+    }
+}
+
+/// Adds a family with an index over words; primed, the whole has the prime.
+fn open_member(
+    expansion: &Expansion<'_>,
+    open: &mut Vec<Pending>,
+    tree: usize,
+    member: FirstMember,
+) -> Result<(), AllocError> {
+    let forest = &expansion.scope.forest;
+    let mut plain = tree;
+    if member.is_primed {
+        plain = forest.unprimed(tree).unwrap_or(tree);
+    }
+    let index = forest.operand(forest.operand(plain, 0), 0);
+    let prime = Pending::Text(if member.is_primed { "'" } else { "" });
+    open_all(open, &[Pending::NameFrom(member.word, member.end), prime])?;
+    open_all(
+        open,
+        &[
+            Pending::NameUpTo(member.word, member.start),
+            Pending::Tree(index, 5, true),
+        ],
+    )
 }
 
 /// Adds what a choice is made of.

@@ -139,10 +139,9 @@ pub(crate) fn report_unstable(
         moment,
     };
     if finding.put(expansion, reports)? {
-        for word in &finding.words.listed {
-            let (first, second) = moment.of(*word);
-            if first != second {
-                hint_cause(expansion, reports, line.part, *word, moment)?;
+        for valued in &finding.words.values(expansion, moment)? {
+            if valued.before != valued.after {
+                hint_cause(expansion, reports, line.part, valued.word, moment)?;
             }
         }
     }

@@ -4,7 +4,7 @@ use crate::broken::{Owner, broken_by};
 use crate::falsity::{Falsity, Finding};
 use crate::reports::{Cause, Moved, Reports};
 use crate::says::push_with_part;
-use crate::show::push_shown;
+use crate::show::{assigned_index, push_shown};
 use crate::subject::line_of;
 use crate::values::{Moment, Values, is_true};
 use rg_outline::{Assertion, Expansion, Line, Origin, Statement, push_clipped};
@@ -95,7 +95,14 @@ fn put(
 ) -> Result<(), AllocError> {
     let mut words = falsity.words(expansion)?;
     for update in expansion.updates_of(step.statement.updates) {
-        words.add(update.word)?;
+        let (before, after) = step.moment.of(update.word);
+        let index = assigned_index(expansion, update.value);
+        if let Some(index) = index {
+            words.add_tree(expansion, index)?;
+        }
+        if index.is_none() || before != after {
+            words.add(update.word)?;
+        }
     }
     let place = step.statement.span;
     let finding = Finding {

@@ -2,8 +2,9 @@
 
 use crate::always::report_empty_promises;
 use crate::names::report_unused;
+use crate::outside::report_outside;
 use crate::promises::{report_auxiliary_alone, report_post};
-use crate::questions::Asks;
+use crate::questions::{Asks, Outside};
 use crate::relies::report_relies;
 use crate::reports::{Cause, Key, Reports, Warning};
 use crate::shared::report_shared;
@@ -45,11 +46,12 @@ pub(crate) fn clause_span(expansion: &Expansion<'_>, clause: Clause) -> Option<S
     None
 }
 
-/// Reports all warnings of an outline that was worked out. `shown` are the questions to which the answer is yes: that takes a search, so who calls
-/// says it.
+/// Reports all warnings of an outline that was worked out. `shown` are the questions to which the answer is yes, and `outside` the indices that are
+/// outside their ranges: that takes a search, so who calls says it.
 pub(crate) fn report_warnings(
     expansion: &Expansion<'_>,
     shown: &[Asks],
+    outside: &[Outside],
     reports: &mut Reports,
 ) -> Result<(), AllocError> {
     let is_unmet = shown.iter().any(|asks| *asks == Asks::PreUnmet);
@@ -63,6 +65,7 @@ pub(crate) fn report_warnings(
     report_relies(expansion, reports)?;
     report_sums(expansion, reports)?;
     report_tests(expansion, reports)?;
+    report_outside(expansion, outside, reports)?;
     report_shared(expansion, reports)?;
     report_unused(expansion, reports)
 }

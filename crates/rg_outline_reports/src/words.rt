@@ -1,7 +1,8 @@
 //! The words whose values a report gives.
 
 use crate::reports::Valued;
-use crate::values::Moment;
+use crate::show::is_member;
+use crate::values::{Moment, Values};
 use rg_outline::Expansion;
 use rg_outline_terms::{Root, bit_of};
 use std::alloc::{AllocError, Global};
@@ -13,6 +14,31 @@ pub(crate) struct Words {
     pub(crate) listed: Vec<usize>,
     /// These words as bits.
     bits: u64,
+    /// The choices among members of families by indices over words: of these words only some are shown.
+    choices: Vec<usize>,
+}
+
+/// So many times `false` as there are trees, where an outline has indices over words: the words of such choices aren't noted one by one.
+fn unseen_choices(expansion: &Expansion<'_>) -> Result<Vec<bool>, AllocError> {
+    let mut seen = Vec::new(expansion.scope.alloc);
+    if !expansion.scope.chosen.is_empty() {
+        for _ in 0..expansion.scope.forest.trees.len() {
+            seen.push(false)?;
+        }
+    }
+    Ok(seen)
+}
+
+/// Whether a tree was looked at before, where that is noted.
+fn was_seen(seen: &mut [bool], tree: usize) -> bool {
+    match seen.get_mut(tree) {
+        Some(slot) => {
+            let is_seen = *slot;
+            *slot = true;
+            is_seen
+        }
+        None => false,
+    }
 }
 
 impl Words {
@@ -22,6 +48,7 @@ impl Words {
             alloc: expansion.scope.alloc,
             listed: Vec::new(expansion.scope.alloc),
             bits: 0,
+            choices: Vec::new(expansion.scope.alloc),
         }
     }
 
@@ -35,6 +62,53 @@ impl Words {
         Ok(())
     }
 
+    /// Adds a choice among members, where it isn't there.
+    fn add_choice(&mut self, expansion: &Expansion<'_>, choice: usize) -> Result<(), AllocError> {
+        for known in &self.choices {
+            if expansion.scope.forest.is_equal(*known, choice) {
+                return Ok(());
+            }
+        }
+        self.choices.push(choice)?;
+        Ok(())
+    }
+
+    /// Adds the word that a choice among members reads in these states, and the members that change.
+    fn add_members(
+        &mut self,
+        expansion: &Expansion<'_>,
+        choice: usize,
+        moment: Moment<'_>,
+    ) -> Result<(), AllocError> {
+        let forest = &expansion.scope.forest;
+        let values = Values::of(expansion, choice, moment)?;
+        let mut tree = choice;
+        let mut is_found = false;
+        for _ in 0..forest.trees.len() {
+            let is_choice = forest.root(tree) == Root::Choice;
+            let read = if is_choice {
+                forest.operand(tree, 1)
+            } else {
+                tree
+            };
+            let Root::Word { word, .. } = forest.root(read) else {
+                break;
+            };
+            let is_read = !is_found
+                && (!is_choice || values.holds(forest, forest.operand(tree, 0)));
+            let (before, after) = moment.of(word);
+            if is_read || before != after {
+                self.add(word)?;
+            }
+            if !is_choice {
+                break;
+            }
+            is_found = is_found || is_read;
+            tree = forest.operand(tree, 2);
+        }
+        Ok(())
+    }
+
     /// Adds the words of a tree, in the order in which they stand.
     pub(crate) fn add_tree(
         &mut self,
@@ -42,16 +116,23 @@ impl Words {
         tree: usize,
     ) -> Result<(), AllocError> {
         let forest = &expansion.scope.forest;
+        let mut seen = unseen_choices(expansion)?;
         let mut open = Vec::new(expansion.scope.alloc);
         open.push(tree)?;
         for _ in 0..usize::MAX {
             let Some(tree) = open.pop() else {
                 break;
             };
+            if was_seen(&mut seen, tree) {
+                continue;
+            }
             let root = forest.root(tree);
             let reads = forest.reads(tree);
             if let Root::Word { word, .. } = root {
                 self.add(word)?;
+            } else if root == Root::Choice && is_member(expansion, tree) {
+                self.add_choice(expansion, tree)?;
+                open.push(forest.operand(forest.operand(tree, 0), 0))?;
             } else if (reads.plain | reads.primed) & !self.bits != 0 {
                 for place in (0..root.arity()).rev() {
                     open.push(forest.operand(tree, place))?;
@@ -61,10 +142,21 @@ impl Words {
         Ok(())
     }
 
-    /// The words with their values.
-    pub(crate) fn values(&self, moment: Moment<'_>) -> Result<Vec<Valued>, AllocError> {
-        let mut values = Vec::new(self.alloc);
+    /// The words with their values; of members from which an index chooses that which it chooses, and those that change.
+    pub(crate) fn values(
+        &self,
+        expansion: &Expansion<'_>,
+        moment: Moment<'_>,
+    ) -> Result<Vec<Valued>, AllocError> {
+        let mut shown = Words::new(expansion);
         for word in &self.listed {
+            shown.add(*word)?;
+        }
+        for choice in &self.choices {
+            shown.add_members(expansion, *choice, moment)?;
+        }
+        let mut values = Vec::new(self.alloc);
+        for word in &shown.listed {
             let (before, after) = moment.of(*word);
             values.push(Valued {
                 word: *word,

@@ -33,6 +33,8 @@ pub enum TokenFault {
     NumberTooLarge,
     /// White space before a prime.
     PrimeApart,
+    /// A sign of other languages: what stands for it here.
+    Foreign(&'static str),
 }
 
 /// A token that can't stand where it stands, or that a reader could take in two ways.
@@ -59,6 +61,14 @@ pub enum ShapeFault {
     ValueIsBare(&'static str),
     /// A `;` after an assertion.
     SemicolonAfterAssertion,
+    /// A `;` with no statement between it and this keyword.
+    SemicolonBeforeEnd(&'static str),
+    /// A block in braces, which stands between this keyword and `end`.
+    BlockInBraces(&'static str),
+    /// A keyword with no `end`.
+    EndMissing,
+    /// An `if` directly after an `else`, where an `end` is missing.
+    ElseIfOpen,
     /// An assertion with no `;` before it.
     SemicolonMissing,
     /// Trees or blocks within one another, one too many.
@@ -70,8 +80,8 @@ pub enum ShapeFault {
 pub enum MeaningFault {
     /// A name that nothing has; perhaps this one is meant.
     NothingNamed(Option<Span>),
-    /// A name that is no word's.
-    NoWordNamed(Span),
+    /// A name that is no word's; perhaps this one is meant.
+    NoWordNamed(Span, Option<Span>),
     /// A name that is declared as a word already, in this line.
     DeclaredAlready(usize),
     /// A name that something else has here.
@@ -87,6 +97,14 @@ pub enum MeaningFault {
     IndexBelowZero,
     /// A number has to be known here: what it is for.
     NumberWanted(&'static str),
+    /// A second index that reads words.
+    SecondIndex,
+    /// The index of an assignment that reads a word which the assignment may change.
+    IndexReadsAssigned {
+        word: usize,
+    },
+    /// An assignment to a member that an index chooses: a step would have so many assignments.
+    TooManyChosen(usize),
     /// A width that isn't 1 to 64.
     Width,
     TooManyWords(usize),

@@ -208,12 +208,16 @@ impl Parser<'_> {
         let name = self.name("the name of a part");
         let index = self.part_index();
         let heads = self.heads(Section::Part);
-        self.want(
-            Kind::Keyword(Keyword::Begin),
+        let begin = self.span();
+        self.want_opener(
+            Keyword::Begin,
+            "`begin`",
             "`begin` is wanted here, or one of `let`, `owns`, `pre`, `rely`, `guar`, `post`",
         );
+        self.after_else = None;
+        self.outdented = None;
         let body = self.block(DEEPEST);
-        self.want_end();
+        self.want_end(begin);
         PartWritten {
             name,
             index,

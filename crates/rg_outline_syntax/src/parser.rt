@@ -16,6 +16,10 @@ pub(crate) struct Parser<'a> {
     pub(crate) written: Written,
     /// The first fault. From then on the parser stands at the end of the tokens, where nothing more is read.
     pub(crate) fault: Option<Fault>,
+    /// The last `if` of the part that stands directly after an `else`.
+    pub(crate) after_else: Option<Span>,
+    /// The first keyword of the part whose `end` begins a line further to the left than its own.
+    pub(crate) outdented: Option<Span>,
     /// The items of the lists that aren't closed yet.
     pending: Vec<usize>,
 }
@@ -28,6 +32,8 @@ impl<'a> Parser<'a> {
             place: 0,
             written: Written::new(alloc),
             fault: None,
+            after_else: None,
+            outdented: None,
             pending: Vec::new(alloc),
         }
     }
@@ -45,6 +51,18 @@ impl<'a> Parser<'a> {
     /// Goes on after the next token.
     pub(crate) fn step(&mut self) {
         self.place = self.place.saturating_add(1);
+    }
+
+    /// How far from the beginning of its line a place is, where only white space stands before it there.
+    pub(crate) fn indent_of(&self, place: Span) -> Option<usize> {
+        let before = self.source.get(..place.start).unwrap_or(&[]);
+        let indent = before.iter().rev().take_while(|b| **b != b'\n').count();
+        let spaces = before
+            .iter()
+            .rev()
+            .take_while(|b| matches!(**b, b' ' | b'\t'))
+            .count();
+        if spaces == indent { Some(indent) } else { None }
     }
 
     /// From the beginning of a span to the end of the last token that was read.
@@ -88,12 +106,17 @@ impl<'a> Parser<'a> {
         self.place = self.tokens.len();
     }
 
-    /// Refuses the next token. Gives an index that stands for what isn't there.
-    pub(crate) fn refuse(&mut self, fault: ShapeFault) -> usize {
+    /// Refuses what stands at a place. Gives an index that stands for what isn't there.
+    pub(crate) fn refuse_at(&mut self, fault: ShapeFault, span: Span) -> usize {
         let kind = FaultKind::Shape(fault);
-        let span = self.span();
         self.stop(Fault { kind, span });
         0
+    }
+
+    /// Refuses the next token. Gives an index that stands for what isn't there.
+    pub(crate) fn refuse(&mut self, fault: ShapeFault) -> usize {
+        let span = self.span();
+        self.refuse_at(fault, span)
     }
 
     /// Refuses the outline where memory was refused for what had to be stored.

@@ -81,6 +81,36 @@ static SYMBOLS: [(&str, Symbol); 20] = [
     (">", Symbol::Infix(Compare(Comparison::Greater))),
 ];
 
+/// Signs of other languages that begin like those here, with what stands for them; of two that begin alike the longer stands first.
+static FOREIGN: [(&str, &str); 14] = [
+    ("//", "a comment begins with `#`"),
+    ("/*", "a comment begins with `#`"),
+    ("&&", "write `and`"),
+    ("||", "write `or`"),
+    ("==", "write `=`"),
+    ("+=", "write `x := x + ..`"),
+    ("-=", "write `x := x - ..`"),
+    ("++", "write `x := x + 1`"),
+    ("--", "write `x := x - 1`"),
+    ("<=>", "write `iff`"),
+    ("=>", "write `implies`"),
+    ("->", "write `implies`"),
+    ("<<", "write `shl`"),
+    (">>", "write `shr`"),
+];
+
+/// Signs of other languages of which no sign here begins with the first byte, but `!=`.
+static FOREIGN_BYTES: [(&str, &str); 8] = [
+    ("!", "write `not`"),
+    ("&", "write `band`"),
+    ("|", "write `bor`"),
+    ("^", "write `bxor`"),
+    ("~", "write `inv`"),
+    ("%", "write `band` with a mask, or `mod` between numbers"),
+    ("*", "write a sum, or `shl`"),
+    ("/", "write `shr`"),
+];
+
 /// What stands at the front: its length, and its kind or what is wrong with it.
 pub(crate) type Scanned = (usize, Result<Kind, TokenFault>);
 
@@ -120,13 +150,36 @@ fn word_at(bytes: &[u8]) -> Scanned {
     (length, Ok(kind))
 }
 
-fn symbol_at(table: &[(&str, Symbol)], bytes: &[u8]) -> Scanned {
+fn symbol_at(table: &[(&str, Symbol)], bytes: &[u8]) -> Option<Scanned> {
     for (spelling, symbol) in table {
         if bytes.starts_with(spelling.as_bytes()) {
-            return (spelling.len(), Ok(Kind::Symbol(*symbol)));
+            return Some((spelling.len(), Ok(Kind::Symbol(*symbol))));
         }
     }
-    (1, Err(TokenFault::NoToken))
+    None
+}
+
+/// A sign of another language that stands at the front.
+fn foreign_at(table: &[(&str, &'static str)], bytes: &[u8]) -> Option<Scanned> {
+    for (spelling, instead) in table {
+        if bytes.starts_with(spelling.as_bytes()) {
+            return Some((spelling.len(), Err(TokenFault::Foreign(*instead))));
+        }
+    }
+    None
+}
+
+fn sign_at(bytes: &[u8]) -> Scanned {
+    if let Some(foreign) = foreign_at(&FOREIGN, bytes) {
+        return foreign;
+    }
+    if let Some(symbol) = symbol_at(&SYMBOLS, bytes) {
+        return symbol;
+    }
+    match foreign_at(&FOREIGN_BYTES, bytes) {
+        Some(foreign) => foreign,
+        None => (1, Err(TokenFault::NoToken)),
+    }
 }
 
 /// The value of a digit in this base, if it is one.
@@ -189,6 +242,6 @@ pub(crate) fn scan(bytes: &[u8]) -> Scanned {
     } else if first.is_ascii_digit() {
         number_at(bytes)
     } else {
-        symbol_at(&SYMBOLS, bytes)
+        sign_at(bytes)
     }
 }

@@ -49,6 +49,7 @@ impl TokenFault {
             Self::MisplacedUnderscore => "a `_` in a number stands between two digits",
             Self::NumberTooLarge => "a number is below 2 to the power of 64",
             Self::PrimeApart => "a prime stands directly behind what it primes",
+            Self::Foreign(_) => "{} is no sign here: {}",
         }
     }
 }
@@ -73,6 +74,18 @@ impl ShapeFault {
             Self::SemicolonAfterAssertion => {
                 "the `;` stands directly behind the statement, before the assertion"
             }
+            Self::SemicolonBeforeEnd(_) => {
+                "leave this `;` out: it stands between two statements, and none follows before {}"
+            }
+            Self::BlockInBraces(_) => {
+                "a block stands between {} and `end`; braces are for assertions"
+            }
+            Self::EndMissing => {
+                "this {} has no `end`: each `begin`, `if`, `while`, `for`, `atomic` and `await .. do` has one of its own"
+            }
+            Self::ElseIfOpen => {
+                "an `end` is missing: this `if` after `else` has one of its own, before that of the `if` around it"
+            }
             Self::SemicolonMissing => {
                 "`end` is wanted here; or a `;` is missing behind the statement before the assertion"
             }
@@ -85,8 +98,9 @@ impl MeaningFault {
     fn template(self) -> &'static str {
         match self {
             Self::NothingNamed(None) => "nothing is named {}",
-            Self::NothingNamed(Some(_)) => "nothing is named {}; {} is",
-            Self::NoWordNamed(_) => "no word is named {}",
+            Self::NothingNamed(Some(_)) => "nothing is named {}: do you mean {}?",
+            Self::NoWordNamed(_, None) => "no word is named {}",
+            Self::NoWordNamed(_, Some(_)) => "no word is named {}: do you mean {}?",
             Self::DeclaredAlready(_) => "{} is declared already, at line {}",
             Self::NamedAlready => "{} is named already",
             Self::ParameterTwice => "{} is a parameter twice",
@@ -121,6 +135,12 @@ impl MeaningFault {
             Self::TooManyWords(_) => "these are {} words; 64 is the most",
             Self::TooManyParts(_) => "these are {} parts; 32 is the most",
             Self::TooManyAssignments => "a step has 16 assignments at most",
+            Self::TooManyChosen(_) =>
+                "this makes {} assignments in one step, one for each member that the index can choose, and 16 is the most: divide the family by a further index, as `f[0..1][0..15]`, and choose that by an `if`",
+            Self::SecondIndex =>
+                "one index of a family may read words: give this one as a number, and choose it by an `if`",
+            Self::IndexReadsAssigned { .. } =>
+                "this index reads {}, which the assignment may change: assign the index to another word before, and write that word here",
             Self::Modulus(_) => "`mod {}`: the second number must be above 0",
             Self::ShiftCount(_) => "the shift count is {}; it is 0 to 63",
             Self::ModulusOfWords => "`mod` is for numbers alone, without words",
@@ -160,7 +180,8 @@ impl MeaningFault {
     fn inserts(self, found: Insert) -> Inserts {
         match self {
             Self::NothingNamed(Some(near)) => filled(&[found, Quoted(near)]),
-            Self::NoWordNamed(name)
+            Self::NoWordNamed(name, Some(near)) => filled(&[Quoted(name), Quoted(near)]),
+            Self::NoWordNamed(name, None)
             | Self::NoIndex(name)
             | Self::NumberPrimed(name)
             | Self::IsValue(name)
@@ -176,7 +197,7 @@ impl MeaningFault {
                 let (first, last) = (Number(first), Number(last));
                 filled(&[Number(index), Bindings, Quoted(name), first, last])
             }
-            Self::TooManyWords(count) | Self::TooManyParts(count) => {
+            Self::TooManyWords(count) | Self::TooManyParts(count) | Self::TooManyChosen(count) => {
                 filled(&[Number(count as i128)])
             }
             Self::Modulus(number) | Self::ShiftCount(number) | Self::Negative(number) => {
@@ -199,6 +220,7 @@ impl MeaningFault {
             Self::MemberTwice(word) => filled(&[Member(word)]),
             Self::FixedOwned { word }
             | Self::FixedAssigned { word }
+            | Self::IndexReadsAssigned { word }
             | Self::ReadsAuxiliary { word } => filled(&[Word(word)]),
             Self::OwnedAlready { word, part } => filled(&[Word(word), Part(part)]),
             Self::AssignsOwned { part, word, owner } => {
@@ -222,12 +244,15 @@ fn filled(given: &[Insert]) -> Inserts {
 pub(crate) fn inserts(fault: Fault) -> Inserts {
     let found = Quoted(fault.span);
     match fault.kind {
+        FaultKind::Token(TokenFault::Foreign(instead)) => filled(&[found, Text(instead)]),
         FaultKind::Token(_) => filled(&[Byte(fault.span)]),
         FaultKind::Shape(
             ShapeFault::Wanted(text)
             | ShapeFault::NameWanted(text)
             | ShapeFault::KeywordIsNoName(text)
-            | ShapeFault::ValueIsBare(text),
+            | ShapeFault::ValueIsBare(text)
+            | ShapeFault::SemicolonBeforeEnd(text)
+            | ShapeFault::BlockInBraces(text),
         ) => filled(&[Text(text), found]),
         FaultKind::Shape(ShapeFault::ImplicationsChained { first }) => {
             filled(&[Quoted(first), found])

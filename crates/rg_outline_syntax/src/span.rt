@@ -16,6 +16,14 @@ pub struct Position {
     pub column: usize,
 }
 
+/// The byte order mark, which may stand before an outline.
+static MARK: [u8; 3] = [0xEF, 0xBB, 0xBF];
+
+/// How many bytes of a source are a byte order mark before it.
+pub(crate) fn mark_len(source: &[u8]) -> usize {
+    if source.starts_with(&MARK) { 3 } else { 0 }
+}
+
 impl Span {
     /// No bytes, of no place.
     pub const NOWHERE: Span = Span { start: 0, end: 0 };
@@ -36,6 +44,7 @@ impl Span {
     /// Where it begins.
     pub fn position(self, source: &[u8]) -> Position {
         let before = source.get(..self.start).unwrap_or(source);
+        let before = before.get(mark_len(before)..).unwrap_or(before);
         let column = before.iter().rev().take_while(|b| **b != b'\n').count();
         Position {
             line: before

@@ -3,7 +3,7 @@
 use crate::fault::{Fault, TokenFault};
 use crate::kind::{Kind, Symbol};
 use crate::scan::{gap_len, scan};
-use crate::span::Span;
+use crate::span::{Span, mark_len};
 use rg_words::limits::MOST_TEXT_BYTES;
 use std::alloc::Global;
 
@@ -59,7 +59,7 @@ impl Tokens {
 
 /// Adds the tokens of a source to these.
 fn cut(tokens: &mut Vec<Token>, source: &[u8]) -> Result<(), Fault> {
-    let mut end: usize = 0;
+    let mut end = mark_len(source);
     for _ in 0..source.len() {
         let gap = gap_len(source.get(end..).unwrap_or(&[]));
         let start = end.saturating_add(gap);

@@ -4,7 +4,7 @@ use crate::fold::compares;
 use crate::forest::{Made, Root};
 use crate::scope::Scope;
 use crate::uses::Use;
-use rg_outline_syntax::{Comparison, Expression, ExpressionKind, MeaningFault, Span};
+use rg_outline_syntax::{Comparison, Expression, ExpressionKind, Junction, MeaningFault, Span};
 
 /// How deep what is worked out may stand within one another.
 pub(crate) const DEEPEST: u32 = 1_000;
@@ -108,12 +108,17 @@ impl Scope<'_> {
             }
             ExpressionKind::Choice { test, yes, no } => {
                 let test = self.sorted(test, Sort::Formula, depth);
-                let [first, second] = self.both(yes, no, Sort::Value, depth);
+                let first = self.under(test, yes, Sort::Value, depth);
+                let made = self.forest.denied(test, span);
+                let fails = self.made(made);
+                let second = self.under(fails, no, Sort::Value, depth);
                 self.forest.chosen(test, first, second, span)
             }
             ExpressionKind::Join(junction, left, right) => {
-                let pair = self.both(left, right, Sort::Formula, depth);
-                self.forest.joined(junction, pair, span)
+                let first = self.sorted(left, Sort::Formula, depth);
+                let guard = self.guard_of(junction, first, span);
+                let second = self.under(guard, right, Sort::Formula, depth);
+                self.forest.joined(junction, [first, second], span)
             }
             ExpressionKind::Imply(conditional, left, right) => {
                 let pair = self.both(left, right, Sort::Formula, depth);
@@ -129,6 +134,26 @@ impl Scope<'_> {
             }
             _ => self.forest.falsity(span),
         }
+    }
+
+    /// What holds where the right side of `and` or `or` matters, by the left one.
+    fn guard_of(&mut self, junction: Junction, left: usize, span: Span) -> usize {
+        if junction == Junction::And {
+            return left;
+        }
+        let made = self.forest.denied(left, span);
+        self.made(made)
+    }
+
+    /// What an expression stands for, which has to be a formula or a value, where this holds besides.
+    #[cycle(elaborate)]
+    fn under(&mut self, guard: usize, index: usize, sort: Sort, depth: u32) -> usize {
+        let count = self.guards.len();
+        let stored = self.guards.push(guard);
+        self.want_stored(stored.is_ok());
+        let tree = self.sorted(index, sort, depth);
+        self.guards.truncate(count);
+        tree
     }
 
     /// What two expressions stand for, which both have to be formulas or values.

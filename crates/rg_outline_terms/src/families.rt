@@ -21,7 +21,7 @@ pub struct Family {
 }
 
 /// How many numbers there are from one to another.
-fn size_of(range: (i128, i128)) -> usize {
+pub(crate) fn size_of(range: (i128, i128)) -> usize {
     let size = range.1.saturating_sub(range.0).saturating_add(1);
     usize::try_from(size).unwrap_or(0)
 }
@@ -56,6 +56,12 @@ fn push_member(
 }
 
 impl Scope<'_> {
+    /// The range of a family at a place of its indices: the first and the last number.
+    pub(crate) fn range_at(&self, family: Family, place: usize) -> (i128, i128) {
+        let place = family.ranges.start.saturating_add(place);
+        self.ranges.get(place).copied().unwrap_or((0, 0))
+    }
+
     /// Of these members of a family, the first one and their count, those with the number as the index at a place.
     pub(crate) fn narrowed(
         &mut self,
@@ -65,8 +71,7 @@ impl Scope<'_> {
         index: i128,
         span: Span,
     ) -> (usize, usize) {
-        let place = family.ranges.start.saturating_add(place);
-        let range = self.ranges.get(place).copied().unwrap_or((0, 0));
+        let range = self.range_at(family, place);
         if index < range.0 || index > range.1 {
             self.refuse(MeaningFault::OutsideFamily(family.name, index, range), span);
         }

@@ -1,7 +1,9 @@
 //! Formulas and values over plain words, with their places in the outline.
 
 use indexmap::IndexSet;
-use rg_outline_syntax::{Comparison, Conditional, Fault, Junction, MeaningFault, Operator, Span};
+use rg_outline_syntax::{
+    Comparison, Conditional, Fault, Junction, List, MeaningFault, Operator, Span,
+};
 use std::alloc::Global;
 
 /// The most trees of an outline.
@@ -39,6 +41,8 @@ pub struct Tree {
     pub span: Span,
     /// The use of a name for which the tree stands, if it stands for one.
     pub name: Option<Span>,
+    /// The trees with which that name is used: a list of `arguments`.
+    pub arguments: List,
 }
 
 /// A tree that was made: its index, or why there is none.
@@ -59,6 +63,7 @@ pub struct Reads {
 #[derive(Drop)]
 pub struct Forest {
     pub trees: Vec<Tree>,
+    pub(crate) arguments: Vec<usize>,
     terms: IndexSet<Term>,
     reads: Vec<Reads>,
     /// For each tree the one above it in which all words are primed, plus one; 0 where none was made.
@@ -97,6 +102,7 @@ impl Forest {
     pub fn new(alloc: Global) -> Forest {
         Forest {
             trees: Vec::new(alloc),
+            arguments: Vec::new(alloc),
             terms: IndexSet::new(alloc),
             reads: Vec::new(alloc),
             primed: Vec::new(alloc),
@@ -110,6 +116,7 @@ impl Forest {
             operands: [0, 0, 0],
             span: Span::NOWHERE,
             name: None,
+            arguments: List::EMPTY,
         })
     }
 
@@ -138,6 +145,12 @@ impl Forest {
             Some(kept) => kept.operands.get(..arity).unwrap_or(&[]),
             None => &[],
         }
+    }
+
+    /// The trees with which the name is used for which a tree stands.
+    pub fn arguments(&self, tree: usize) -> &[usize] {
+        let list = self.tree(tree).arguments;
+        self.arguments.get(list.start..list.end).unwrap_or(&[])
     }
 
     /// Where a tree stands.
@@ -220,11 +233,12 @@ impl Forest {
             operands,
             span,
             name: None,
+            arguments: List::EMPTY,
         })
     }
 
     /// Adds a tree without operands.
-    pub(crate) fn leaf(&mut self, root: Root, span: Span) -> Made {
+    pub fn leaf(&mut self, root: Root, span: Span) -> Made {
         self.add(root, [0, 0, 0], span)
     }
 
@@ -238,10 +252,20 @@ impl Forest {
         self.add(root, [first, second, 0], span)
     }
 
-    /// The tree at another place, and with the use of a name for which it stands.
-    pub(crate) fn placed(&mut self, tree: usize, span: Span, name: Option<Span>) -> Made {
+    /// The tree at another place, with the name for which it stands.
+    pub(crate) fn placed(&mut self, tree: usize, span: Span) -> Made {
         let kept = self.tree(tree);
-        self.push(Tree { span, name, ..kept })
+        self.push(Tree { span, ..kept })
+    }
+
+    /// The tree with a name for which it stands, as it is used with these arguments.
+    pub(crate) fn named(&mut self, tree: usize, name: Option<Span>, arguments: List) -> Made {
+        let kept = self.tree(tree);
+        self.push(Tree {
+            name,
+            arguments,
+            ..kept
+        })
     }
 }
 

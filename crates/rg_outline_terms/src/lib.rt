@@ -2,6 +2,7 @@
 //! outline's names, families of words, quantifiers and primes are worked out into them.
 #![tactic(auto)]
 
+mod chosen;
 mod elaborate;
 mod families;
 mod fold;
@@ -14,6 +15,7 @@ mod uses;
 mod widths;
 mod words;
 
+pub use chosen::{Chosen, Target};
 pub use forest::{Forest, Made, Reads, Root, Term, Tree, bit_of};
 pub use names::{Meaning, Named};
 pub use scope::Scope;

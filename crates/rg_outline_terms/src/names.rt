@@ -30,10 +30,48 @@ impl Named {
     }
 }
 
-/// Whether one of two names begins with the other, or they differ in case alone.
+/// How many bytes at the front of two names agree.
+fn agreeing(known: &[u8], text: &[u8]) -> usize {
+    let mut count: usize = 0;
+    for (place, (byte, other)) in known.iter().zip(text).enumerate() {
+        if *byte != *other {
+            break;
+        }
+        count = place.saturating_add(1);
+    }
+    count
+}
+
+/// The bytes after the first so many.
+fn rest_of(bytes: &[u8], count: usize) -> &[u8] {
+    bytes.get(count..).unwrap_or(&[])
+}
+
+/// Whether two names begin with two bytes, exchanged, and agree after them.
+fn are_exchanged(known: &[u8], text: &[u8]) -> bool {
+    match (known, text) {
+        ([first, second, ..], [third, fourth, ..]) => {
+            *first == *fourth && *second == *third && rest_of(known, 2) == rest_of(text, 2)
+        }
+        _ => false,
+    }
+}
+
+/// Whether two names differ by one letter that is left out, added or another one, or by two neighbours that are exchanged.
+fn is_one_edit(known: &[u8], text: &[u8]) -> bool {
+    let count = agreeing(known, text);
+    let (known, text) = (rest_of(known, count), rest_of(text, count));
+    let (shorter, other) = (rest_of(known, 1), rest_of(text, 1));
+    shorter == other || shorter == text || known == other || are_exchanged(known, text)
+}
+
+/// Whether one of two names begins with the other, they differ in case alone, or in one place.
 fn is_near(known: &[u8], text: &[u8]) -> bool {
     known.eq_ignore_ascii_case(text)
-        || (known.len() > 2 && (known.starts_with(text) || text.starts_with(known)))
+        || (known.len() > 2
+            && (known.starts_with(text)
+                || text.starts_with(known)
+                || (text.len() > 1 && is_one_edit(known, text))))
 }
 
 impl Scope<'_> {

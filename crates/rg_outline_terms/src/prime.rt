@@ -1,6 +1,6 @@
 //! Trees in the next state.
 
-use crate::forest::{Forest, Made, Root};
+use crate::forest::{Forest, Made, Root, bit_of};
 use rg_outline_syntax::{Fault, MeaningFault, Span};
 use std::alloc::Global;
 
@@ -9,6 +9,12 @@ impl Forest {
     fn primed_of(&self, tree: usize) -> Option<usize> {
         let above = self.primed.get(tree).copied();
         above.and_then(|index| index.checked_sub(1))
+    }
+
+    /// The tree below one that was made by priming all its words.
+    pub fn unprimed(&self, tree: usize) -> Option<usize> {
+        let above = tree.saturating_add(1);
+        self.primed.iter().position(|primed| *primed == above)
     }
 
     /// The first operand of a tree that wasn't primed yet.
@@ -44,7 +50,7 @@ impl Forest {
             *slot = self.primed_of(*operand).unwrap_or(*operand);
         }
         let plain = self.add(root, operands, kept.span)?;
-        let index = self.placed(plain, kept.span, kept.name)?;
+        let index = self.named(plain, kept.name, kept.arguments)?;
         if let Some(slot) = self.primed.get_mut(tree) {
             *slot = index.saturating_add(1);
         }
@@ -68,6 +74,67 @@ impl Forest {
             }
         }
         Ok(self.primed_of(tree).unwrap_or(tree))
+    }
+
+    /// For each tree up to this one, whether it stands in this one.
+    fn inner_trees(&self, alloc: Global, tree: usize) -> Result<Vec<bool>, Fault> {
+        let mut is_inner = Vec::new(alloc);
+        for _ in 0..tree {
+            is_inner.push(false)?;
+        }
+        is_inner.push(true)?;
+        for index in (0..is_inner.len()).rev() {
+            if is_inner.get(index).copied().unwrap_or(false) {
+                for operand in self.operands(index) {
+                    if let Some(slot) = is_inner.get_mut(*operand) {
+                        *slot = true;
+                    }
+                }
+            }
+        }
+        Ok(is_inner)
+    }
+
+    /// The tree with a word's places replaced, for each tree within it the one that stands for it.
+    fn replaced_root(
+        &mut self,
+        tree: usize,
+        word: usize,
+        value: usize,
+        replaced: &[usize],
+    ) -> Made {
+        let root = self.root(tree);
+        if root
+            == (Root::Word {
+                word,
+                is_primed: false,
+            })
+        {
+            return Ok(value);
+        }
+        if self.reads(tree).plain & bit_of(word) == 0 {
+            return Ok(tree);
+        }
+        let kept = self.tree(tree);
+        let mut operands = [0; 3];
+        for (slot, operand) in operands.iter_mut().zip(&kept.operands) {
+            *slot = replaced.get(*operand).copied().unwrap_or(*operand);
+        }
+        self.add(root, operands, kept.span)
+    }
+
+    /// The tree with a value in place of a word of the first state.
+    pub fn replaced(&mut self, alloc: Global, tree: usize, word: usize, value: usize) -> Made {
+        let is_inner = self.inner_trees(alloc, tree)?;
+        let mut replaced = Vec::new(alloc);
+        for index in 0..is_inner.len() {
+            let mut made = index;
+            if is_inner.get(index).copied().unwrap_or(false) {
+                made = self.replaced_root(index, word, value, &replaced)?;
+            }
+            replaced.push(made)?;
+        }
+        Ok(replaced.get(tree).copied().unwrap_or(tree))
     }
 
     /// The first primed word of a tree.

@@ -1,5 +1,6 @@
 //! What is known of an outline while it is worked out; and the first fault, which no call gives back.
 
+use crate::chosen::Chosen;
 use crate::forest::Made;
 use crate::ranges::Filling;
 use crate::{Forest, Named, Root, Word};
@@ -32,6 +33,10 @@ pub struct Scope<'a> {
     pub uses: Vec<Span>,
     /// The arguments of names that are being worked out.
     pub(crate) passed: Vec<usize>,
+    /// What holds where something is worked out, by the tests of the choices, and the left sides of `and` and `or`, within which it stands.
+    pub(crate) guards: Vec<usize>,
+    /// The indices over words, in the order in which they were worked out.
+    pub chosen: Vec<Chosen>,
     steps_left: u64,
     /// The first fault. From then on nothing more is worked out, and what was known there stays known.
     fault: Option<Fault>,
@@ -54,6 +59,8 @@ impl<'a> Scope<'a> {
             fillings: Vec::new(alloc),
             uses: Vec::new(alloc),
             passed: Vec::new(alloc),
+            guards: Vec::new(alloc),
+            chosen: Vec::new(alloc),
             steps_left: MOST_STEPS,
             fault: None,
         }

@@ -1,6 +1,7 @@
 //! Names as they are used: the trees for which they stand.
 
 use crate::Meaning;
+use crate::chosen::Chosen;
 use crate::scope::Scope;
 use rg_outline_syntax::{Let, List, MeaningFault, Span};
 
@@ -31,10 +32,22 @@ impl Scope<'_> {
                     self.refuse(MeaningFault::IsWord(used.name), used.span);
                     return 0;
                 }
-                let word = self.member(family, used.listed, used.span, depth);
-                self.word_tree(word, used.is_primed, used.span)
+                let (word, chosen) = self.selected(family, used.listed, used.span, depth);
+                match chosen {
+                    None => self.word_tree(word, used.is_primed, used.span),
+                    Some(chosen) => self.chosen_tree(used, chosen),
+                }
             }
         }
+    }
+
+    /// The tree of the member that is chosen; primed, the index and the members are those of the next state.
+    fn chosen_tree(&mut self, used: Use, chosen: Chosen) -> usize {
+        let tree = self.chosen_value(chosen, used.span);
+        if used.is_primed {
+            return self.in_next_state(tree);
+        }
+        tree
     }
 
     /// The tree of a parameter or an index.
@@ -49,14 +62,14 @@ impl Scope<'_> {
             return self.in_next_state(tree);
         }
         if self.forest.root(tree).arity() == 0 {
-            return self.placed(tree, used.span, None);
+            return self.placed(tree, used.span);
         }
         tree
     }
 
-    /// The tree at another place, with a name or without one.
-    fn placed(&mut self, tree: usize, span: Span, name: Option<Span>) -> usize {
-        let made = self.forest.placed(tree, span, name);
+    /// The tree at another place.
+    fn placed(&mut self, tree: usize, span: Span) -> usize {
+        let made = self.forest.placed(tree, span);
         self.made(made)
     }
 
@@ -83,6 +96,7 @@ impl Scope<'_> {
             let stored = self.passed.push(tree);
             self.want_stored(stored.is_ok());
         }
+        let arguments = self.keep_arguments(first);
         let mark = self.names.len();
         self.pass(used, called, first);
         let tree = self.elaborate(called.body, depth);
@@ -95,7 +109,19 @@ impl Scope<'_> {
             self.uses.pop();
         }
         self.forget(mark);
-        self.placed_use(used, tree)
+        self.placed_use(used, tree, arguments)
+    }
+
+    /// Keeps the arguments that were passed from a place on, for the tree of their use.
+    fn keep_arguments(&mut self, first: usize) -> List {
+        let start = self.forest.arguments.len();
+        for place in first..self.passed.len() {
+            let tree = self.passed.get(place).copied().unwrap_or(0);
+            let stored = self.forest.arguments.push(tree);
+            self.want_stored(stored.is_ok());
+        }
+        let end = self.forest.arguments.len();
+        List { start, end }
     }
 
     /// Makes the parameters of a name known as the arguments that were passed from a place on, and notes the use where it has any.
@@ -113,16 +139,14 @@ impl Scope<'_> {
         }
     }
 
-    /// The tree of a use, with the use's name where it is a formula.
-    fn placed_use(&mut self, used: Use, tree: usize) -> usize {
+    /// The tree of a use, with the use's name. A value that is no operation has the use's place, all else its own.
+    fn placed_use(&mut self, used: Use, tree: usize, arguments: List) -> usize {
         let root = self.forest.root(tree);
-        if root.is_formula() {
-            let span = self.forest.span(tree);
-            return self.placed(tree, span, Some(used.span));
+        let mut placed = tree;
+        if root.arity() == 0 && !root.is_formula() {
+            placed = self.placed(tree, used.span);
         }
-        if root.arity() == 0 {
-            return self.placed(tree, used.span, None);
-        }
-        tree
+        let made = self.forest.named(placed, Some(used.span), arguments);
+        self.made(made)
     }
 }

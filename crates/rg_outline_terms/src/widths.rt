@@ -44,7 +44,7 @@ fn push_leaves(
 }
 
 /// Whether a number fits into so many bits.
-fn fits(number: i128, width: u32) -> bool {
+pub(crate) fn fits(number: i128, width: u32) -> bool {
     number.checked_shr(width).is_none_or(|rest| rest == 0)
 }
 
@@ -65,6 +65,19 @@ impl Scope<'_> {
             self.stop(fault);
         }
         self.refuse_leaves(&leaves, span);
+    }
+
+    /// The first word of an index, with its width. Refuses an index without words, and one whose words and numbers aren't of one width.
+    pub(crate) fn width_of_index(&mut self, index: usize, span: Span) -> (usize, u32) {
+        let mut leaves = Vec::new(self.alloc);
+        let mut open = Vec::new(self.alloc);
+        let stored = open.push(index);
+        self.want_stored(stored.is_ok());
+        if let Err(fault) = push_leaves(&self.forest, &mut leaves, &mut open, span) {
+            self.stop(fault);
+        }
+        self.refuse_leaves(&leaves, span);
+        self.first_word(&leaves).unwrap_or((0, 0))
     }
 
     /// Refuses words and numbers that aren't of the width of the first word among them.

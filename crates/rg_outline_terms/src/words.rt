@@ -1,6 +1,7 @@
 //! Words and lists of words, and that they keep their values.
 
-use crate::elaborate::DEEPEST;
+use crate::chosen::{Chosen, Target};
+use crate::elaborate::{DEEPEST, Sort};
 use crate::families::Family;
 use crate::scope::Scope;
 use crate::{Meaning, Root};
@@ -26,25 +27,38 @@ impl Scope<'_> {
         self.listed_words(words, list, DEEPEST);
     }
 
-    /// The word that an assignment writes.
-    pub fn word_of(&mut self, index: usize) -> usize {
+    /// What an assignment writes: a word, or of several members of a family the one that a value chooses.
+    pub fn target_of(&mut self, index: usize) -> Target {
         let Expression { kind, span } = self.expression(index);
         let ExpressionKind::Name { name, listed, .. } = kind else {
-            return self.no_word(span, span);
+            return Target::Word(self.no_word(span, span));
         };
         match self.find(name).map(|named| named.meaning) {
-            Some(Meaning::Family(family)) => self.member(family, listed, span, DEEPEST),
+            Some(Meaning::Family(family)) => self.target_in(family, listed, span),
             Some(Meaning::Tree(tree)) => match self.forest.root(tree) {
-                Root::Word { word, .. } => word,
-                _ => self.no_word(name, span),
+                Root::Word { word, .. } => Target::Word(word),
+                _ => Target::Word(self.no_word(name, span)),
             },
-            _ => self.no_word(name, span),
+            _ => Target::Word(self.no_word(name, span)),
         }
+    }
+
+    /// What an assignment to a member of a family writes. The index speaks of one state.
+    fn target_in(&mut self, family: Family, listed: List, span: Span) -> Target {
+        let (word, chosen) = self.selected(family, listed, span, DEEPEST);
+        let Some(chosen) = chosen else {
+            return Target::Word(word);
+        };
+        if let Some(primed) = self.forest.first_primed(chosen.index) {
+            self.refuse(MeaningFault::PrimeHere, primed);
+        }
+        Target::Chosen(chosen)
     }
 
     /// Refuses a name that is no word's; any word stands for it.
     fn no_word(&mut self, name: Span, span: Span) -> usize {
-        self.refuse(MeaningFault::NoWordNamed(name), span);
+        let near = self.near(name);
+        self.refuse(MeaningFault::NoWordNamed(name, near), span);
         0
     }
 
@@ -68,11 +82,34 @@ impl Scope<'_> {
         }
     }
 
-    /// The member of a family at these indices.
+    /// The member of a family at these indices; or, where a value over words is one of them, the members from which it chooses.
     #[cycle(elaborate)]
-    pub(crate) fn member(&mut self, family: Family, listed: List, span: Span, depth: u32) -> usize {
+    pub(crate) fn selected(
+        &mut self,
+        family: Family,
+        listed: List,
+        span: Span,
+        depth: u32,
+    ) -> (usize, Option<Chosen>) {
         self.refuse_count(family, listed.len(), span);
-        self.members(family, listed, depth).0
+        let mut members = family.words;
+        let mut chosen = None;
+        for (place, item) in (listed.start..listed.end).enumerate() {
+            let index = self.written.listed.get(item).copied().unwrap_or(0);
+            let tree = self.sorted(index, Sort::Value, depth);
+            let span = self.expression(index).span;
+            if let Some(number) = self.forest.number(tree) {
+                members = self.narrowed(family, place, members, number, span);
+            } else {
+                if chosen.is_some() {
+                    self.refuse(MeaningFault::SecondIndex, span);
+                }
+                let range = self.range_at(family, place);
+                members = self.narrowed(family, place, members, range.0, span);
+                chosen = Some(Chosen::among(tree, span, range, members.1));
+            }
+        }
+        (members.0, self.noted(chosen, members.0))
     }
 
     /// The first member of a family at these first indices, and how many there are.

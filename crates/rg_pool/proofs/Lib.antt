@@ -1,3 +1,4 @@
 pub mod DealSteps
 pub mod EmptySteps
 pub mod VerdictSteps
+pub mod PieceSteps

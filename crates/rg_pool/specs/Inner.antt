@@ -3,3 +3,4 @@ pub mod Deals
 pub mod Empties
 pub mod PieceAnswers
 pub mod Verdicts
+pub mod PieceSections

@@ -1,2 +1,2 @@
-pub mod Parts
+pub mod ProofPieces
 pub mod Inner

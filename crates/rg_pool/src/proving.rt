@@ -7,7 +7,6 @@ ghost use Rattle.rg_tree.specs.RuleConditions.{AllConditionsHold};
 ghost use Rattle.rg_hints.specs.Placed.{text_of, AreFrom, ArePlaced};
 ghost use Rattle.rg_hints.specs.Proved.{AllProvedFrom, AreProved, IsFirstRefusal, IsProofsRefusal};
 ghost use Rattle.rg_pool.specs.Inner.Verdicts.{IsVerdictAt, AreVerdicts};
-ghost use Rattle.rg_pool.specs.Parts.{ArePartProved, IsPartRefusal};
 
 use crate::dealing::deal;
 use crate::pieces::{Unreported, check_all, ran_out};
@@ -174,7 +173,7 @@ fn any_ran_out(known: &[Option<Result<(), Refusal>>]) -> bool {
 }
 
 /// Whether each of these conditions, of so many in all, is proved by its section, or without one, in so many threads.
-fn prove_each_all<R: Threads + Wait + Sync>(
+pub(crate) fn prove_each_all<R: Threads + Wait + Sync>(
     checker: &InThreads<'_, R>,
     alloc: Global,
     count: usize,
@@ -203,40 +202,11 @@ fn prove_each_all<R: Threads + Wait + Sync>(
     settle(checker, alloc, &part, &known)
 }
 
-/// Whether a proofs file for `count` conditions proves these, which stand after so many others: condition by condition, in
-/// at most so many threads; each takes the first that is left, and checks its section as `check_all` does.
+/// Whether a proofs file proves these conditions, which count from 1: the answer of `rg_hints::prove`,
+/// found condition by condition, in at most so many threads; each takes the first that is left, and checks its section as `check_all` does.
 ///
 /// With 0 or 1 threads all is done in the thread that asks. A thread that can't be had for conditions costs time alone; one
 /// that can't be had for a piece of a section is refused as `check_all` reports it. Once a condition is refused no other is begun.
-///
-/// # Errors
-///
-/// First the faults of the whole file that `rg_hints::proof_sections` tells; then the first fault of these conditions, in
-/// their order, as `rg_hints::prove_condition` reports it. `Memory` where memory is refused in any thread, or a piece of a section has no
-/// thread; all threads are joined then too.
-pub fn prove_part<R: Threads + Wait + Sync>(
-    checker: &InThreads<'_, R>,
-    alloc: Global,
-    count: usize,
-    before: usize,
-    conditions: &[Condition],
-    proofs: &[u8],
-) -> Result<(), Refusal>
-    requires { before + length conditions.now ≤ count }
-    ensures proved { OnOk result (ArePartProved count before (map condition_tree conditions.now) proofs.now) }
-    ensures holds { OnOk result (AllConditionsHold (map condition_tree conditions.now)) }
-    ensures refused { IfErr result (IsPartRefusal count before (map condition_tree conditions.now) proofs.now) }
-    ensures accepts { ArePartProved count before (map condition_tree conditions.now) proofs.now → IfErr result (λ e. e ≡ no_memory) }
-{
-    let sections = match proof_sections(alloc, proofs, count) {
-        Ok(sections) => sections,
-        Err(refusal) => return Err(refusal),
-    };
-    prove_each_all(checker, alloc, count, before, conditions, &sections)
-}
-
-/// Whether a proofs file proves these conditions, which count from 1: the answer of `rg_hints::prove`, found as by
-/// `prove_part`.
 ///
 /// # Errors
 ///
@@ -257,8 +227,12 @@ pub fn prove_all<R: Threads + Wait + Sync>(
     if threads < 2 {
         return prove(alloc, conditions, proofs);
     }
+    let sections = match proof_sections(alloc, proofs, conditions.len()) {
+        Ok(sections) => sections,
+        Err(refusal) => return Err(refusal),
+    };
     let checker = InThreads { rt, threads };
-    prove_part(&checker, alloc, conditions.len(), 0, conditions, proofs)
+    prove_each_all(&checker, alloc, conditions.len(), 0, conditions, &sections)
 }
 
 /// Checks and proves in threads: conditions side by side, and large sections in pieces. With fewer than two threads all is

@@ -5,6 +5,7 @@ pub mod gate;
 pub mod log;
 pub mod player;
 pub mod runner;
+pub mod seeded;
 pub mod stage;
 pub mod table;
 mod task;

@@ -17,12 +17,11 @@ use Rattle.rg_tree.specs.Programs.{nth}
 use Rattle.rg_rules.proofs.Find.{nth-at}
 use Rattle.std.proofs.lemmas.List.{length-map, take-map, drop-map}
 use Rattle.rg_find.specs.Judged.{IsJudged, IsJudgeRefusal}
-use Rattle.rg_hints.specs.Proved.{IsProofsRefusal}
 use Rattle.rg_find.specs.declared.judgement.Judged.{Judged}
 use Rattle.rg_find.specs.declared.judgement.Judged.TheVariants.{Holds, Fails, GaveUp, TooLarge}
 use Rattle.rgc.specs.declared.proofs_found.Unproved.{Unproved}
 use Rattle.rgc.specs.declared.proofs_found.Sought.{Sought}
-use Rattle.rg_pool.specs.Parts.{ArePartProved, IsPartRefusal}
+use Rattle.rg_pool.specs.ProofPieces.{ArePartProvedBy, AreProvedBy, ArePartRefused}
 use Rattle.rgc.specs.Proofs.{IsUnproved, HoldFrom, AreReportedOrHold, IsRange, in_range, outside, KeepLimit, IsFirstUnjudged, IsSearchRefusal, IsPartSearchRefusal}
 use Rattle.rgc.specs.Inner.Search.{IsKept, IsHolding, Takes, IsJudgedAt, IsSoughtAt, IsUnsoughtAt, IsAnswerAt, AreSought}
 
@@ -145,28 +144,32 @@ module _ (all items : List Condition) (cs : List ConditionTree) (first last coun
   range_same = subst (IsRange first last) (count_same all cs count same is_count) range
 
   -- it was proved
-  pub part_found : (bytes text : List ℕ) → bytes ≡ text → ArePartProved count (first - 1) (map condition_tree (take (last - (first - 1)) (drop (first - 1) items))) bytes → IsRange first last (length cs) × ArePartProved (length cs) (first - 1) (in_range first last cs) text
-  part_found bytes text is_text proved = (
+  pub part_found : (pieces : List (List ℕ)) → ArePartProvedBy count (first - 1) (map condition_tree (take (last - (first - 1)) (drop (first - 1) items))) pieces → IsRange first last (length cs) × ArePartProvedBy (length cs) (first - 1) (in_range first last cs) pieces
+  part_found pieces proved = (
     range_same,
-    subst (λ (n : ℕ). ArePartProved n (first - 1) (in_range first last cs) text) (count_same all cs count same is_count)
-        (subst (λ (t : List ℕ). ArePartProved count (first - 1) (in_range first last cs) t) is_text
-        (subst (λ (xs : List ConditionTree). ArePartProved count (first - 1) xs bytes) part_same proved)),
+    subst (λ (n : ℕ). ArePartProvedBy n (first - 1) (in_range first last cs) pieces) (count_same all cs count same is_count)
+        (subst (λ (xs : List ConditionTree). ArePartProvedBy count (first - 1) xs pieces) part_same proved),
   )
 
   -- or its proofs are refused
-  pub part_refused : (bytes : List ℕ) (e : Refusal) → IsPartRefusal count (first - 1) (map condition_tree (take (last - (first - 1)) (drop (first - 1) items))) bytes e → IsPartRefusal (length cs) (first - 1) (in_range first last cs) bytes e
-  part_refused bytes e why =
-      subst (λ (n : ℕ). IsPartRefusal n (first - 1) (in_range first last cs) bytes e) (count_same all cs count same is_count)
-      (subst (λ (xs : List ConditionTree). IsPartRefusal count (first - 1) xs bytes e) part_same why)
+  pub part_refused : (pieces : List (List ℕ)) (e : Refusal) → ArePartRefused count (first - 1) (map condition_tree (take (last - (first - 1)) (drop (first - 1) items))) pieces e → ArePartRefused (length cs) (first - 1) (in_range first last cs) pieces e
+  part_refused pieces e why =
+      subst (λ (n : ℕ). ArePartRefused n (first - 1) (in_range first last cs) pieces e) (count_same all cs count same is_count)
+      (subst (λ (xs : List ConditionTree). ArePartRefused count (first - 1) xs pieces e) part_same why)
 
 -- a search of all conditions is refused
 pub all_refused : (xs : List Condition) (cs : List ConditionTree) (steps : ℕ) (e : Refusal) → map condition_tree xs ≡ cs → ((e ≡ no_memory) ⊎ IsFirstUnjudged (map condition_tree xs) 1 steps e) → IsSearchRefusal cs steps e
 all_refused xs cs steps e same (inl why) = inl why
 all_refused xs cs steps e same (inr why) = inr (inl (subst (λ (ds : List ConditionTree). IsFirstUnjudged ds 1 steps e) same why))
 
--- what it found is refused
-pub found_refused : (xs : List Condition) (cs : List ConditionTree) (steps : ℕ) (bytes : List ℕ) (e : Refusal) → map condition_tree xs ≡ cs → IsProofsRefusal (map condition_tree xs) bytes e → IsSearchRefusal cs steps e
-found_refused xs cs steps bytes e same why = inr (inr (bytes, subst (λ (ds : List ConditionTree). IsProofsRefusal ds bytes e) same why))
+-- what it found proves them all, or is refused
+pub all_found : (xs : List Condition) (cs : List ConditionTree) (count : ℕ) (pieces : List (List ℕ)) → map condition_tree xs ≡ cs → count ≡ length xs → ArePartProvedBy count 0 (map condition_tree xs) pieces → AreProvedBy cs pieces
+all_found xs cs count pieces same is_count proved =
+    subst (λ (n : ℕ). ArePartProvedBy n 0 cs pieces) (count_same xs cs count same is_count) (subst (λ (ds : List ConditionTree). ArePartProvedBy count 0 ds pieces) same proved)
+
+pub found_refused : (xs : List Condition) (cs : List ConditionTree) (steps count : ℕ) (pieces : List (List ℕ)) (e : Refusal) → map condition_tree xs ≡ cs → count ≡ length xs → ArePartRefused count 0 (map condition_tree xs) pieces e → IsSearchRefusal cs steps e
+found_refused xs cs steps count pieces e same is_count why =
+    inr (inr (pieces, subst (λ (n : ℕ). ArePartRefused n 0 cs pieces e) (count_same xs cs count same is_count) (subst (λ (ds : List ConditionTree). ArePartRefused count 0 ds pieces e) same why)))
 
 -- a range of which there is no condition
 pub range_refused : (xs : List Condition) (cs : List ConditionTree) (first last steps count : ℕ) (e : Refusal) → map condition_tree xs ≡ cs → count ≡ length xs → (IsRange first last count → ⊥) → e ≡ refused_in UnknownCondition Derivation (the_condition (outside first last count)) → IsPartSearchRefusal cs first last steps e

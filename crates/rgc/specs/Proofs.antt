@@ -1,5 +1,5 @@
 -- What a search for proofs of all conditions gives, and why it gives nothing.
-use Rattle.std.specs.Prelude.{◌≡◌, ◌⊎◌, ℕ, ◌+◌, ◌-◌, ◌<◌, ◌≤◌, ◌==◌, ◌||◌, List, [], ◌∷◌, length, take, drop, All, Some, nat_lt, if◌then◌else◌, string_bytes}
+use Rattle.std.specs.Prelude.{◌≡◌, ◌⊎◌, ℕ, ◌+◌, ◌-◌, ◌<◌, ◌≤◌, ◌==◌, ◌||◌, List, [], ◌∷◌, length, map, take, drop, All, Some, nat_lt, if◌then◌else◌, string_bytes}
 use Rattle.rg_words.specs.declared.limits.TheConstants.{MOST_VARIABLES}
 use Rattle.rg_words.specs.declared.refusal.Refusal.{Refusal}
 use Rattle.rg_words.specs.declared.refusal.RefusalNumber.TheVariants.{UnknownCondition}
@@ -13,10 +13,9 @@ use Rattle.rg_tree.specs.Statements.{ProgramTree}
 use Rattle.rg_tree.specs.Programs.{nth, IsSatisfied}
 use Rattle.rg_clauses.specs.Conditions.{clauses_of_condition}
 use Rattle.rg_find.specs.Judged.{IsJudged, IsJudgeRefusal}
-use Rattle.rg_hints.specs.Proved.{AreProved, IsProofsRefusal}
-use Rattle.rg_pool.specs.Parts.{ArePartProved, IsPartRefusal}
+use Rattle.rg_pool.specs.ProofPieces.{ArePartProvedBy, AreProvedBy, ArePartRefused, AreProofsRefused}
 use Rattle.rg_accept.specs.Accepted.{conditions_of}
-use Rattle.rgc.specs.Chosen.{AreDerived, IsDeriveRefusal}
+use Rattle.rgc.specs.Pieces.{AreDerived, IsDeriveRefusal}
 use Rattle.rgc.specs.declared.proofs_found.Unproved.{Unproved}
 use Rattle.rgc.specs.declared.proofs_found.ProofsFound.{ProofsFound}
 use Rattle.rgc.specs.declared.proofs_found.ProofsFound.TheVariants.{Proofs, Failures}
@@ -48,15 +47,15 @@ pub record AreUnproved (conditions : List ConditionTree) (first end : ℕ) (repo
   pub all : AreReportedOrHold conditions first end reported
   pub are : All (IsUnproved conditions) reported
 
--- a text that is given as proofs proves all conditions of the program and the lines of its derivation; else what is reported of those without a proof, of one
--- at least, is true of them
+-- the pieces of proofs that are given together prove all conditions of the program and the lines of its derivation; else what is reported of those without a
+-- proof, of one at least, is true of them
 abbrev pub AreFoundFor : ProgramTree → List LineTree → ProofsFound → Type 0
-AreFoundFor p lines (Proofs text) = AreProved (conditions_of p lines) (string_bytes text)
+AreFoundFor p lines (Proofs pieces) = AreProvedBy (conditions_of p lines) (map string_bytes pieces.items)
 AreFoundFor p lines (Failures reported) = AreUnproved (conditions_of p lines) 1 (length (conditions_of p lines) + 1) reported.items
 
--- where a text is given as proofs of all conditions, the program satisfies its specification
+-- where proofs of all conditions are given, the program satisfies its specification
 abbrev pub IsSatisfiedWhere : ProgramTree → ProofsFound → Type 0
-IsSatisfiedWhere p (Proofs text) = IsSatisfied p
+IsSatisfiedWhere p (Proofs pieces) = IsSatisfied p
 IsSatisfiedWhere p (Failures reported) = Unit {0}
 
 -- these are the numbers of the first and the last of some of so many conditions
@@ -69,12 +68,12 @@ pub record IsRange (first last count : ℕ) : Type 0 where
 abbrev pub in_range : {A : Type 0} → ℕ → ℕ → List A → List A
 in_range first last conditions = take (last + 1 - first) (drop (first - 1) conditions)
 
--- a text that is given as proofs has a section for each of these conditions of the program and the lines of its derivation, that proves it, or none where
--- one of its clauses is empty; else what is reported of those without a proof, of one at least, is true of them
+-- the pieces of proofs that are given have a section for each of these conditions of the program and the lines of its derivation, that proves it, or none
+-- where one of its clauses is empty; else what is reported of those without a proof, of one at least, is true of them
 abbrev pub ArePartFoundFor : ProgramTree → List LineTree → ℕ → ℕ → ProofsFound → Type 0
-ArePartFoundFor p lines first last (Proofs text) =
+ArePartFoundFor p lines first last (Proofs pieces) =
     IsRange first last (length (conditions_of p lines))
-    × ArePartProved (length (conditions_of p lines)) (first - 1) (in_range first last (conditions_of p lines)) (string_bytes text)
+    × ArePartProvedBy (length (conditions_of p lines)) (first - 1) (in_range first last (conditions_of p lines)) (map string_bytes pieces.items)
 ArePartFoundFor p lines first last (Failures reported) = IsRange first last (length (conditions_of p lines)) × AreUnproved (conditions_of p lines) first (last + 1) reported.items
 
 -- the conditions with numbers from one on and before another keep the limit of variables
@@ -93,7 +92,7 @@ pub record IsFirstUnjudged (conditions : List ConditionTree) (first steps : ℕ)
 -- which are checked before they are given
 abbrev pub IsSearchRefusal : List ConditionTree → ℕ → Refusal → Type 0
 IsSearchRefusal conditions steps e =
-    (e ≡ no_memory) ⊎ IsFirstUnjudged conditions 1 steps e ⊎ ((proofs : List ℕ) × IsProofsRefusal conditions proofs e)
+    (e ≡ no_memory) ⊎ IsFirstUnjudged conditions 1 steps e ⊎ ((proofs : List (List ℕ)) × AreProofsRefused conditions proofs e)
 
 -- the number of a range of which there is no condition
 abbrev pub outside : ℕ → ℕ → ℕ → ℕ
@@ -105,15 +104,15 @@ IsPartSearchRefusal conditions first last steps e =
     (e ≡ no_memory)
     ⊎ ((IsRange first last (length conditions) → ⊥) × (e ≡ refused_in UnknownCondition Derivation (Condition (outside first last (length conditions)))))
     ⊎ (IsRange first last (length conditions) × IsFirstUnjudged conditions first steps e)
-    ⊎ ((proofs : List ℕ) × IsPartRefusal (length conditions) (first - 1) (in_range first last conditions) proofs e)
+    ⊎ ((proofs : List (List ℕ)) × ArePartRefused (length conditions) (first - 1) (in_range first last conditions) proofs e)
 
 -- the first fault over both files and the search: of the text, then of the derivation of its program, then of the search
-abbrev pub IsProveRefusal : List ℕ → List ℕ → ℕ → Refusal → Type 0
+abbrev pub IsProveRefusal : List ℕ → List (List ℕ) → ℕ → Refusal → Type 0
 IsProveRefusal text derivation steps e =
     IsDeriveRefusal text derivation e
     ⊎ ((program : ProgramTree) × (lines : List LineTree) × AreDerived text derivation program lines × IsSearchRefusal (conditions_of program lines) steps e)
 
-abbrev pub IsProvePartRefusal : List ℕ → List ℕ → ℕ → ℕ → ℕ → Refusal → Type 0
+abbrev pub IsProvePartRefusal : List ℕ → List (List ℕ) → ℕ → ℕ → ℕ → Refusal → Type 0
 IsProvePartRefusal text derivation first last steps e =
     IsDeriveRefusal text derivation e
     ⊎ ((program : ProgramTree) × (lines : List LineTree) × AreDerived text derivation program lines × IsPartSearchRefusal (conditions_of program lines) first last steps e)

@@ -1,4 +1,4 @@
-//! A derivation of a text's program, and one of its conditions, chosen by its number.
+//! A condition of a text's program with its derivation, chosen by its number.
 
 ghost use Rattle.std.specs.Prelude.{◌≡◌, ◌≤◌, None, Some, map, IfOk, IfErr, OnOk};
 ghost use Rattle.rg_words.specs.declared.limits.TheConstants.{MOST_VARIABLES, MOST_DECISIONS};
@@ -10,34 +10,15 @@ ghost use Rattle.rg_tree.specs.Conditions.{condition_tree};
 ghost use Rattle.rg_tree.specs.Programs.{nth};
 ghost use Rattle.rg_clauses.specs.Conditions.{clauses_of_condition};
 ghost use Rattle.rg_find.specs.Judged.{IsJudged, JudgedFits, JudgedInOrder};
-ghost use Rattle.rgc.specs.Chosen.{AreDerived, IsDeriveRefusal, IsChosen, IsChoiceRefusal, IsChosenClausesRefusal, IsChosenFindRefusal};
-ghost use Rattle.rg_accept.specs.Stages.{derived_program, derived_lines};
+ghost use Rattle.rgc.specs.Pieces.{bytes_of};
+ghost use Rattle.rgc.specs.Chosen.{IsChosen, IsChoiceRefusal, IsChosenClausesRefusal, IsChosenFindRefusal};
 
-use rg_accept::{Derived, Parsed};
+use crate::pieces::derive_program;
 use rg_clauses::Clauses;
 use rg_find::{Judged, Watcher, judge};
 use rg_tree::condition::Condition;
 use rg_words::{Place, Refusal, RefusalNumber, SourceFile};
 use std::alloc::Global;
-
-/// The program that a text spells, with the lines that a derivation spells, which derive its parts.
-///
-/// # Errors
-///
-/// The first fault: of the text, then of the derivation, as `Derived::read` reports it. `Memory` where memory is refused.
-pub fn derive_program(alloc: Global, text: &[u8], derivation: &[u8]) -> Result<Derived, Refusal>
-    ensures derived { IfOk result (λ d. AreDerived text.now derivation.now (derived_program d) (derived_lines d)) }
-    ensures refused { IfErr result (IsDeriveRefusal text.now derivation.now) }
-{
-    let parsed = match Parsed::read(alloc, text) {
-        Ok(parsed) => parsed,
-        Err(refusal) => return Err(refusal),
-    };
-    match parsed.derive(alloc, derivation) {
-        Ok(derived) => Ok(derived),
-        Err(refusal) => Err(refusal),
-    }
-}
 
 /// The condition of a number, from 1.
 fn condition_at(mut conditions: Vec<Condition>, number: u64) -> Result<Condition, Refusal>
@@ -63,11 +44,11 @@ fn condition_at(mut conditions: Vec<Condition>, number: u64) -> Result<Condition
 pub fn chosen_condition(
     alloc: Global,
     text: &[u8],
-    derivation: &[u8],
+    derivation: &[&[u8]],
     number: u64,
 ) -> Result<Condition, Refusal>
-    ensures chosen { IfOk result (λ c. IsChosen text.now derivation.now number (condition_tree c)) }
-    ensures refused { IfErr result (IsChoiceRefusal text.now derivation.now number) }
+    ensures chosen { IfOk result (λ c. IsChosen text.now (bytes_of derivation.now) number (condition_tree c)) }
+    ensures refused { IfErr result (IsChoiceRefusal text.now (bytes_of derivation.now) number) }
 {
     let derived = match derive_program(alloc, text, derivation) {
         Ok(derived) => derived,
@@ -89,13 +70,13 @@ pub fn chosen_condition(
 pub fn condition_clauses(
     alloc: Global,
     text: &[u8],
-    derivation: &[u8],
+    derivation: &[&[u8]],
     number: u64,
 ) -> Result<(Condition, Clauses), Refusal>
-    ensures chosen { IfOk result (λ r. IsChosen text.now derivation.now number (condition_tree r.0)) }
+    ensures chosen { IfOk result (λ r. IsChosen text.now (bytes_of derivation.now) number (condition_tree r.0)) }
     ensures clauses { IfOk result (λ r. r.1 ≡ clauses_of_condition (condition_tree r.0)) }
     ensures within { IfOk result (λ r. (clauses_of_condition (condition_tree r.0)).variables ≤ MOST_VARIABLES) }
-    ensures refused { IfErr result (IsChosenClausesRefusal text.now derivation.now number) }
+    ensures refused { IfErr result (IsChosenClausesRefusal text.now (bytes_of derivation.now) number) }
 {
     let chosen = match chosen_condition(alloc, text, derivation, number) {
         Ok(condition) => condition,
@@ -116,18 +97,18 @@ pub fn condition_clauses(
 pub fn find_condition<W: Watcher>(
     alloc: Global,
     text: &[u8],
-    derivation: &[u8],
+    derivation: &[&[u8]],
     number: u64,
     steps: u64,
     watcher: &mut W,
 ) -> Result<(Condition, Judged), Refusal>
-    ensures chosen { IfOk result (λ r. IsChosen text.now derivation.now number (condition_tree r.0)) }
+    ensures chosen { IfOk result (λ r. IsChosen text.now (bytes_of derivation.now) number (condition_tree r.0)) }
     ensures judged { IfOk result (λ r. IsJudged (condition_tree r.0) r.1) }
     ensures fits { IfOk result (λ r. JudgedFits r.1) }
     // The numbers of lines follow those of the clauses and have no gaps.
     ensures order { IfOk result (λ r. JudgedInOrder r.1) }
     ensures steps { OnOk result (steps ≤ MOST_DECISIONS) }
-    ensures refused { IfErr result (IsChosenFindRefusal text.now derivation.now number steps) }
+    ensures refused { IfErr result (IsChosenFindRefusal text.now (bytes_of derivation.now) number steps) }
 {
     let condition = match chosen_condition(alloc, text, derivation, number) {
         Ok(condition) => condition,

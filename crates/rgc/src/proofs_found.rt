@@ -1,4 +1,4 @@
-//! A whole proofs file, found by a search for each condition.
+//! Proofs of all conditions, or of a range of them, found by a search for each.
 
 ghost use Rattle.std.specs.Prelude.{◌≡◌, ◌⊎◌, ◌+◌, ◌<◌, ◌≤◌, ◌^◌, length, All, map, string_bytes, IsOk, IfOk, IfErr, IfSome, OnOk};
 ghost use Rattle.rg_words.specs.declared.refusal.RefusalNumber.TheVariants.{UnknownCondition};
@@ -6,6 +6,9 @@ ghost use Rattle.rg_words.specs.declared.refusal.SourceFile.TheVariants.{Derivat
 ghost use Rattle.rg_words.specs.declared.refusal.Place.TheVariants.{Condition as the_condition};
 ghost use Rattle.rg_words.specs.Refusals.{no_memory, refused_in};
 ghost use Rattle.rg_tree.specs.Conditions.{condition_tree};
+ghost use Rattle.rg_tree.specs.RuleConditions.{AllConditionsHold};
+ghost use Rattle.rg_pool.specs.ProofPieces.{ArePartProvedBy, ArePartRefused};
+ghost use Rattle.rgc.specs.Pieces.{bytes_of};
 ghost use Rattle.rgc.specs.Proofs.{AreFoundFor, ArePartFoundFor, AreReportedOrHold, IsRange, IsUnproved, IsFirstUnjudged, IsSatisfiedWhere, IsSearchRefusal, IsPartSearchRefusal, outside};
 ghost use Rattle.rgc.specs.Failures.{judged_text, name_at, unproved_text, failures_text};
 ghost use Rattle.rgc.specs.Inner.Search.{Takes, IsAnswerAt, AreSought};
@@ -17,7 +20,7 @@ use crate::failures::failure_text;
 use rg_accept::Derived;
 use rg_find::{Judged, Watcher, judge};
 use rg_hints::Lines;
-use rg_pool::{InThreads, deal, prove_all, prove_part};
+use rg_pool::{InThreads, deal, prove_pieces};
 use rg_tree::condition::Condition;
 use rg_words::limits::MOST_PROOF_BYTES;
 use rg_words::{Layout, Place, Refusal, RefusalNumber, SourceFile};
@@ -45,14 +48,54 @@ fn section_of(alloc: Global, number: usize, lines: &Lines) -> Result<String, Ref
     Ok(section)
 }
 
-/// Adds a section, if it fits into a proofs file after those before; whether it does.
-fn add_section(sections: &mut String, section: &str) -> Result<bool, AllocError> {
-    let room = MOST_PROOF_BYTES.saturating_sub(sections.len());
-    if section.len() > room {
+/// Adds a section to the last piece, or where it doesn't fit into that, as a new one; whether a piece can hold it.
+fn add_section(alloc: Global, pieces: &mut Vec<String>, section: &str) -> Result<bool, AllocError> {
+    if section.len() > MOST_PROOF_BYTES {
         return Ok(false);
     }
-    sections.push_str(section)?;
+    if let Some(last) = pieces.last_mut() {
+        let room = MOST_PROOF_BYTES.saturating_sub(last.len());
+        if section.len() <= room {
+            last.push_str(section)?;
+            return Ok(true);
+        }
+    }
+    let piece = String::from_str(alloc, section)?;
+    pieces.push(piece)?;
     Ok(true)
+}
+
+/// The bytes of pieces that were found, in their order.
+///
+/// # Errors
+///
+/// Only where memory is refused.
+pub fn bytes_of_pieces(alloc: Global, pieces: &[String]) -> Result<Vec<&[u8]>, AllocError>
+    ensures { IfOk result (λ all. bytes_of all.items ≡ map string_bytes pieces.now) }
+{
+    let mut all = Vec::new(alloc);
+    for piece in pieces {
+        all.push(piece.as_bytes())?;
+    }
+    Ok(all)
+}
+
+/// Checks that pieces that were found prove these conditions, which stand after so many others of `count`.
+fn check_found<R: Threads + Wait + Sync>(
+    checker: &InThreads<'_, R>,
+    alloc: Global,
+    count: usize,
+    before: usize,
+    conditions: &[Condition],
+    pieces: &[String],
+) -> Result<(), Refusal>
+    requires { before + length conditions.now ≤ count }
+    ensures proved { OnOk result (ArePartProvedBy count before (map condition_tree conditions.now) (map string_bytes pieces.now)) }
+    ensures holds { OnOk result (AllConditionsHold (map condition_tree conditions.now)) }
+    ensures refused { IfErr result (ArePartRefused count before (map condition_tree conditions.now) (map string_bytes pieces.now)) }
+{
+    let all = bytes_of_pieces(alloc, pieces)?;
+    prove_pieces(checker, alloc, count, before, conditions, &all)
 }
 
 /// What a search says of a condition, and the text of its section; no text, where it has or needs no lines.
@@ -121,21 +164,21 @@ fn suiting(words: &Layout, count: usize, threads: usize) -> usize {
 /// What searches found.
 #[derive(Drop)]
 struct Search {
-    /// The sections of the conditions that need one.
-    sections: String,
+    /// The sections of the conditions that need one, in pieces that are proofs files.
+    pieces: Vec<String>,
     /// The conditions for which no lines were found.
     unproved: Vec<Unproved>,
 }
 
 impl Search {
     /// Takes what a search says of the condition of this number.
-    fn take(&mut self, number: usize, sought: Sought) -> Result<(), AllocError>
+    fn take(&mut self, alloc: Global, number: usize, sought: Sought) -> Result<(), AllocError>
         ensures { OnOk result (Takes number sought.judged self.old.unproved.items self.new.unproved.items) }
     {
         let Sought { judged, section } = sought;
         let judged = match judged {
             Judged::Holds(_) => {
-                if add_section(&mut self.sections, &section)? {
+                if add_section(alloc, &mut self.pieces, &section)? {
                     return Ok(());
                 }
                 Judged::TooLarge
@@ -258,8 +301,10 @@ fn search_in<R: Threads + Sync, P: Watcher + Copy + Sync>(
     ensures refused { IfErr result (λ e. (e ≡ no_memory) ⊎ IsFirstUnjudged (map condition_tree conditions.now) (from + 1) settings.now.steps e) }
 {
     let mut known = judge_some(settings, alloc, conditions, from, to - from)?;
+    let mut pieces = Vec::new(alloc);
+    pieces.push(String::new(alloc))?;
     let mut found = Search {
-        sections: String::new(alloc),
+        pieces,
         unproved: Vec::new(alloc),
     };
     let reported = known.as_mut_slice();
@@ -268,7 +313,7 @@ fn search_in<R: Threads + Sync, P: Watcher + Copy + Sync>(
             Ok(sought) => sought,
             Err(refusal) => return Err(refusal),
         };
-        found.take(place + 1, sought)?;
+        found.take(alloc, place + 1, sought)?;
     }
     Ok(found)
 }
@@ -276,8 +321,8 @@ fn search_in<R: Threads + Sync, P: Watcher + Copy + Sync>(
 /// What searches for all conditions of a program's derivation found.
 #[derive(Drop)]
 pub enum ProofsFound {
-    /// A proofs file that proves all of them.
-    Proofs(String),
+    /// Proofs files that together prove all of them: one, where they fit into one.
+    Proofs(Vec<String>),
     /// The conditions for which there is no proof, at least one, in the order of their numbers.
     Failures(Vec<Unproved>),
 }
@@ -316,12 +361,13 @@ pub fn find_proofs<R: Threads + Wait + Sync, P: Watcher + Copy + Sync>(
         Ok(found) => found,
         Err(refusal) => return Err(refusal),
     };
-    let Search { sections, unproved } = found;
+    let Search { pieces, unproved } = found;
     if !unproved.is_empty() {
         return Ok(ProofsFound::Failures(unproved));
     }
-    match prove_all(rt, alloc, threads, all, sections.as_bytes()) {
-        Ok(()) => Ok(ProofsFound::Proofs(sections)),
+    let checker = InThreads { rt, threads };
+    match check_found(&checker, alloc, count, 0, all, &pieces) {
+        Ok(()) => Ok(ProofsFound::Proofs(pieces)),
         Err(refusal) => Err(refusal),
     }
 }
@@ -347,7 +393,7 @@ fn check_range(first: u64, last: u64, count: usize) -> Result<(), Refusal>
     ))
 }
 
-/// Looks for proofs of the conditions with these numbers, from 1, the last of them included, as `find_proofs` does for all. The sections that ranges give, put one after another in the order of their ranges, are a proofs file for all of
+/// Looks for proofs of the conditions with these numbers, from 1, the last of them included, as `find_proofs` does for all. The pieces that ranges give, one after another in the order of their ranges, prove all of
 /// their conditions.
 ///
 /// # Errors
@@ -383,7 +429,7 @@ pub fn find_part<R: Threads + Wait + Sync, P: Watcher + Copy + Sync>(
         Ok(found) => found,
         Err(refusal) => return Err(refusal),
     };
-    let Search { sections, unproved } = found;
+    let Search { pieces, unproved } = found;
     if !unproved.is_empty() {
         return Ok(ProofsFound::Failures(unproved));
     }
@@ -392,8 +438,8 @@ pub fn find_part<R: Threads + Wait + Sync, P: Watcher + Copy + Sync>(
         rt: settings.rt,
         threads: settings.threads,
     };
-    match prove_part(&checker, alloc, count, from, part, sections.as_bytes()) {
-        Ok(()) => Ok(ProofsFound::Proofs(sections)),
+    match check_found(&checker, alloc, count, from, part, &pieces) {
+        Ok(()) => Ok(ProofsFound::Proofs(pieces)),
         Err(refusal) => Err(refusal),
     }
 }

@@ -32,7 +32,7 @@ lines_of_text text c GaveUp old new j has holds went = absurd went
 lines_of_text text c TooLarge old new j has holds went = absurd went
 
 -- lines that a search gave for a condition of a program went out
-lines_of_condition : (text derivation : List ℕ) (number : ℕ) (c : ConditionTree) (judged : Judged) (old new : Option (List ℕ)) → IsJudged c judged → IsChosen text derivation number c → PrintsLines judged old new → HasPrintedConditionLines text derivation number old new
+lines_of_condition : (text : List ℕ) (derivation : List (List ℕ)) (number : ℕ) (c : ConditionTree) (judged : Judged) (old new : Option (List ℕ)) → IsJudged c judged → IsChosen text derivation number c → PrintsLines judged old new → HasPrintedConditionLines text derivation number old new
 lines_of_condition text derivation number c (Holds lines) old new j chosen went = record {
   condition = c;
   chosen = chosen;
@@ -61,7 +61,7 @@ states_of_text text c GaveUp old new j shown went = absurd went
 states_of_text text c TooLarge old new j shown went = absurd went
 
 -- the states at which a condition of a program fails went out
-states_of_condition : (text derivation : List ℕ) (number : ℕ) (c : ConditionTree) (judged : Judged) (old new : Option (List ℕ)) → IsJudged c judged → IsChosen text derivation number c → PrintsStates c.words judged old new → HasReportedCondition text derivation number old new
+states_of_condition : (text : List ℕ) (derivation : List (List ℕ)) (number : ℕ) (c : ConditionTree) (judged : Judged) (old new : Option (List ℕ)) → IsJudged c judged → IsChosen text derivation number c → PrintsStates c.words judged old new → HasReportedCondition text derivation number old new
 states_of_condition text derivation number c (Holds lines) old new j chosen went = absurd went
 states_of_condition text derivation number c (Fails first second) old new j chosen went = record {
   condition = c;
@@ -90,7 +90,7 @@ answer_of_text text c judged old new Failed j shown has holds went = states_of_t
 answer_of_text text c judged old new (Unknown why) j shown has holds went = record { condition = c; shown = shown; judged = judged; reason = went.0; printed = went.1 }
 
 -- what is so of a condition of a program, by the answer
-pub answer_of_condition : (text derivation : List ℕ) (number : ℕ) (c : ConditionTree) (judged : Judged) (old new : Option (List ℕ)) (answer : Answer) → IsJudged c judged → IsChosen text derivation number c → Answers c.words judged old new answer → AnswersCondition text derivation number old new answer
+pub answer_of_condition : (text : List ℕ) (derivation : List (List ℕ)) (number : ℕ) (c : ConditionTree) (judged : Judged) (old new : Option (List ℕ)) (answer : Answer) → IsJudged c judged → IsChosen text derivation number c → Answers c.words judged old new answer → AnswersCondition text derivation number old new answer
 answer_of_condition text derivation number c judged old new Proved j chosen went = lines_of_condition text derivation number c judged old new j chosen went
 answer_of_condition text derivation number c judged old new Failed j chosen went = states_of_condition text derivation number c judged old new j chosen went
 answer_of_condition text derivation number c judged old new (Unknown why) j chosen went = record { condition = c; chosen = chosen; judged = judged; reason = went.0; printed = went.1 }

@@ -1,5 +1,6 @@
 -- Lines of items, one after another.
-use Rattle.std.proofs.Common.{◌≡◌, ◌<◌, ◌+◌, ◌∙◌, ℕ, List, length, take, get_or, Option, ap, sym, subst}
+use Rattle.std.proofs.Common.{◌≡◌, ◌<◌, ◌≤◌, ◌+◌, ◌∙◌, ◌++◌, [], ◌∷◌, ℕ, List, length, map, take, get_or, Option, ap, refl, sym, subst}
+use Rattle.std.proofs.lemmas.List.{take_all}
 use Rattle.std.specs.List.{flat_map}
 use Rattle.std.specs.Io.KnownBytes.{Appends}
 use Rattle.rg_words.specs.Layout.{Word}
@@ -22,3 +23,13 @@ module _ (old middle new : Option (List ℕ)) where
   unproved_goes words names us i u name within at went named next =
       item_goes (λ (v : Unproved). json_line (unproved_data words (name_at names v.number) v)) us i u _ within went
       (ap (λ (n : List ℕ). json_line (unproved_data words n u)) named ∙ ap (λ (v : Unproved). json_line (unproved_data words (name_at names v.number) v)) at) next
+
+-- the texts of items that are made of others
+pub flat_map_made : {X Y : Type 0} (f : Y → List ℕ) (g : X → Y) (xs : List X) → flat_map (λ x. f (g x)) xs ≡ flat_map f (map g xs)
+flat_map_made f g [] = refl
+flat_map_made f g (x ∷ xs) = ap (λ t. f (g x) ++ t) (flat_map_made f g xs)
+
+-- where the texts of all items went out, those of what they are made of did
+pub all_went : {X Y : Type 0} (f : Y → List ℕ) (g : X → Y) (xs : List X) (i : ℕ) (old new : Option (List ℕ)) → length xs ≤ i → Appends old new (flat_map (λ x. f (g x)) (take i xs)) → Appends old new (flat_map f (map g xs))
+all_went f g xs i old new all went =
+    subst (λ (t : List ℕ). Appends old new t) (ap (flat_map (λ x. f (g x))) (take_all i xs all) ∙ flat_map_made f g xs) went

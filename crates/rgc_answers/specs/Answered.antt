@@ -23,7 +23,7 @@ pub record HasReportedFormula (text : List ℕ) (old new : Option (List ℕ)) : 
   pub printed : Appends old new (failure_text condition.words first second)
 
 -- the same of the condition of this number
-pub record HasReportedCondition (text derivation : List ℕ) (number : ℕ) (old new : Option (List ℕ)) : Type 0 where
+pub record HasReportedCondition (text : List ℕ) (derivation : List (List ℕ)) (number : ℕ) (old new : Option (List ℕ)) : Type 0 where
   pub condition : ConditionTree
   pub chosen : IsChosen text derivation number condition
   pub first : Valuation
@@ -47,7 +47,7 @@ pub record HasGivenUpFormula (text line : List ℕ) (old new : Option (List ℕ)
   pub printed : Appends old new (codes "gave up\n")
 
 -- the same of the condition of this number
-pub record HasGivenUpCondition (text derivation : List ℕ) (number : ℕ) (line : List ℕ) (old new : Option (List ℕ)) : Type 0 where
+pub record HasGivenUpCondition (text : List ℕ) (derivation : List (List ℕ)) (number : ℕ) (line : List ℕ) (old new : Option (List ℕ)) : Type 0 where
   pub condition : ConditionTree
   pub chosen : IsChosen text derivation number condition
   pub judged : Judged
@@ -61,7 +61,7 @@ AnswersFormula text old new Failed = HasReportedFormula text old new
 AnswersFormula text old new (Unknown why) = HasGivenUpFormula text why.now old new
 
 -- the same of the condition of a number
-abbrev pub AnswersCondition : List ℕ → List ℕ → ℕ → Option (List ℕ) → Option (List ℕ) → Answer → Type 0
+abbrev pub AnswersCondition : List ℕ → List (List ℕ) → ℕ → Option (List ℕ) → Option (List ℕ) → Answer → Type 0
 AnswersCondition text derivation number old new Proved = HasPrintedConditionLines text derivation number old new
 AnswersCondition text derivation number old new Failed = HasReportedCondition text derivation number old new
 AnswersCondition text derivation number old new (Unknown why) = HasGivenUpCondition text derivation number why.now old new

@@ -14,7 +14,7 @@ use Rattle.rg_tree.specs.Traces.{State}
 use Rattle.rg_code.specs.Code.{BlockTree}
 use Rattle.rg_parse.specs.Inputs.{IsStartRefusal, IsMovesRefusal}
 use Rattle.rg_floor.specs.Turns.{open_fault}
-use Rattle.rg_accept.specs.Accepted.{IsAcceptTextRefusal, IsBuiltText}
+use Rattle.rgc.specs.Pieces.{IsAcceptInPiecesRefusal, IsBuiltInPieces}
 use Rattle.rgc_answers.specs.Running.{StartsAt, AreTheMoves}
 
 -- the first fault of the bytes of a start, where there are any
@@ -50,10 +50,10 @@ IsUnbegun program start moves limit e =
     ⊎ IsUnopened program start moves limit e
 
 -- the same of the program that files are accepted for; or they aren't accepted
-abbrev pub IsRunRefusal : List ℕ → List ℕ → List ℕ → Option (Bor (List ℕ)) → Option (Bor (List ℕ)) → ℕ → Refusal → Type 0
+abbrev pub IsRunRefusal : List ℕ → List (List ℕ) → List (List ℕ) → Option (Bor (List ℕ)) → Option (Bor (List ℕ)) → ℕ → Refusal → Type 0
 IsRunRefusal text derivation proofs start moves limit e =
-    IsAcceptTextRefusal text derivation proofs e
-    ⊎ ((program : ProgramTree) × (blocks : List (List BlockTree)) × IsBuiltText text derivation proofs program blocks × IsUnbegun program start moves limit e)
+    IsAcceptInPiecesRefusal text derivation proofs e
+    ⊎ ((program : ProgramTree) × (blocks : List (List BlockTree)) × IsBuiltInPieces text derivation proofs program blocks × IsUnbegun program start moves limit e)
 
 -- what a run left isn't as it was printed, or a record came twice: each run is looked at after its end, and none has been seen to be so
 abbrev pub IsUnlike : Refusal → Type 0

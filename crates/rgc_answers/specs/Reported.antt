@@ -5,7 +5,7 @@ use Rattle.rg_tree.specs.Lines.{LineTree}
 use Rattle.rg_tree.specs.Statements.{ProgramTree}
 use Rattle.rg_accept.specs.Accepted.{conditions_of}
 use Rattle.rg_accept.specs.Names.{names_of_conditions}
-use Rattle.rgc.specs.Chosen.{AreDerived}
+use Rattle.rgc.specs.Pieces.{AreDerived}
 use Rattle.rgc.specs.Failures.{failures_text}
 use Rattle.rgc.specs.Proofs.{AreUnproved, IsRange}
 use Rattle.rgc.specs.declared.proofs_found.Unproved.{Unproved}
@@ -21,7 +21,7 @@ unproved_text Json words names unproved = unproved_lines words names unproved
 
 -- the text spells a program, and the derivation lines that derive its parts; some of their conditions have no proof, and what went out tells of these what is
 -- so, and of no others, which hold
-pub record HasReportedUnproved (format : Format) (text derivation : List ℕ) (old new : Option (List ℕ)) : Type 0 where
+pub record HasReportedUnproved (format : Format) (text : List ℕ) (derivation : List (List ℕ)) (old new : Option (List ℕ)) : Type 0 where
   pub program : ProgramTree
   pub lines : List LineTree
   pub derived : AreDerived text derivation program lines
@@ -30,7 +30,7 @@ pub record HasReportedUnproved (format : Format) (text derivation : List ℕ) (o
   pub printed : Appends old new (unproved_text format program.words (names_of_conditions program lines) unproved)
 
 -- the same of the conditions from one number to another
-pub record HasReportedUnprovedPart (format : Format) (text derivation : List ℕ) (first last : ℕ) (old new : Option (List ℕ)) : Type 0 where
+pub record HasReportedUnprovedPart (format : Format) (text : List ℕ) (derivation : List (List ℕ)) (first last : ℕ) (old new : Option (List ℕ)) : Type 0 where
   pub program : ProgramTree
   pub lines : List LineTree
   pub derived : AreDerived text derivation program lines

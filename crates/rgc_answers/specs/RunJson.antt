@@ -5,7 +5,7 @@ use Rattle.std.specs.Io.KnownBytes.{Appends}
 use Rattle.rg_tree.specs.Statements.{ProgramTree}
 use Rattle.rg_code.specs.Code.{BlockTree}
 use Rattle.rg_floor.specs.Turns.{ClosedView}
-use Rattle.rg_accept.specs.Accepted.{IsBuiltText}
+use Rattle.rgc.specs.Pieces.{IsBuiltInPieces}
 use Rattle.rgc_answers.specs.Records.{run_text}
 use Rattle.rgc_answers.specs.Running.{IsRunLeft}
 
@@ -16,8 +16,8 @@ pub record HasPrintedRunJsonOf (program : ProgramTree) (blocks : List (List Bloc
   pub printed : Appends old new (run_text program closed)
 
 -- the files are accepted for a program, and these are exactly the blocks of its code; it was run, and what it did went out
-pub record HasPrintedRunJson (text derivation proofs : List ℕ) (start moves : Option (Bor (List ℕ))) (limit : ℕ) (old new : Option (List ℕ)) : Type 0 where
+pub record HasPrintedRunJson (text : List ℕ) (derivation proofs : List (List ℕ)) (start moves : Option (Bor (List ℕ))) (limit : ℕ) (old new : Option (List ℕ)) : Type 0 where
   pub program : ProgramTree
   pub blocks : List (List BlockTree)
-  pub built : IsBuiltText text derivation proofs program blocks
+  pub built : IsBuiltInPieces text derivation proofs program blocks
   pub run : HasPrintedRunJsonOf program blocks start moves limit old new

@@ -19,7 +19,7 @@ use Rattle.rg_floor.specs.declared.closed.Passed.{Passed}
 use Rattle.rg_floor.specs.declared.turn.Why.{Why}
 use Rattle.rg_floor.specs.declared.turn.Why.TheVariants.{Ended, Limit, Stuck, Stopped}
 use Rattle.rg_runner.specs.Running.{IsLeftOf}
-use Rattle.rg_accept.specs.Accepted.{IsBuiltText}
+use Rattle.rgc.specs.Pieces.{IsBuiltInPieces}
 
 -- the state at the start: the one that the bytes spell; without any each word is 0
 abbrev pub StartsAt : List Word → Option (Bor (List ℕ)) → State → Type 0
@@ -67,10 +67,10 @@ pub record HasPrintedRunOf (program : ProgramTree) (blocks : List (List BlockTre
   pub printed : Appends old new (lines_of program closed.history ++ why_text closed.why)
 
 -- the files are accepted for a program, and these are exactly the blocks of its code; it was run, and what it did went out
-pub record HasPrintedRun (text derivation proofs : List ℕ) (start moves : Option (Bor (List ℕ))) (limit : ℕ) (old new : Option (List ℕ)) : Type 0 where
+pub record HasPrintedRun (text : List ℕ) (derivation proofs : List (List ℕ)) (start moves : Option (Bor (List ℕ))) (limit : ℕ) (old new : Option (List ℕ)) : Type 0 where
   pub program : ProgramTree
   pub blocks : List (List BlockTree)
-  pub built : IsBuiltText text derivation proofs program blocks
+  pub built : IsBuiltInPieces text derivation proofs program blocks
   pub run : HasPrintedRunOf program blocks start moves limit old new
 
 -- what was read of a file that need not be named: nothing where it isn't, and else its bytes

@@ -7,7 +7,7 @@ ghost use Rattle.rg_words.specs.Written.{CanCount};
 ghost use Rattle.rg_words.specs.Stopped.{IsFailure, IsStopped};
 ghost use Rattle.rg_tree.specs.Conditions.{condition_tree};
 ghost use Rattle.rg_accept.specs.Stages.{derived_program, derived_lines};
-ghost use Rattle.rgc.specs.Chosen.{IsDeriveRefusal};
+ghost use Rattle.rgc.specs.Pieces.{bytes_of, IsDeriveRefusal};
 ghost use Rattle.rgc_answers.specs.Failures.{NoFailure};
 ghost use Rattle.rgc_answers.specs.Blocks.{fixed_text, word_text, words_text, shown_text, block_text, blocks_text, formulas_text};
 ghost use Rattle.rgc_answers.specs.FormulasPrinted.{HasPrintedFormulas};
@@ -108,13 +108,13 @@ fn write_formulas<W: Out>(alloc: Global, derived: &Derived, out: &mut W) -> Resu
 pub fn print_formulas<W: Out>(
     alloc: Global,
     text: &[u8],
-    derivation: &[u8],
+    derivation: &[&[u8]],
     out: &mut W,
 ) -> Result<(), Refusal>
     requires { CanCount (W.failures out.old) }
-    ensures printed { OnOk result (HasPrintedFormulas text.now derivation.now (W.contents out.old) (W.contents out.new)) }
+    ensures printed { OnOk result (HasPrintedFormulas text.now (bytes_of derivation.now) (W.contents out.old) (W.contents out.new)) }
     ensures failures { NoFailure result (W.failures out.old) (W.failures out.new) }
-    ensures stopped { IfErr result (IsStopped (IsDeriveRefusal text.now derivation.now) (W.contents out.old) (W.contents out.new) (W.failures out.old) (W.failures out.new)) }
+    ensures stopped { IfErr result (IsStopped (IsDeriveRefusal text.now (bytes_of derivation.now)) (W.contents out.old) (W.contents out.new) (W.failures out.old) (W.failures out.new)) }
 {
     let derived = derive_program(alloc, text, derivation)?;
     write_formulas(alloc, &derived, out)

@@ -29,6 +29,7 @@ pub use conditions::{write_conditions, write_listing};
 pub use context::Context;
 pub use formulas::formula_of;
 pub use judged::Answer;
+pub use label::Shown;
 pub use numbers::{kind_text, part_name};
 pub use picture::{MOST_DRAWN, draw};
 pub use printed::{

@@ -1,11 +1,10 @@
 //! The picture of a run.
 
 use crate::frame::Frame;
-use crate::label::{label_length, push_cover, push_step};
+use crate::label::{Shown, label_length, push_cover, push_step};
 use crate::pieces::{name_length, push_around, push_name};
 use rg_monitor::record::Record;
 use rg_tree::part::Part;
-use rg_tree::program::Program;
 use std::alloc::AllocError;
 
 /// The most steps that a picture should have, so that a browser shows it at once: of a longer run, draw the last ones.
@@ -41,33 +40,35 @@ A ring stands in the lane of each part whose guarantee covers it.</text>
 ///
 /// There is a lane for the environment and one for each part, in their order from left to right. Each step has a row, in the
 /// order of the records from top to bottom: a mark in the lane of who made it, with the line of the statement, from 1, or `env`;
-/// a ring in each lane whose part's guarantee covers it; and a label with the words that changed, as `name=before>after`.
+/// a ring in each lane whose part's guarantee covers it; and a label with the words that changed, as `name=before>after`. Names of words and lines
+/// are those of `shown`.
 /// The text is ASCII. Lengths are in CSS pixels.
 ///
 /// Nothing is promised of the picture. An error comes only where memory was refused; the text is then of no use.
 pub fn draw(
     text: &mut Vec<u8>,
-    program: &Program,
+    shown: Shown<'_>,
     left_out: u64,
     records: &[Record],
 ) -> Result<(), AllocError> {
-    let frame = frame_of(program, records);
+    let frame = frame_of(shown, records);
     push_start(text, frame)?;
     push_head(text, left_out, records.len() as u64)?;
     push_lane(text, frame, 0, "env")?;
-    push_lanes(text, frame, &program.parts)?;
-    push_rows(text, frame, program, records)?;
+    push_lanes(text, frame, &shown.program.parts)?;
+    push_rows(text, frame, shown, records)?;
     text.extend_from_slice(b"</svg>\n")?;
     Ok(())
 }
 
 /// The sizes of a picture of these records.
-fn frame_of(program: &Program, records: &[Record]) -> Frame {
+fn frame_of(shown: Shown<'_>, records: &[Record]) -> Frame {
+    let parts = &shown.program.parts;
     Frame {
-        lanes: (program.parts.len() as u64).saturating_add(1),
-        longest_name: longest_name(&program.parts),
+        lanes: (parts.len() as u64).saturating_add(1),
+        longest_name: longest_name(parts),
         rows: records.len() as u64,
-        longest_label: longest_label(program, records),
+        longest_label: longest_label(shown, records),
     }
 }
 
@@ -79,10 +80,10 @@ fn longest_name(parts: &[Part]) -> u64 {
     longest
 }
 
-fn longest_label(program: &Program, records: &[Record]) -> u64 {
+fn longest_label(shown: Shown<'_>, records: &[Record]) -> u64 {
     let mut longest = 0;
     for step in records {
-        longest = label_length(program, step).max(longest);
+        longest = label_length(shown, step).max(longest);
     }
     longest
 }
@@ -157,12 +158,12 @@ fn push_lanes(text: &mut Vec<u8>, frame: Frame, parts: &[Part]) -> Result<(), Al
 fn push_rows(
     text: &mut Vec<u8>,
     frame: Frame,
-    program: &Program,
+    shown: Shown<'_>,
     records: &[Record],
 ) -> Result<(), AllocError> {
     let mut row: u64 = 0;
     for step in records {
-        push_row(text, frame, row, program, step)?;
+        push_row(text, frame, row, shown, step)?;
         row = row.saturating_add(1);
     }
     Ok(())
@@ -173,7 +174,7 @@ fn push_row(
     text: &mut Vec<u8>,
     frame: Frame,
     row: u64,
-    program: &Program,
+    shown: Shown<'_>,
     step: &Record,
 ) -> Result<(), AllocError> {
     let top = frame.row_top(row);
@@ -186,8 +187,8 @@ fn push_row(
     push_around(text, b"", step.number(), b"</text>\n")?;
     push_thread(text, frame, top, step.who() as u64)?;
     push_rings(text, frame, top, step.cover())?;
-    push_mark(text, frame, top, step)?;
-    push_label(text, frame, top, program, step)
+    push_mark(text, frame, top, shown, step)?;
+    push_label(text, frame, top, shown, step)
 }
 
 /// Adds the dotted line from a mark to its label.
@@ -229,7 +230,13 @@ fn push_rings(
 }
 
 /// Adds the mark of a step, with the line of the statement or `env`.
-fn push_mark(text: &mut Vec<u8>, frame: Frame, top: u64, step: &Record) -> Result<(), AllocError> {
+fn push_mark(
+    text: &mut Vec<u8>,
+    frame: Frame,
+    top: u64,
+    shown: Shown<'_>,
+    step: &Record,
+) -> Result<(), AllocError> {
     let middle = frame.lane_middle(step.who() as u64);
     text.extend_from_slice(b"<rect")?;
     push_colour(text, step.who() as u64)?;
@@ -246,7 +253,7 @@ fn push_mark(text: &mut Vec<u8>, frame: Frame, top: u64, step: &Record) -> Resul
         text.extend_from_slice(b"env</text>\n")?;
         return Ok(());
     }
-    push_around(text, b"", u64::from(step.line()), b"</text>\n")
+    push_around(text, b"", shown.line_of(step), b"</text>\n")
 }
 
 /// Adds the label of a step, in two lines.
@@ -254,16 +261,16 @@ fn push_label(
     text: &mut Vec<u8>,
     frame: Frame,
     top: u64,
-    program: &Program,
+    shown: Shown<'_>,
     step: &Record,
 ) -> Result<(), AllocError> {
     let left = frame.labels_left();
     push_around(text, b"<text x=\"", left, b"\"")?;
     push_around(text, b" y=\"", top.saturating_add(20), b"\">")?;
-    push_step(text, program, step)?;
+    push_step(text, shown, step)?;
     push_around(text, b"</text>\n<text class=\"u\" x=\"", left, b"\"")?;
     push_around(text, b" y=\"", top.saturating_add(36), b"\">")?;
-    push_cover(text, &program.parts, step.cover())?;
+    push_cover(text, &shown.program.parts, step.cover())?;
     text.extend_from_slice(b"</text>\n")?;
     Ok(())
 }

@@ -74,6 +74,22 @@ pub(crate) fn push_name(text: &mut Vec<u8>, name: &str) -> Result<(), AllocError
     Ok(())
 }
 
+/// Adds a name of ASCII letters, of which only the first are shown.
+pub(crate) fn push_bytes(text: &mut Vec<u8>, name: &[u8]) -> Result<(), AllocError> {
+    for byte in name.get(..MOST_CHARACTERS).unwrap_or(name) {
+        push_character(text, char::from(*byte))?;
+    }
+    if name.len() > MOST_CHARACTERS {
+        text.extend_from_slice(b"..")?;
+    }
+    Ok(())
+}
+
+/// How many characters `push_bytes` shows, at the most.
+pub(crate) fn bytes_length(name: &[u8]) -> u64 {
+    (name.len() as u64).min(MOST_CHARACTERS as u64 + 2)
+}
+
 /// How many characters `push_name` shows, at the most.
 pub(crate) fn name_length(name: &str) -> u64 {
     (name.len() as u64).min(MOST_CHARACTERS as u64 + 2)

@@ -1,22 +1,23 @@
 //! What each command over texts prints.
 
-ghost use Rattle.std.specs.Prelude.{◌≡◌, IsTrue, false, length, IfOk, IfErr, OnOk};
+ghost use Rattle.std.specs.Prelude.{◌≡◌, IsTrue, false, length, map, string_bytes, IfOk, IfErr, OnOk};
 ghost use Rattle.std.specs.Io.KnownBytes.{Appends};
 ghost use Rattle.rg_words.specs.Stopped.{IsFailure, IsStopped};
 ghost use Rattle.rg_words.specs.Written.{CanCount};
 ghost use Rattle.rg_parse.specs.Programs.{IsProgramRefusal};
-ghost use Rattle.rg_accept.specs.Accepted.{conditions_of, IsAcceptTextRefusal};
+ghost use Rattle.rg_accept.specs.Accepted.{conditions_of};
+ghost use Rattle.rgc.specs.Pieces.{bytes_of, IsDeriveRefusal, IsAcceptInPiecesRefusal};
 ghost use Rattle.rg_accept.specs.Names.{names_of_conditions};
 ghost use Rattle.serde_json.specs.View.{view};
 ghost use Rattle.rg_accept.specs.Stages.{derived_program, derived_lines};
-ghost use Rattle.rgc.specs.Chosen.{IsDeriveRefusal, IsChosenClausesRefusal, IsChosenFindRefusal};
+ghost use Rattle.rgc.specs.Chosen.{IsChosenClausesRefusal, IsChosenFindRefusal};
 ghost use Rattle.rgc.specs.Proofs.{IsProveRefusal, IsProvePartRefusal};
 ghost use Rattle.rgc.specs.Valid.{IsClausesRefusal, IsFindRefusal, IsValidRefusal};
 ghost use Rattle.rgc_answers.specs.Failures.{NoFailure};
 ghost use Rattle.rgc_answers.specs.Answered.{AnswersFormula, AnswersCondition};
 ghost use Rattle.rgc_answers.specs.Reported.{unproved_text, HasReportedUnproved, HasReportedUnprovedPart};
 ghost use Rattle.rgc_answers.specs.Inner.Reported.{GaveProofs, GavePart, GaveNone};
-ghost use Rattle.rgc_answers.specs.Printed.{accepted_data, accepted_text, proofs_text, part_text, HasPrintedNumbers, HasPrintedAccepted, HasPrintedConditions, HasPrintedProofs, HasPrintedPart, HasPrintedListing, HasPrintedHolds, HasPrintedClauses, HasPrintedConditionClauses};
+ghost use Rattle.rgc_answers.specs.Printed.{accepted_data, accepted_text, piece_text, proofs_text, part_piece_text, part_text, HasPrintedNumbers, HasPrintedAccepted, HasPrintedConditions, HasPrintedProofs, HasPrintedPart, HasPrintedListing, HasPrintedHolds, HasPrintedClauses, HasPrintedConditionClauses};
 
 use crate::conditions::{write_conditions, write_listing};
 use crate::context::Context;
@@ -28,9 +29,9 @@ use rg_code::checked::Checked;
 use rg_find::Watcher;
 use rg_words::{Out, Refusal, write_all};
 use rgc::{
-    Derived, InThreads, Parsed, ProofsFound, SearchSettings, Unproved, accept_all, build_by,
-    clauses, condition_clauses, derive_program, failures_text, find, find_condition, find_part,
-    find_proofs, valid_by,
+    Derived, InThreads, Parsed, ProofsFound, SearchSettings, Unproved, accept_in_pieces,
+    build_in_pieces, clauses, condition_clauses, derive_program, failures_text, find,
+    find_condition, find_part, find_proofs, valid_by,
 };
 use rgc_line::Format;
 use serde_json::{Value, json};
@@ -99,24 +100,26 @@ fn write_accepted<W: Out>(alloc: Global, format: Format, out: &mut W) -> Result<
 ///
 /// # Errors
 ///
-/// As `rgc::accept_all`; `Write` where the writer failed. `Memory` where memory is refused.
+/// As `rgc::accept_in_pieces`; `Write` where the writer failed. `Memory` where memory is refused.
 pub fn print_accepted<R: Threads + Wait + Sync, P, W: Out>(
     context: &Context<'_, R, P>,
     text: &[u8],
-    derivation: &[u8],
-    proofs: &[u8],
+    derivation: &[&[u8]],
+    proofs: &[&[u8]],
     format: Format,
     out: &mut W,
 ) -> Result<(), Refusal>
     requires { CanCount (W.failures out.old) }
-    ensures printed { OnOk result (HasPrintedAccepted format text.now derivation.now proofs.now (W.contents out.old) (W.contents out.new)) }
+    ensures printed { OnOk result (HasPrintedAccepted format text.now (bytes_of derivation.now) (bytes_of proofs.now) (W.contents out.old) (W.contents out.new)) }
     ensures failures { NoFailure result (W.failures out.old) (W.failures out.new) }
-    ensures stopped { IfErr result (IsStopped (IsAcceptTextRefusal text.now derivation.now proofs.now) (W.contents out.old) (W.contents out.new) (W.failures out.old) (W.failures out.new)) }
+    ensures stopped { IfErr result (IsStopped (IsAcceptInPiecesRefusal text.now (bytes_of derivation.now) (bytes_of proofs.now)) (W.contents out.old) (W.contents out.new) (W.failures out.old) (W.failures out.new)) }
 {
-    accept_all(
-        context.rt,
+    accept_in_pieces(
+        &InThreads {
+            rt: context.rt,
+            threads: context.threads,
+        },
         context.alloc,
-        context.threads,
         text,
         derivation,
         proofs,
@@ -133,41 +136,81 @@ pub fn print_accepted<R: Threads + Wait + Sync, P, W: Out>(
 pub fn print_conditions<W: Out>(
     alloc: Global,
     text: &[u8],
-    derivation: &[u8],
+    derivation: &[&[u8]],
     format: Format,
     out: &mut W,
 ) -> Result<(), Refusal>
     requires { CanCount (W.failures out.old) }
-    ensures printed { OnOk result (HasPrintedConditions format text.now derivation.now (W.contents out.old) (W.contents out.new)) }
+    ensures printed { OnOk result (HasPrintedConditions format text.now (bytes_of derivation.now) (W.contents out.old) (W.contents out.new)) }
     ensures failures { NoFailure result (W.failures out.old) (W.failures out.new) }
-    ensures stopped { IfErr result (IsStopped (IsDeriveRefusal text.now derivation.now) (W.contents out.old) (W.contents out.new) (W.failures out.old) (W.failures out.new)) }
+    ensures stopped { IfErr result (IsStopped (IsDeriveRefusal text.now (bytes_of derivation.now)) (W.contents out.old) (W.contents out.new) (W.failures out.old) (W.failures out.new)) }
 {
     let derived = derive_program(alloc, text, derivation)?;
     write_conditions(alloc, &derived, format, out)
+}
+
+/// Writes a piece of the proofs of so many conditions.
+fn write_piece<W: Out>(
+    alloc: Global,
+    count: usize,
+    piece: &str,
+    format: Format,
+    out: &mut W,
+) -> Result<(), Refusal>
+    requires { CanCount (W.failures out.old) }
+    ensures printed { OnOk result (Appends (W.contents out.old) (W.contents out.new) (piece_text format count piece.now)) }
+    ensures failures { NoFailure result (W.failures out.old) (W.failures out.new) }
+    ensures stopped { IfErr result (IsFailure (W.failures out.old) (W.failures out.new)) }
+{
+    match format {
+        Format::Plain => {
+            write_all(out, piece.as_bytes())?;
+            Ok(())
+        }
+        Format::Json => write_proofs(alloc, count, piece, out),
+    }
 }
 
 /// Writes proofs of all conditions of a derivation.
 fn write_all_proofs<W: Out>(
     alloc: Global,
     derived: &Derived,
-    proofs: &str,
+    pieces: &[String],
     format: Format,
     out: &mut W,
 ) -> Result<(), Refusal>
     requires { CanCount (W.failures out.old) }
-    ensures printed { OnOk result (Appends (W.contents out.old) (W.contents out.new) (proofs_text format (length (conditions_of (derived_program derived.now) (derived_lines derived.now))) proofs.now)) }
+    ensures printed { OnOk result (Appends (W.contents out.old) (W.contents out.new) (proofs_text format (length (conditions_of (derived_program derived.now) (derived_lines derived.now))) (map string_bytes pieces.now))) }
+    ensures failures { NoFailure result (W.failures out.old) (W.failures out.new) }
+    ensures stopped { IfErr result (IsFailure (W.failures out.old) (W.failures out.new)) }
+{
+    let conditions = derived.conditions(alloc)?;
+    let count = conditions.len();
+    for piece in pieces {
+        write_piece(alloc, count, piece, format, out)?;
+    }
+    Ok(())
+}
+
+/// Writes a piece of the proofs of a range of the conditions of a derivation.
+fn write_part_piece<W: Out>(
+    alloc: Global,
+    range: RangeSearch,
+    piece: &str,
+    format: Format,
+    out: &mut W,
+) -> Result<(), Refusal>
+    requires { CanCount (W.failures out.old) }
+    ensures printed { OnOk result (Appends (W.contents out.old) (W.contents out.new) (part_piece_text format range.first range.last piece.now)) }
     ensures failures { NoFailure result (W.failures out.old) (W.failures out.new) }
     ensures stopped { IfErr result (IsFailure (W.failures out.old) (W.failures out.new)) }
 {
     match format {
         Format::Plain => {
-            write_all(out, proofs.as_bytes())?;
+            write_all(out, piece.as_bytes())?;
             Ok(())
         }
-        Format::Json => {
-            let conditions = derived.conditions(alloc)?;
-            write_proofs(alloc, conditions.len(), proofs, out)
-        }
+        Format::Json => write_part(alloc, range.first, range.last, piece, out),
     }
 }
 
@@ -175,22 +218,19 @@ fn write_all_proofs<W: Out>(
 fn write_part_proofs<W: Out>(
     alloc: Global,
     range: RangeSearch,
-    proofs: &str,
+    pieces: &[String],
     format: Format,
     out: &mut W,
 ) -> Result<(), Refusal>
     requires { CanCount (W.failures out.old) }
-    ensures printed { OnOk result (Appends (W.contents out.old) (W.contents out.new) (part_text format range.first range.last proofs.now)) }
+    ensures printed { OnOk result (Appends (W.contents out.old) (W.contents out.new) (part_text format range.first range.last (map string_bytes pieces.now))) }
     ensures failures { NoFailure result (W.failures out.old) (W.failures out.new) }
     ensures stopped { IfErr result (IsFailure (W.failures out.old) (W.failures out.new)) }
 {
-    match format {
-        Format::Plain => {
-            write_all(out, proofs.as_bytes())?;
-            Ok(())
-        }
-        Format::Json => write_part(alloc, range.first, range.last, proofs, out),
+    for piece in pieces {
+        write_part_piece(alloc, range, piece, format, out)?;
     }
+    Ok(())
 }
 
 /// Writes which conditions of a derivation have no proof, and why.
@@ -256,16 +296,16 @@ fn tell_found<W: Out>(
 pub fn print_proofs<R: Threads + Wait + Sync, W: Out, P: Watcher + Copy + Sync>(
     context: &Context<'_, R, P>,
     text: &[u8],
-    derivation: &[u8],
+    derivation: &[&[u8]],
     steps: u64,
     format: Format,
     out: &mut W,
 ) -> Result<bool, Refusal>
     requires { CanCount (W.failures out.old) }
-    ensures printed { IfOk result (λ b. IsTrue b → HasPrintedProofs format text.now derivation.now (W.contents out.old) (W.contents out.new)) }
+    ensures printed { IfOk result (λ b. IsTrue b → HasPrintedProofs format text.now (bytes_of derivation.now) (W.contents out.old) (W.contents out.new)) }
     ensures failures { NoFailure result (W.failures out.old) (W.failures out.new) }
-    ensures reported { IfOk result (λ b. b ≡ false → HasReportedUnproved format text.now derivation.now (W.contents out.old) (W.contents out.new)) }
-    ensures stopped { IfErr result (IsStopped (IsProveRefusal text.now derivation.now steps) (W.contents out.old) (W.contents out.new) (W.failures out.old) (W.failures out.new)) }
+    ensures reported { IfOk result (λ b. b ≡ false → HasReportedUnproved format text.now (bytes_of derivation.now) (W.contents out.old) (W.contents out.new)) }
+    ensures stopped { IfErr result (IsStopped (IsProveRefusal text.now (bytes_of derivation.now) steps) (W.contents out.old) (W.contents out.new) (W.failures out.old) (W.failures out.new)) }
 {
     let derived = derive_program(context.alloc, text, derivation)?;
     let found = find_proofs(
@@ -316,16 +356,16 @@ fn tell_part<W: Out>(
 pub fn print_proofs_part<R: Threads + Wait + Sync, W: Out, P: Watcher + Copy + Sync>(
     context: &Context<'_, R, P>,
     text: &[u8],
-    derivation: &[u8],
+    derivation: &[&[u8]],
     range: RangeSearch,
     format: Format,
     out: &mut W,
 ) -> Result<bool, Refusal>
     requires { CanCount (W.failures out.old) }
-    ensures printed { IfOk result (λ b. IsTrue b → HasPrintedPart format text.now derivation.now range.first range.last (W.contents out.old) (W.contents out.new)) }
+    ensures printed { IfOk result (λ b. IsTrue b → HasPrintedPart format text.now (bytes_of derivation.now) range.first range.last (W.contents out.old) (W.contents out.new)) }
     ensures failures { NoFailure result (W.failures out.old) (W.failures out.new) }
-    ensures reported { IfOk result (λ b. b ≡ false → HasReportedUnprovedPart format text.now derivation.now range.first range.last (W.contents out.old) (W.contents out.new)) }
-    ensures stopped { IfErr result (IsStopped (IsProvePartRefusal text.now derivation.now range.first range.last range.steps) (W.contents out.old) (W.contents out.new) (W.failures out.old) (W.failures out.new)) }
+    ensures reported { IfOk result (λ b. b ≡ false → HasReportedUnprovedPart format text.now (bytes_of derivation.now) range.first range.last (W.contents out.old) (W.contents out.new)) }
+    ensures stopped { IfErr result (IsStopped (IsProvePartRefusal text.now (bytes_of derivation.now) range.first range.last range.steps) (W.contents out.old) (W.contents out.new) (W.failures out.old) (W.failures out.new)) }
 {
     let derived = derive_program(context.alloc, text, derivation)?;
     let settings = SearchSettings {
@@ -342,20 +382,20 @@ pub fn print_proofs_part<R: Threads + Wait + Sync, W: Out, P: Watcher + Copy + S
 ///
 /// # Errors
 ///
-/// As `rgc::build_by`; `Write` where the writer failed. `Memory` where memory is refused.
+/// As `rgc::build_in_pieces`; `Write` where the writer failed. `Memory` where memory is refused.
 pub fn print_listing<R: Threads + Wait + Sync, P, W: Out>(
     context: &Context<'_, R, P>,
     text: &[u8],
-    derivation: &[u8],
-    proofs: &[u8],
+    derivation: &[&[u8]],
+    proofs: &[&[u8]],
     out: &mut W,
 ) -> Result<(), Refusal>
     requires { CanCount (W.failures out.old) }
-    ensures printed { OnOk result (HasPrintedListing text.now derivation.now proofs.now (W.contents out.old) (W.contents out.new)) }
+    ensures printed { OnOk result (HasPrintedListing text.now (bytes_of derivation.now) (bytes_of proofs.now) (W.contents out.old) (W.contents out.new)) }
     ensures failures { NoFailure result (W.failures out.old) (W.failures out.new) }
-    ensures stopped { IfErr result (IsStopped (IsAcceptTextRefusal text.now derivation.now proofs.now) (W.contents out.old) (W.contents out.new) (W.failures out.old) (W.failures out.new)) }
+    ensures stopped { IfErr result (IsStopped (IsAcceptInPiecesRefusal text.now (bytes_of derivation.now) (bytes_of proofs.now)) (W.contents out.old) (W.contents out.new) (W.failures out.old) (W.failures out.new)) }
 {
-    let emitted = build_by(
+    let emitted = build_in_pieces(
         &InThreads {
             rt: context.rt,
             threads: context.threads,
@@ -421,14 +461,14 @@ pub fn print_clauses<W: Out>(alloc: Global, text: &[u8], out: &mut W) -> Result<
 pub fn print_condition_clauses<W: Out>(
     alloc: Global,
     text: &[u8],
-    derivation: &[u8],
+    derivation: &[&[u8]],
     number: u64,
     out: &mut W,
 ) -> Result<(), Refusal>
     requires { CanCount (W.failures out.old) }
-    ensures printed { OnOk result (HasPrintedConditionClauses text.now derivation.now number (W.contents out.old) (W.contents out.new)) }
+    ensures printed { OnOk result (HasPrintedConditionClauses text.now (bytes_of derivation.now) number (W.contents out.old) (W.contents out.new)) }
     ensures failures { NoFailure result (W.failures out.old) (W.failures out.new) }
-    ensures stopped { IfErr result (IsStopped (IsChosenClausesRefusal text.now derivation.now number) (W.contents out.old) (W.contents out.new) (W.failures out.old) (W.failures out.new)) }
+    ensures stopped { IfErr result (IsStopped (IsChosenClausesRefusal text.now (bytes_of derivation.now) number) (W.contents out.old) (W.contents out.new) (W.failures out.old) (W.failures out.new)) }
 {
     let (_condition, clauses) = condition_clauses(alloc, text, derivation, number)?;
     clauses.write_cnf(out)?;
@@ -464,15 +504,15 @@ pub fn print_found<R, W: Out, P: Watcher + Copy>(
 pub fn print_condition_found<R, W: Out, P: Watcher + Copy>(
     context: &Context<'_, R, P>,
     text: &[u8],
-    derivation: &[u8],
+    derivation: &[&[u8]],
     number: u64,
     steps: u64,
     out: &mut W,
 ) -> Result<Answer, Refusal>
     requires { CanCount (W.failures out.old) }
-    ensures answered { IfOk result (AnswersCondition text.now derivation.now number (W.contents out.old) (W.contents out.new)) }
+    ensures answered { IfOk result (AnswersCondition text.now (bytes_of derivation.now) number (W.contents out.old) (W.contents out.new)) }
     ensures failures { NoFailure result (W.failures out.old) (W.failures out.new) }
-    ensures stopped { IfErr result (IsStopped (IsChosenFindRefusal text.now derivation.now number steps) (W.contents out.old) (W.contents out.new) (W.failures out.old) (W.failures out.new)) }
+    ensures stopped { IfErr result (IsStopped (IsChosenFindRefusal text.now (bytes_of derivation.now) number steps) (W.contents out.old) (W.contents out.new) (W.failures out.old) (W.failures out.new)) }
 {
     let mut watcher = *context.watcher;
     let (condition, judged) = find_condition(

@@ -6,6 +6,7 @@ ghost use Rattle.rg_words.specs.Stopped.{IsFailure};
 ghost use Rattle.rg_words.specs.Written.{CanCount};
 ghost use Rattle.rg_accept.specs.Stages.{emitted_program, emitted_blocks};
 ghost use Rattle.rg_tree.specs.ProgramTrees.{program as program_tree};
+ghost use Rattle.rgc.specs.Pieces.{bytes_of};
 ghost use Rattle.rgc_answers.specs.Failures.{NoFailure};
 ghost use Rattle.rgc_answers.specs.Lines.{json_line};
 ghost use Rattle.rgc_answers.specs.Records.{records_text, passed_text, end_data, run_text};
@@ -16,14 +17,14 @@ use crate::context::Context;
 use crate::ends::{end_line, passed_line};
 use crate::records::record_line;
 use crate::running::{RunFiles, Unread, play_files};
-use rg_accept::{Emitted, build_by};
+use rg_accept::Emitted;
 use rg_code::checked::Checked;
 use rg_floor::closed::{Closed, Passed};
 use rg_floor::turn::Why;
 use rg_monitor::record::Record;
 use rg_tree::program::Program;
 use rg_words::{Out, Refusal, write_all};
-use rgc::InThreads;
+use rgc::{InThreads, build_in_pieces};
 use std::alloc::Global;
 use std::sync::Wait;
 use std::thread::Threads;
@@ -126,11 +127,11 @@ pub fn print_run_json<R: Threads + Wait + Sync, P, W: Out>(
     out: &mut W,
 ) -> Result<(), Refusal>
     requires { CanCount (W.failures out.old) }
-    ensures printed { OnOk result (HasPrintedRunJson files.entry.text.now files.entry.derivation.now files.entry.proofs.now files.entry.start files.entry.moves files.entry.limit (W.contents out.old) (W.contents out.new)) }
+    ensures printed { OnOk result (HasPrintedRunJson files.entry.text.now (bytes_of files.entry.derivation.now) (bytes_of files.entry.proofs.now) files.entry.start files.entry.moves files.entry.limit (W.contents out.old) (W.contents out.new)) }
     ensures failures { NoFailure result (W.failures out.old) (W.failures out.new) }
-    ensures stopped { IfErr result (IsRunStopped (IsRunRefusal files.entry.text.now files.entry.derivation.now files.entry.proofs.now files.entry.start files.entry.moves files.entry.limit) (W.contents out.old) (W.contents out.new) (W.failures out.old) (W.failures out.new)) }
+    ensures stopped { IfErr result (IsRunStopped (IsRunRefusal files.entry.text.now (bytes_of files.entry.derivation.now) (bytes_of files.entry.proofs.now) files.entry.start files.entry.moves files.entry.limit) (W.contents out.old) (W.contents out.new) (W.failures out.old) (W.failures out.new)) }
 {
-    let emitted = build_by(
+    let emitted = build_in_pieces(
         &InThreads {
             rt: context.rt,
             threads: files.threads,

@@ -9,23 +9,24 @@ ghost use Rattle.rg_words.specs.Written.{CanCount};
 ghost use Rattle.rg_tree.specs.Moves.{move as move_tree, AreMoves};
 ghost use Rattle.rg_monitor.specs.Lines.{lines_of};
 ghost use Rattle.rg_accept.specs.Stages.{emitted_program, emitted_blocks};
+ghost use Rattle.rgc.specs.Pieces.{bytes_of};
 ghost use Rattle.rgc_answers.specs.Failures.{NoFailure};
 ghost use Rattle.rgc_answers.specs.Running.{StartsAt, AreTheMoves, IsRunLeft, HasPrintedRunOf, HasPrintedRun, why_text, passed_line, passed_text, HasReportedPassed};
 ghost use Rattle.rgc_answers.specs.Refused.{IsUnreadStart, AreUnreadMoves, opening_refusal, IsUnbegun, IsRunRefusal, IsRunStopped};
 
-use crate::{Context, MOST_DRAWN, draw};
-use rg_accept::{Emitted, build_by};
+use crate::{Context, MOST_DRAWN, Shown, draw};
+use rg_accept::Emitted;
 use rg_code::checked::Checked;
 use rg_floor::closed::{Closed, Passed};
 use rg_floor::turn::Why;
-use rg_runner::gate::Open;
 use rg_runner::player::play;
+use rg_runner::seeded::Seeded;
 use rg_runner::stage::Stage;
 use rg_tree::moves::Move;
 use rg_words::{
     Layout, Out, Place, Refusal, RefusalNumber, SourceFile, State, WriteFault, write_all,
 };
-use rgc::InThreads;
+use rgc::{InThreads, build_in_pieces};
 use std::alloc::{AllocError, Global};
 use std::sync::Wait;
 use std::thread::Threads;
@@ -34,11 +35,13 @@ use std::thread::Threads;
 #[derive(Clone, Copy)]
 pub struct RunFiles<'a> {
     pub text: &'a [u8],
-    pub derivation: &'a [u8],
-    pub proofs: &'a [u8],
+    pub derivation: &'a [&'a [u8]],
+    pub proofs: &'a [&'a [u8]],
     pub start: Option<&'a [u8]>,
     pub moves: Option<&'a [u8]>,
     pub limit: u64,
+    /// The word by which one part after another is let go, where there is one.
+    pub seed: Option<&'a str>,
     pub is_drawn: bool,
     /// The most threads in which conditions are looked at; the run itself has one for each part.
     pub threads: usize,
@@ -136,7 +139,12 @@ fn passed_lines(alloc: Global, passed: &[Passed]) -> Result<String, AllocError>
 fn draw_run(alloc: Global, closed: &Closed<'_>, picture: &mut Vec<u8>) -> Result<(), AllocError> {
     let left_out = closed.len().saturating_sub(MOST_DRAWN);
     let records = closed.records_from(alloc, left_out.saturating_add(1))?;
-    draw(picture, closed.program(), left_out as u64, &records)
+    let shown = Shown {
+        program: closed.program(),
+        words: &[],
+        lines: &[],
+    };
+    draw(picture, shown, left_out as u64, &records)
 }
 
 /// Ends a run: it is drawn where that is asked, the line that says why it is over is printed, and the moves that were passed over are reported.
@@ -192,10 +200,11 @@ pub fn play_files<'e, R: Threads + Wait + Sync, W: Out>(
     let layout = &emitted.program().layout;
     let first = first_state(alloc, layout, files.start)?;
     let moves = all_moves(alloc, layout, files.moves)?;
+    let gate = Seeded::new(files.seed, emitted.code().parts.len(), !moves.is_empty());
     let stage = Stage {
         rt,
         alloc,
-        gate: &Open,
+        gate: &gate,
         moves: &moves,
     };
     match play(&stage, emitted, first, files.limit, out) {
@@ -229,7 +238,7 @@ fn print_emitted<R: Threads + Wait + Sync, P, W: Out, F: Out>(
 ///
 /// # Errors
 ///
-/// As `rg_accept::build_by`; then the first fault of the start, and that of the moves; then `Limit` for too many steps, and
+/// As `rgc::build_in_pieces`; then the first fault of the start, and that of the moves; then `Limit` for too many steps, and
 /// `StartOutsidePre`; nothing is printed then. `Write` where the writer failed, `Memory` where memory is refused, in any thread. `Mismatch` or
 /// `Stranger` where what is left of the run isn't as it was printed; no run has been seen to be so.
 pub fn print_run<R: Threads + Wait + Sync, P, W: Out, F: Out>(
@@ -241,12 +250,12 @@ pub fn print_run<R: Threads + Wait + Sync, P, W: Out, F: Out>(
 ) -> Result<(), Refusal>
     requires out { CanCount (W.failures out.old) }
     requires faults { CanCount (F.failures faults.old) }
-    ensures printed { OnOk result (HasPrintedRun files.entry.text.now files.entry.derivation.now files.entry.proofs.now files.entry.start files.entry.moves files.entry.limit (W.contents out.old) (W.contents out.new)) }
+    ensures printed { OnOk result (HasPrintedRun files.entry.text.now (bytes_of files.entry.derivation.now) (bytes_of files.entry.proofs.now) files.entry.start files.entry.moves files.entry.limit (W.contents out.old) (W.contents out.new)) }
     ensures failures { NoFailure result (W.failures out.old) (W.failures out.new) }
-    ensures stopped { IfErr result (IsRunStopped (IsRunRefusal files.entry.text.now files.entry.derivation.now files.entry.proofs.now files.entry.start files.entry.moves files.entry.limit) (W.contents out.old) (W.contents out.new) (W.failures out.old) (W.failures out.new)) }
+    ensures stopped { IfErr result (IsRunStopped (IsRunRefusal files.entry.text.now (bytes_of files.entry.derivation.now) (bytes_of files.entry.proofs.now) files.entry.start files.entry.moves files.entry.limit) (W.contents out.old) (W.contents out.new) (W.failures out.old) (W.failures out.new)) }
     ensures quiet { OnErr result (F.failures faults.new ≡ F.failures faults.old) }
 {
-    let emitted = build_by(
+    let emitted = build_in_pieces(
         &InThreads {
             rt: context.rt,
             threads: files.threads,

@@ -10,6 +10,7 @@ use Rattle.rgc_line.specs.declared.command.Command.TheVariants.{Number, Check, C
 use Rattle.rgc_line.specs.declared.command.Outlines.{Outlines}
 use Rattle.rgc_line.specs.declared.command.Format.{Format}
 use Rattle.rgc_outlines.specs.Challenged.{IsChallengeStopped}
+use Rattle.rgc_outlines.specs.declared.verdict.VerdictForm.{VerdictForm}
 use Rattle.rg_outline_reports.specs.declared.files.NoFiles.{NoFiles}
 use Rattle.rg_outline_reports.specs.declared.files.OutlineFiles.{OutlineFiles}
 use Rattle.rg_outline_reports.specs.declared.outlined.Outlined.{Outlined}
@@ -107,9 +108,9 @@ verdict_kept of old middle new (form, verdict) none = (
 )
 
 -- there is no verdict on an outline, or its changes are refused after it
-pub challenge_stops : (format : Format) (o : Bor (List ℕ)) (has_refused : Bool) (files : Files) (of : OutlineFiles) (old new : Option (List ℕ)) (m n : ℕ) (e : Refusal) → outline_files files.outline ≡ Some of → IsChallengeStopped of MOST_STEPS old new m n e → StopsLine format (Challenge o has_refused) files old new m n (Refused e)
-challenge_stops format o has_refused files of old new m n e is (inl h) = files_stop format (Challenge o has_refused) files (IsVerifyRefusal of MOST_STEPS) old new m n e (λ e why. inr (rw is why)) h
-challenge_stops format o has_refused files of old new m n e is (inr late) =
+pub challenge_stops : (format : Format) (o : Bor (List ℕ)) (has_refused : Bool) (files : Files) (of : OutlineFiles) (form : VerdictForm) (old new : Option (List ℕ)) (m n : ℕ) (e : Refusal) → outline_files files.outline ≡ Some of → IsChallengeStopped form of MOST_STEPS old new m n e → StopsLine format (Challenge o has_refused) files old new m n (Refused e)
+challenge_stops format o has_refused files of form old new m n e is (inl h) = files_stop format (Challenge o has_refused) files (IsVerifyRefusal of MOST_STEPS) old new m n e (λ e why. inr (rw is why)) h
+challenge_stops format o has_refused files of form old new m n e is (inr late) =
     ⊎_elim
     (λ why. inr (inr (rw is (verdict_kept of old late.middle new (_, late.verdict) why.1, why.2))))
     (λ why. inl (inr why))

@@ -15,7 +15,8 @@ use Rattle.rgc_answers.specs.Running.{IsRead}
 use Rattle.rgc_commands.specs.declared.files.Files.{Files}
 use Rattle.rgc_commands.specs.declared.stops.Stop.{Stop}
 use Rattle.rgc_commands.specs.declared.stops.Stop.TheVariants.{Device, Refused, Outline, Usage, Reported, GaveUp}
-use Rattle.rgc_commands.specs.Done.{SpellsRange}
+use Rattle.rgc.specs.Pieces.{bytes_of}
+use Rattle.rgc_commands.specs.Done.{Pieces, SpellsRange}
 use Rattle.rgc_commands.specs.Stopped.{unread_line, unless_read, TellsWhy, IsOverRun, IsRunUnlike, IsMisfit, IsUntouched, RefusesProofs, RefusesRun}
 use Rattle.rgc_commands.specs.Inner.TextStops.{IsDevice, IsOverTexts, Stops}
 use Rattle.rgc_commands.specs.Inner.Answers.{IsStopOf}
@@ -45,7 +46,7 @@ formula_stops f t steps files text old new m n Failed (Err stop) is answers same
 formula_stops f t steps files text old new m n (Unknown why) (Err stop) is answers same h = rw (h, is) (answers, same)
 
 -- the same of a condition
-pub condition_stops : (f : Format) (t : Bor (List ℕ)) (steps : ℕ) (chosen : Chosen) (files : Files) (text derivation : Bor (List ℕ)) (old new : Option (List ℕ)) (m n : ℕ) (answer : Answer) (r : Result (Unit {0}) Stop) → files.text ≡ Some text → files.derivation ≡ Some derivation → AnswersCondition text.now derivation.now chosen.condition old new answer → n ≡ m → IfErr r (IsStopOf answer) → IfErr r (Stops f (Find t steps (Some chosen)) files old new m n)
+pub condition_stops : (f : Format) (t : Bor (List ℕ)) (steps : ℕ) (chosen : Chosen) (files : Files) (text : Bor (List ℕ)) (derivation : Pieces) (old new : Option (List ℕ)) (m n : ℕ) (answer : Answer) (r : Result (Unit {0}) Stop) → files.text ≡ Some text → files.derivation ≡ Some derivation → AnswersCondition text.now (bytes_of derivation.now) chosen.condition old new answer → n ≡ m → IfErr r (IsStopOf answer) → IfErr r (Stops f (Find t steps (Some chosen)) files old new m n)
 condition_stops f t steps chosen files text derivation old new m n answer (Ok x) is from answers same h = tt
 condition_stops f t steps chosen files text derivation old new m n Proved (Err stop) is from answers same h = absurd h
 condition_stops f t steps chosen files text derivation old new m n Failed (Err stop) is from answers same h = rw (h, is, from) (answers, same)
@@ -56,12 +57,12 @@ pub usage_stops : (format : Format) (command : Command) (files : Files) (old : O
 usage_stops format command files old m h = (h, (appends_none old, refl))
 
 -- the proofs of a range are refused
-pub range_stops : (text derivation : List ℕ) (range : Bor (List ℕ)) (first last steps : ℕ) (old new : Option (List ℕ)) (m n : ℕ) (e : Refusal) → SpellsRange range.now first last → IsStopped (IsProvePartRefusal text derivation first last steps) old new m n e → IsStopped (RefusesProofs (Some range) text derivation steps) old new m n e
+pub range_stops : (text : List ℕ) (derivation : List (List ℕ)) (range : Bor (List ℕ)) (first last steps : ℕ) (old new : Option (List ℕ)) (m n : ℕ) (e : Refusal) → SpellsRange range.now first last → IsStopped (IsProvePartRefusal text derivation first last steps) old new m n e → IsStopped (RefusesProofs (Some range) text derivation steps) old new m n e
 range_stops text derivation range first last steps old new m n e spells (inl why) = inl ((first, last, spells, why.0), why.1, why.2)
 range_stops text derivation range first last steps old new m n e spells (inr why) = inr why
 
 -- a run is refused, with a start and with moves where the command names such files
-pub named_run_stops : {A : Type 0} (command : Command) (text derivation proofs : List ℕ) (start moves : Option A) (limit : ℕ) (start_bytes moves_bytes first moving : Option (Bor (List ℕ))) (old new : Option (List ℕ)) (m n : ℕ) (e : Refusal)
+pub named_run_stops : {A : Type 0} (command : Command) (text : List ℕ) (derivation proofs : List (List ℕ)) (start moves : Option A) (limit : ℕ) (start_bytes moves_bytes first moving : Option (Bor (List ℕ))) (old new : Option (List ℕ)) (m n : ℕ) (e : Refusal)
     → IsOverRun command → IsRead start start_bytes first → IsRead moves moves_bytes moving → IsRunStopped (IsRunRefusal text derivation proofs first moving limit) old new m n e
     → IsStopped (RefusesRun text derivation proofs start moves limit start_bytes moves_bytes) old new m n e ⊎ IsRunUnlike command m n e
 named_run_stops command text derivation proofs start moves limit start_bytes moves_bytes first moving old new m n e over read read_moves (inl (inl why)) =
@@ -70,7 +71,7 @@ named_run_stops command text derivation proofs start moves limit start_bytes mov
 named_run_stops command text derivation proofs start moves limit start_bytes moves_bytes first moving old new m n e over read read_moves (inr why) = inr (over, why.0, why.1)
 
 -- the next file can't be read, where this one can
-pub read_past : (file : Option (Bor (List ℕ))) (bytes : Bor (List ℕ)) (line : List ℕ) (rest : Option (List ℕ)) (stop : Stop) → file ≡ Some bytes → IsDevice rest stop → IsDevice (unless_read file line rest) stop
+pub read_past : {A : Type 0} (file : Option A) (bytes : A) (line : List ℕ) (rest : Option (List ℕ)) (stop : Stop) → file ≡ Some bytes → IsDevice rest stop → IsDevice (unless_read file line rest) stop
 read_past file bytes line rest stop is h = rw is h
 
 -- a command that none of these matches isn't over texts

@@ -1,11 +1,12 @@
 -- Why a command over texts isn't done.
 use Rattle.std.specs.Prelude.{◌≡◌, ℕ, List, [], Option, Some, None, Bool, true, false, codes}
+use Rattle.std.specs.List.{concat}
 use Rattle.std.specs.Borrow.{Bor}
 use Rattle.std.specs.Io.KnownBytes.{Appends}
 use Rattle.rg_words.specs.declared.refusal.Refusal.{Refusal}
 use Rattle.rg_parse.specs.Programs.{IsProgramRefusal}
-use Rattle.rg_accept.specs.Accepted.{IsAcceptTextRefusal}
-use Rattle.rgc.specs.Chosen.{IsDeriveRefusal, IsChosenClausesRefusal, IsChosenFindRefusal}
+use Rattle.rgc.specs.Pieces.{bytes_of, IsDeriveRefusal, IsAcceptInPiecesRefusal}
+use Rattle.rgc.specs.Chosen.{IsChosenClausesRefusal, IsChosenFindRefusal}
 use Rattle.rgc.specs.Proofs.{IsProveRefusal, IsProvePartRefusal}
 use Rattle.rgc.specs.Valid.{IsClausesRefusal, IsFindRefusal, IsValidRefusal}
 use Rattle.rgc_line.specs.declared.command.Command.{Command}
@@ -17,7 +18,7 @@ use Rattle.rgc_answers.specs.Running.{IsRead}
 use Rattle.rgc_answers.specs.Answered.{HasReportedFormula, HasReportedCondition, HasGivenUpFormula, HasGivenUpCondition}
 use Rattle.rgc_answers.specs.Reported.{HasReportedUnproved, HasReportedUnprovedPart}
 use Rattle.rgc_commands.specs.declared.files.Files.{Files}
-use Rattle.rgc_commands.specs.Done.{SpellsRange}
+use Rattle.rgc_commands.specs.Done.{Pieces, SpellsRange}
 
 -- a writer is as it was
 abbrev pub IsUntouched : Option (List ℕ) → Option (List ℕ) → ℕ → ℕ → Type 0
@@ -75,12 +76,12 @@ IsOverRun (RunOutline _ _ _ _ _) = Unit {0}
 IsOverRun _ = ⊥
 
 -- why a search for proofs of all conditions is refused, or of the range that the word names
-abbrev pub RefusesProofs : Option (Bor (List ℕ)) → List ℕ → List ℕ → ℕ → Refusal → Type 0
+abbrev pub RefusesProofs : Option (Bor (List ℕ)) → List ℕ → List (List ℕ) → ℕ → Refusal → Type 0
 RefusesProofs None text derivation steps e = IsProveRefusal text derivation steps e
 RefusesProofs (Some range) text derivation steps e = (first last : ℕ) × SpellsRange range.now first last × IsProvePartRefusal text derivation first last steps e
 
 -- why a run is refused, with a start and with moves where the command names such files
-pub record RefusesRun {A : Type 0} (text derivation proofs : List ℕ) (start moves : Option A) (limit : ℕ) (start_bytes moves_bytes : Option (Bor (List ℕ))) (e : Refusal) : Type 0 where
+pub record RefusesRun {A : Type 0} (text : List ℕ) (derivation proofs : List (List ℕ)) (start moves : Option A) (limit : ℕ) (start_bytes moves_bytes : Option (Bor (List ℕ))) (e : Refusal) : Type 0 where
   pub first : Option (Bor (List ℕ))
   pub first_read : IsRead start start_bytes first
   pub moving : Option (Bor (List ℕ))
@@ -88,19 +89,19 @@ pub record RefusesRun {A : Type 0} (text derivation proofs : List ℕ) (start mo
   pub refusal : IsRunRefusal text derivation proofs first moving limit e
 
 -- why a text, a derivation, proofs, a start and moves are refused, by the command over them
-abbrev pub RefusesTexts : Command → Option (Bor (List ℕ)) → Option (Bor (List ℕ)) → Option (Bor (List ℕ)) → Option (Bor (List ℕ)) → Option (Bor (List ℕ)) → Refusal → Type 0
+abbrev pub RefusesTexts : Command → Option (Bor (List ℕ)) → Option Pieces → Option Pieces → Option (Bor (List ℕ)) → Option (Bor (List ℕ)) → Refusal → Type 0
 RefusesTexts (Number _) (Some text) _ _ _ _ e = IsProgramRefusal text.now e
-RefusesTexts (Check _ _ _) (Some text) (Some derivation) (Some proofs) _ _ e = IsAcceptTextRefusal text.now derivation.now proofs.now e
-RefusesTexts (Conditions _ _ _) (Some text) (Some derivation) _ _ _ e = IsDeriveRefusal text.now derivation.now e
-RefusesTexts (Prove _ _ steps range) (Some text) (Some derivation) _ _ _ e = RefusesProofs range text.now derivation.now steps e
-RefusesTexts (Emit _ _ _) (Some text) (Some derivation) (Some proofs) _ _ e = IsAcceptTextRefusal text.now derivation.now proofs.now e
+RefusesTexts (Check _ _ _) (Some text) (Some derivation) (Some proofs) _ _ e = IsAcceptInPiecesRefusal text.now (bytes_of derivation.now) (bytes_of proofs.now) e
+RefusesTexts (Conditions _ _ _) (Some text) (Some derivation) _ _ _ e = IsDeriveRefusal text.now (bytes_of derivation.now) e
+RefusesTexts (Prove _ _ steps range) (Some text) (Some derivation) _ _ _ e = RefusesProofs range text.now (bytes_of derivation.now) steps e
+RefusesTexts (Emit _ _ _) (Some text) (Some derivation) (Some proofs) _ _ e = IsAcceptInPiecesRefusal text.now (bytes_of derivation.now) (bytes_of proofs.now) e
 RefusesTexts (Run _ _ _ start moves limit _) (Some text) (Some derivation) (Some proofs) first moving e =
-    RefusesRun text.now derivation.now proofs.now start moves limit first moving e
-RefusesTexts (Valid _ _) (Some text) _ (Some proofs) _ _ e = IsValidRefusal text.now proofs.now e
+    RefusesRun text.now (bytes_of derivation.now) (bytes_of proofs.now) start moves limit first moving e
+RefusesTexts (Valid _ _) (Some text) _ (Some proofs) _ _ e = IsValidRefusal text.now (concat (bytes_of proofs.now)) e
 RefusesTexts (Clauses _ None) (Some text) _ _ _ _ e = IsClausesRefusal text.now e
-RefusesTexts (Clauses _ (Some chosen)) (Some text) (Some derivation) _ _ _ e = IsChosenClausesRefusal text.now derivation.now chosen.condition e
+RefusesTexts (Clauses _ (Some chosen)) (Some text) (Some derivation) _ _ _ e = IsChosenClausesRefusal text.now (bytes_of derivation.now) chosen.condition e
 RefusesTexts (Find _ steps None) (Some text) _ _ _ _ e = IsFindRefusal text.now steps e
-RefusesTexts (Find _ steps (Some chosen)) (Some text) (Some derivation) _ _ _ e = IsChosenFindRefusal text.now derivation.now chosen.condition steps e
+RefusesTexts (Find _ steps (Some chosen)) (Some text) (Some derivation) _ _ _ e = IsChosenFindRefusal text.now (bytes_of derivation.now) chosen.condition steps e
 RefusesTexts _ _ _ _ _ _ e = ⊥
 
 -- the files of a command are refused so; an explanation has none that could be refused
@@ -117,15 +118,15 @@ is_plain Plain = true
 is_plain Json = false
 
 -- which conditions, or which of a range, have no proof went out, in the format, and what it tells is so
-abbrev pub HasReportedProofs : Format → Option (Bor (List ℕ)) → List ℕ → List ℕ → Option (List ℕ) → Option (List ℕ) → Type 0
+abbrev pub HasReportedProofs : Format → Option (Bor (List ℕ)) → List ℕ → List (List ℕ) → Option (List ℕ) → Option (List ℕ) → Type 0
 HasReportedProofs format None text derivation old new = HasReportedUnproved format text derivation old new
 HasReportedProofs format (Some range) text derivation old new = (first last : ℕ) × SpellsRange range.now first last × HasReportedUnprovedPart format text derivation first last old new
 
 -- of a text and a derivation: what went out tells why there are no proofs, and is so
-abbrev pub TellsOf : Format → Command → Option (Bor (List ℕ)) → Option (Bor (List ℕ)) → Option (List ℕ) → Option (List ℕ) → Type 0
-TellsOf format (Prove _ _ _ range) (Some text) (Some derivation) old new = HasReportedProofs format range text.now derivation.now old new
+abbrev pub TellsOf : Format → Command → Option (Bor (List ℕ)) → Option Pieces → Option (List ℕ) → Option (List ℕ) → Type 0
+TellsOf format (Prove _ _ _ range) (Some text) (Some derivation) old new = HasReportedProofs format range text.now (bytes_of derivation.now) old new
 TellsOf format (Find _ _ None) (Some text) _ old new = HasReportedFormula text.now old new
-TellsOf format (Find _ _ (Some chosen)) (Some text) (Some derivation) old new = HasReportedCondition text.now derivation.now chosen.condition old new
+TellsOf format (Find _ _ (Some chosen)) (Some text) (Some derivation) old new = HasReportedCondition text.now (bytes_of derivation.now) chosen.condition old new
 TellsOf format _ _ _ old new = ⊥
 
 -- the output tells why there is no proof, and what it tells is so
@@ -133,9 +134,9 @@ abbrev pub TellsWhy : Format → Command → Files → Option (List ℕ) → Opt
 TellsWhy format command files old new = TellsOf format command files.text files.derivation old new
 
 -- of a text and a derivation: it went out that a search gave up, and this line says why
-abbrev pub GivesUpOf : Command → Option (Bor (List ℕ)) → Option (Bor (List ℕ)) → List ℕ → Option (List ℕ) → Option (List ℕ) → Type 0
+abbrev pub GivesUpOf : Command → Option (Bor (List ℕ)) → Option Pieces → List ℕ → Option (List ℕ) → Option (List ℕ) → Type 0
 GivesUpOf (Find _ _ None) (Some text) _ line old new = HasGivenUpFormula text.now line old new
-GivesUpOf (Find _ _ (Some chosen)) (Some text) (Some derivation) line old new = HasGivenUpCondition text.now derivation.now chosen.condition line old new
+GivesUpOf (Find _ _ (Some chosen)) (Some text) (Some derivation) line old new = HasGivenUpCondition text.now (bytes_of derivation.now) chosen.condition line old new
 GivesUpOf _ _ _ line old new = ⊥
 
 -- it went out that a search gave up, and this line says why

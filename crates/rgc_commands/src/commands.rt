@@ -12,7 +12,9 @@ ghost use Rattle.rgc_commands.specs.Inner.Answers.{IsStopOf};
 ghost use Rattle.rgc_answers.specs.Failures.{NoFailure};
 
 use crate::entries::{entry_of, print_explanation};
-use crate::files::{Files, derivation_of, inputs, proofs_of, text_of, three_files, two_files};
+use crate::files::{
+    Files, derivation_of, inputs, joined, proofs_of, text_of, three_files, two_files,
+};
 use crate::stops::Stop;
 use rg_find::Watcher;
 use rg_words::{Out, Taker, write_all};
@@ -209,8 +211,8 @@ pub(crate) fn emit<R: Threads + Wait + Sync, P, W: Out>(
     Ok(())
 }
 
-/// The options of a run: the names of a start and of moves, where there are such files; the most steps of all parts; whether it is drawn; and the
-/// format of what is printed.
+/// The options of a run: the names of a start and of moves, where there are such files; the most steps of all parts; whether it is drawn; the
+/// format of what is printed; and the word by which parts are let go, where there is one.
 #[derive(Clone, Copy)]
 pub(crate) struct RunOptions<'a> {
     pub(crate) start: Option<&'a str>,
@@ -218,6 +220,7 @@ pub(crate) struct RunOptions<'a> {
     pub(crate) limit: u64,
     pub(crate) is_drawn: bool,
     pub(crate) format: Format,
+    pub(crate) seed: Option<&'a str>,
 }
 
 impl<'a> RunOptions<'a> {
@@ -228,8 +231,9 @@ impl<'a> RunOptions<'a> {
         limit: u64,
         is_drawn: bool,
         format: Format,
+        seed: Option<&'a str>,
     ) -> RunOptions<'a>
-        ensures { result ≡ record { start = start.entry; moves = moves.entry; limit = limit; is_drawn = is_drawn; format = format } }
+        ensures { result ≡ record { start = start.entry; moves = moves.entry; limit = limit; is_drawn = is_drawn; format = format; seed = seed.entry } }
     {
         RunOptions {
             start,
@@ -237,6 +241,7 @@ impl<'a> RunOptions<'a> {
             limit,
             is_drawn,
             format,
+            seed,
         }
     }
 }
@@ -267,6 +272,7 @@ fn run_lines<R: Threads + Wait + Sync, P, W: Out, F: Out>(
         start: first,
         moves: moving,
         limit: options.limit,
+        seed: options.seed,
         is_drawn: options.is_drawn,
         threads: context.threads,
     };
@@ -301,6 +307,7 @@ fn run_json<R: Threads + Wait + Sync, P, W: Out>(
         start: first,
         moves: moving,
         limit: options.limit,
+        seed: options.seed,
         is_drawn: false,
         threads: context.threads,
     };
@@ -344,7 +351,8 @@ pub(crate) fn valid<R: Threads + Wait + Sync, P, W: Out>(
 {
     let text = text_of(files)?;
     let proofs = proofs_of(files)?;
-    print_valid(context, text, proofs, out)?;
+    let hints = joined(context.alloc, proofs)?;
+    print_valid(context, text, &hints, out)?;
     Ok(())
 }
 

@@ -71,7 +71,8 @@ fn carry_out<R: Threads + Wait + Sync, W: Out, F: Out, P: Watcher + Copy + Sync>
             draw,
             ..
         } => {
-            let options = RunOptions::new(start, moves, limit, draw.is_some(), format);
+            let seed = line.settings.seed;
+            let options = RunOptions::new(start, moves, limit, draw.is_some(), format, seed);
             run(context, options, files, out, faults, picture)
         }
         Command::Valid { .. } => valid(context, files, out),
@@ -107,7 +108,9 @@ pub(crate) fn carry_out_line<R: Threads + Wait + Sync, W: Out, F: Out, P: Watche
             draw,
             ..
         } => {
-            let options = RunOptions::new(start, moves, limit, draw.is_some(), Format::Plain);
+            let seed = line.settings.seed;
+            let plain = Format::Plain;
+            let options = RunOptions::new(start, moves, limit, draw.is_some(), plain, seed);
             run_outline_of(context, options, files, out, faults, sides)
         }
         Command::Outline {
@@ -121,7 +124,7 @@ pub(crate) fn carry_out_line<R: Threads + Wait + Sync, W: Out, F: Out, P: Watche
             outline(context, written, files, out, sides)
         }
         Command::Challenge { has_refused, .. } => {
-            challenge_outline(context, has_refused, files, out)
+            challenge_outline(context, has_refused, line.settings.format, files, out)
         }
         Command::Verify {
             outlines,

@@ -12,12 +12,20 @@ const MOST_SHOWN: usize = 160;
 const OUTLINE_AS_TEXT: &str =
     "This looks like an outline: `rgc verify` proves it, and `rgc outline` prints the text and the derivation that it stands for.\n";
 
+/// The bytes of a file that is one piece; none of several, since a line is one of its own piece.
+fn only_piece<'a>(file: Option<&'a [&'a [u8]]>) -> Option<&'a [u8]> {
+    match file {
+        Some([only]) => Some(*only),
+        _ => None,
+    }
+}
+
 /// The bytes of a file of the command.
 fn source_of<'a>(files: &Files<'a>, file: SourceFile) -> Option<&'a [u8]> {
     match file {
         SourceFile::Text => files.text,
-        SourceFile::Derivation => files.derivation,
-        SourceFile::Proofs => files.proofs,
+        SourceFile::Derivation => only_piece(files.derivation),
+        SourceFile::Proofs => only_piece(files.proofs),
         SourceFile::Start => files.start,
         SourceFile::Moves => files.moves,
     }

@@ -164,6 +164,7 @@ pub(crate) fn run_outline_of<R: Threads + Wait + Sync, W: Out, F: Out, P: Watche
         start: first,
         moves: moving,
         limit: options.limit,
+        seed: options.seed,
         is_drawn: options.is_drawn,
         steps: MOST_STEPS,
     };
@@ -274,20 +275,29 @@ fn prove_outline<R: Threads + Wait + Sync, W: Out, F: Out, P: Watcher + Copy + S
     Err(Stop::Outline(reported))
 }
 
-/// Prints a run of an outline's program that breaks its specification, or that none was found.
-fn walk_outline<W: Out>(
+/// Prints a run of an outline's program that breaks its specification, or that none was found; then the warning of a run that gets stuck goes to
+/// the faults.
+fn walk_outline<W: Out, F: Out>(
     alloc: Global,
     asked: Verification<'_>,
     outlined: &Outlined<'_>,
     out: &mut W,
+    faults: &mut F,
 ) -> Result<(), Stop>
-    requires { CanCount (W.failures out.old) }
+    requires out { CanCount (W.failures out.old) }
+    requires faults { CanCount (F.failures faults.old) }
     ensures done { OnOk result (IsVerifyDone true outlined.now.files (W.contents out.old) (W.contents out.new)) }
     ensures failures { NoFailure result (W.failures out.old) (W.failures out.new) }
     ensures stopped { IfErr result (StopsVerify true asked.entry.wish.steps outlined.now.files (W.contents out.old) (W.contents out.new) (W.failures out.old) (W.failures out.new)) }
+    ensures quiet { OnErr result (F.failures faults.new ≡ F.failures faults.old) }
+    ensures silent { OnErr result (F.contents faults.new ≡ F.contents faults.old) }
 {
     let steps = asked.wish.steps;
-    proved(runs_only(alloc, outlined, steps, asked.form(), out)?)
+    let mut reported = Vec::new(alloc);
+    let warnings = &mut reported;
+    proved(runs_only(alloc, outlined, steps, asked.form(), out, warnings)?)?;
+    let _ = write_all(faults, &reported);
+    Ok(())
 }
 
 /// Verifies an outline, or follows the runs of its program alone.
@@ -307,7 +317,7 @@ fn verify_outlined<R: Threads + Wait + Sync, W: Out, F: Out, P: Watcher + Copy +
     ensures silent { OnErr result (F.contents faults.new ≡ F.contents faults.old) }
 {
     if asked.wish.is_runs_only {
-        return walk_outline(context.alloc, asked, outlined, out);
+        return walk_outline(context.alloc, asked, outlined, out, faults);
     }
     prove_outline(context, asked, outlined, out, faults)
 }
@@ -342,10 +352,19 @@ pub(crate) fn verify<R: Threads + Wait + Sync, W: Out, F: Out, P: Watcher + Copy
     }
 }
 
+/// How it is said that the outline of a challenge is verified.
+fn challenge_form(format: rgc_line::Format, name: &str) -> VerdictForm<'_> {
+    match format {
+        rgc_line::Format::Json => VerdictForm::Json(name),
+        rgc_line::Format::Plain => VerdictForm::Alone,
+    }
+}
+
 /// Verifies an outline, and then reports which small changes of its program its specification doesn't see.
 pub(crate) fn challenge_outline<R: Threads + Wait + Sync, W: Out, P: Watcher + Copy + Sync>(
     context: &Context<'_, R, P>,
     has_refused: bool,
+    format: rgc_line::Format,
     files: &Files<'_>,
     out: &mut W,
 ) -> Result<(), Stop>
@@ -362,7 +381,8 @@ pub(crate) fn challenge_outline<R: Threads + Wait + Sync, W: Out, P: Watcher + C
     };
     let mut reported = Vec::new(context.alloc);
     let warnings = &mut reported;
-    match challenge(context, outlined, options, out, warnings)? {
+    let form = challenge_form(format, outlined.outline.name);
+    match challenge(context, outlined, options, form, out, warnings)? {
         Some(_) => Ok(()),
         None => Err(Stop::Outline(reported)),
     }

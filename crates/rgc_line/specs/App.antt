@@ -4,11 +4,11 @@ use Rattle.std.specs.Prelude.{List, [], ◌∷◌, Some, true, false, codes, map
 use Rattle.clap.specs.Words.{App, Rule, Shape, Text, new_rule}
 use Rattle.clap.specs.Simple.{new_shape}
 use Rattle.clap.specs.Lexer.{usize_max}
-use Rattle.clap.specs.declared.builder.action.ArgAction.TheVariants.{SetTrue}
+use Rattle.clap.specs.declared.builder.action.ArgAction.TheVariants.{Append, SetTrue}
 use Rattle.clap.specs.declared.builder.value_parser.ValueParser.{ValueParser}
 use Rattle.clap.specs.declared.builder.value_parser.ValueParser.TheVariants as parser
 use Rattle.rgc_line.specs.declared.commands.Form.{Form}
-use Rattle.rgc_line.specs.declared.commands.Form.TheVariants.{File, Place, Files, OptionalFile, OptionalText, OptionalNumber, NeededNumber, NumberOrMillion, Flag}
+use Rattle.rgc_line.specs.declared.commands.Form.TheVariants.{File, Place, Files, Places, OptionalFile, RepeatedFile, OptionalText, OptionalNumber, NeededNumber, NumberOrMillion, Flag}
 use Rattle.rgc_line.specs.declared.commands.Kind.{Kind}
 use Rattle.rgc_line.specs.declared.commands.Kind.TheVariants.{Number, Check, Conditions, Prove, Emit, Run, Valid, Clauses, Find, Outline, Verify, Challenge, Explain}
 
@@ -21,7 +21,9 @@ abbrev pub rule_of_form : Form → Text → Rule
 rule_of_form File id = record (new_rule id) { required = true }
 rule_of_form Place id = new_rule id
 rule_of_form Files id = record (new_rule id) { required = true; range = Some (record { start_inclusive = 1; end_inclusive = usize_max }) }
+rule_of_form Places id = record (new_rule id) { range = Some (record { start_inclusive = 1; end_inclusive = usize_max }) }
 rule_of_form OptionalFile id = record (new_rule id) { long = Some id; value_names = 1 }
+rule_of_form RepeatedFile id = record (new_rule id) { long = Some id; value_names = 1; action = Some Append }
 rule_of_form OptionalText id = record (new_rule id) { long = Some id; value_names = 1 }
 rule_of_form OptionalNumber id = record (new_rule id) { long = Some id; value_names = 1; parser = Some numbers }
 rule_of_form NeededNumber id = record (new_rule id) { required = true; parser = Some numbers }
@@ -34,7 +36,11 @@ field form id = rule_of_form form (codes id)
 
 -- the derivation of a program, one of whose conditions is chosen
 abbrev pub chosen_derivation : Rule
-chosen_derivation = field OptionalFile "derivation"
+chosen_derivation = field RepeatedFile "derivation"
+
+-- further files of a derivation
+abbrev pub further_derivation : Rule
+further_derivation = field RepeatedFile "derivation"
 
 -- the number of the condition that is chosen
 abbrev pub chosen_condition : Rule
@@ -56,6 +62,14 @@ format = field OptionalText "format"
 abbrev pub explained : Rule
 explained = field Flag "explain"
 
+-- which warnings are given
+abbrev pub warnings : Rule
+warnings = field OptionalText "warnings"
+
+-- the word by which one part of a run after another is let go
+abbrev pub seed : Rule
+seed = field OptionalText "seed"
+
 -- a command with these arguments and no subcommands
 abbrev pub leaf : Text → List Rule → Shape
 leaf name rules = record (new_shape name) { rules = rules }
@@ -63,17 +77,17 @@ leaf name rules = record (new_shape name) { rules = rules }
 -- The table of the commands: the name of each, and its files and options in their order.
 abbrev pub row_of : Kind → Shape
 row_of Number = leaf (codes "number") (field File "TEXT" ∷ format ∷ explained ∷ [])
-row_of Check = leaf (codes "check") (field File "TEXT" ∷ field File "DERIVATION" ∷ field File "PROOFS" ∷ threads ∷ format ∷ explained ∷ [])
-row_of Conditions = leaf (codes "conditions") (field File "TEXT" ∷ field File "DERIVATION" ∷ field Flag "formulas" ∷ format ∷ explained ∷ [])
-row_of Prove = leaf (codes "prove") (field File "TEXT" ∷ field File "DERIVATION" ∷ field NumberOrMillion "steps" ∷ field OptionalText "conditions" ∷ threads ∷ output ∷ format ∷ explained ∷ [])
-row_of Emit = leaf (codes "emit") (field File "TEXT" ∷ field File "DERIVATION" ∷ field File "PROOFS" ∷ threads ∷ output ∷ explained ∷ [])
-row_of Run = leaf (codes "run") (field OptionalFile "start" ∷ field OptionalFile "moves" ∷ field NumberOrMillion "limit" ∷ field OptionalFile "draw" ∷ field OptionalFile "outline" ∷ field Place "TEXT" ∷ field Place "DERIVATION" ∷ field Place "PROOFS" ∷ threads ∷ format ∷ explained ∷ [])
+row_of Check = leaf (codes "check") (field File "TEXT" ∷ field File "DERIVATION" ∷ field Files "PROOFS" ∷ further_derivation ∷ threads ∷ format ∷ explained ∷ [])
+row_of Conditions = leaf (codes "conditions") (field File "TEXT" ∷ field File "DERIVATION" ∷ field Flag "formulas" ∷ further_derivation ∷ format ∷ explained ∷ [])
+row_of Prove = leaf (codes "prove") (field File "TEXT" ∷ field File "DERIVATION" ∷ field NumberOrMillion "steps" ∷ field OptionalText "conditions" ∷ further_derivation ∷ threads ∷ field RepeatedFile "output" ∷ format ∷ explained ∷ [])
+row_of Emit = leaf (codes "emit") (field File "TEXT" ∷ field File "DERIVATION" ∷ field Files "PROOFS" ∷ further_derivation ∷ threads ∷ output ∷ explained ∷ [])
+row_of Run = leaf (codes "run") (field OptionalFile "start" ∷ field OptionalFile "moves" ∷ field NumberOrMillion "limit" ∷ field OptionalFile "draw" ∷ field OptionalFile "outline" ∷ field Place "TEXT" ∷ field Place "DERIVATION" ∷ field Places "PROOFS" ∷ further_derivation ∷ threads ∷ format ∷ explained ∷ seed ∷ [])
 row_of Valid = leaf (codes "valid") (field File "TEXT" ∷ field File "PROOFS" ∷ threads ∷ explained ∷ [])
 row_of Clauses = leaf (codes "clauses") (field File "TEXT" ∷ chosen_derivation ∷ chosen_condition ∷ output ∷ explained ∷ [])
 row_of Find = leaf (codes "find") (field File "TEXT" ∷ chosen_derivation ∷ chosen_condition ∷ field NumberOrMillion "steps" ∷ output ∷ explained ∷ [])
-row_of Outline = leaf (codes "outline") (field File "OUTLINE" ∷ field OptionalFile "text" ∷ field OptionalFile "derivation" ∷ field OptionalFile "proofs" ∷ field OptionalFile "map" ∷ threads ∷ [])
-row_of Verify = leaf (codes "verify") (field Files "OUTLINE" ∷ field OptionalNumber "steps" ∷ field Flag "runs-only" ∷ field OptionalFile "text" ∷ threads ∷ format ∷ [])
-row_of Challenge = leaf (codes "challenge") (field File "OUTLINE" ∷ field Flag "refused" ∷ threads ∷ [])
+row_of Outline = leaf (codes "outline") (field File "OUTLINE" ∷ field OptionalFile "text" ∷ field RepeatedFile "derivation" ∷ field RepeatedFile "proofs" ∷ field OptionalFile "map" ∷ threads ∷ [])
+row_of Verify = leaf (codes "verify") (field Files "OUTLINE" ∷ field OptionalNumber "steps" ∷ field Flag "runs-only" ∷ field OptionalFile "text" ∷ threads ∷ format ∷ warnings ∷ [])
+row_of Challenge = leaf (codes "challenge") (field File "OUTLINE" ∷ field Flag "refused" ∷ threads ∷ format ∷ [])
 row_of Explain = leaf (codes "explain") (field NeededNumber "NUMBER" ∷ [])
 
 -- the commands in the order in which the help lists them

@@ -3,7 +3,7 @@ use Rattle.std.specs.Prelude.{◌≡◌, ◌⊎◌, ◌↔◌, ℕ, Bool, true, 
 use Rattle.std.specs.Str.Parse.{ParsesUnsigned}
 use Rattle.std.specs.Borrow.{Bor}
 use Rattle.clap.specs.Words.{Row, Rule, Text, all_of, first_of, one_of, HasKind, fault_of, subcommand_of}
-use Rattle.rgc_line.specs.App.{rgc_app, row_of, chosen_derivation, chosen_condition, output, format, explained, threads}
+use Rattle.rgc_line.specs.App.{rgc_app, row_of, chosen_derivation, chosen_condition, output, format, explained, threads, warnings, seed}
 use Rattle.rgc_line.specs.declared.line.LineFault.{LineFault}
 use Rattle.rgc_line.specs.declared.line.LineFault.TheVariants.{Usage, Fields}
 use Rattle.rgc_line.specs.declared.fields.FieldFault.{FieldFault}
@@ -50,6 +50,10 @@ HasValue rows id (number n) = (text : Text) × (one_of id rows ≡ Some text) ×
 HasValue rows id (flag is_given) = (is_given ≡ true) ↔ (first_of id rows ≡ Some (codes "true"))
 HasValue rows id absent = HasNo rows id
 
+-- the words have these files at the id, in their order, or nothing
+abbrev pub HasFiles : List Row → Text → List Text → Type 0
+HasFiles rows id files = (all_of id rows ≡ Some files) ⊎ ((all_of id rows ≡ None) × (files ≡ []))
+
 -- the words have these values at the first of the arguments, one at each
 abbrev pub HasValues : List Row → List Rule → List Value → Type 0
 HasValues rows rules [] = Unit {0}
@@ -94,6 +98,8 @@ pub record HasSettings (rows : List Row) (settings : Settings) : Type 0 where
   pub format : HasFormat rows settings.format
   pub explained : HasValue rows explained.id (flag settings.is_explained)
   pub threads : HasValue rows threads.id (optional number settings.threads)
+  pub warnings : HasValue rows warnings.id (optional file settings.warnings)
+  pub seed : HasValue rows seed.id (optional file settings.seed)
 
 -- a command over several files is the one over the file at this place
 abbrev pub IsAt : ℕ → Command → Type 0
@@ -127,6 +133,11 @@ AreRunFilesApart rows =
 -- no file stands at the place: the words name so many files or fewer
 abbrev pub IsBeyond : List Row → ℕ → Type 0
 IsBeyond rows place = (names : List Text) × (all_of (codes "OUTLINE") rows ≡ Some names) × (length names ≤ place)
+
+-- the words are those of a subcommand, and have these files at the id
+abbrev pub AreFilesOf : Option (Text × List Row) → Text → List Text → Type 0
+AreFilesOf None id files = ⊥
+AreFilesOf (Some inner) id files = HasFiles inner.1 id files
 
 -- why the matches of a subcommand give no command: of each fault, at which commands it can be reported and what the words have then
 abbrev pub IsFieldFault : Kind → List Row → ℕ → FieldFault → Type 0

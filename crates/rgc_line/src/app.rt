@@ -19,7 +19,12 @@ fn argument<'a>(alloc: Global, field: &Field) -> Arg<'a>
         Form::File => argument.required(true),
         Form::Place => argument,
         Form::Files => argument.required(true).num_args(1..),
+        Form::Places => argument.num_args(1..),
         Form::OptionalFile => argument.long(field.id).value_name("FILE"),
+        Form::RepeatedFile => argument
+            .long(field.id)
+            .value_name("FILE")
+            .action(ArgAction::Append),
         Form::OptionalText => argument.long(field.id).value_name("WORD"),
         Form::OptionalNumber => argument
             .long(field.id)

@@ -43,6 +43,10 @@ pub struct Settings<'a> {
     pub is_explained: bool,
     /// The most threads; one for each processor where it isn't given.
     pub threads: Option<u64>,
+    /// Which warnings are given, by the word for it.
+    pub warnings: Option<&'a str>,
+    /// The word by which one part of a run after another is let go.
+    pub seed: Option<&'a str>,
 }
 
 /// The settings where nothing is asked for.
@@ -51,6 +55,8 @@ pub const PLAIN: Settings<'static> = Settings {
     format: Format::Plain,
     is_explained: false,
     threads: None,
+    warnings: None,
+    seed: None,
 };
 
 /// A command with its files, each by its path as given.

@@ -27,8 +27,12 @@ pub enum Form {
     Place,
     /// Files, of which at least one has to be named, by their place, the last one.
     Files,
+    /// Files that may be left out, by their place, the last one.
+    Places,
     /// A file that may be left out, after `--` and the field's id.
     OptionalFile,
+    /// A file that may be left out or be given several times, each after `--` and the field's id.
+    RepeatedFile,
     /// A text that may be left out, after `--` and the field's id; no file is named by it.
     OptionalText,
     /// A number that may be left out, after `--` and the field's id.
@@ -81,12 +85,15 @@ pub const DERIVATION: Field =
     field!(File "DERIVATION": "lines that derive the parts of the program");
 
 pub const PROOFS: Field =
-    field!(File "PROOFS": "hint lines in sections, one for each condition that needs one");
+    field!(Files "PROOFS": "hint lines in sections, one for each condition that needs one, in one file or several");
+
+pub const FURTHER_DERIVATION: Field =
+    field!(RepeatedFile "derivation": "a further file of the derivation, after DERIVATION");
 
 pub const HINTS: Field = field!(File "PROOFS": "hint lines: id, literals, 0, hints, 0");
 
 pub const CHOSEN_DERIVATION: Field =
-    field!(OptionalFile "derivation": "the derivation of a program");
+    field!(RepeatedFile "derivation": "the derivation of a program, in one file or several");
 
 pub const CHOSEN_CONDITION: Field =
     field!(OptionalNumber "condition": "the number of one of its conditions, from 1");
@@ -111,7 +118,8 @@ pub const OUTLINE: Field =
     field!(File "OUTLINE": "a program with assertions between its statements");
 
 pub const WRITTEN_DERIVATION: Field =
-    field!(OptionalFile "derivation": "a file to write the derivation to");
+    field!(RepeatedFile "derivation": "a file to write the derivation to; several where one can't hold it");
+
 /// The files of a run, which an outline stands for too.
 pub const RUN_PROGRAM: Field = field!(Place "TEXT": "a program");
 
@@ -119,7 +127,7 @@ pub const RUN_DERIVATION: Field =
     field!(Place "DERIVATION": "lines that derive the parts of the program");
 
 pub const RUN_PROOFS: Field =
-    field!(Place "PROOFS": "hint lines in sections, one for each condition that needs one");
+    field!(Places "PROOFS": "hint lines in sections, one for each condition that needs one, in one file or several");
 
 pub const RUN_OUTLINE: Field =
     field!(OptionalFile "outline": "an outline in the place of the three files; it is verified first");
@@ -128,7 +136,7 @@ pub const WRITTEN_TEXT: Field =
     field!(OptionalFile "text": "a file to write the program to, in the place of the output");
 
 pub const WRITTEN_PROOFS: Field =
-    field!(OptionalFile "proofs": "a file to write proofs of all conditions to, which are looked for");
+    field!(RepeatedFile "proofs": "a file to write proofs of all conditions to, which are looked for; several where one can't hold them");
 
 pub const REFUSED: Field =
     field!(Flag "refused": "tell the changes that are refused too, each with why");
@@ -154,8 +162,17 @@ pub const THREADS: Field =
 pub const OUTPUT: Field =
     field!(OptionalFile "output": "a file for the output, written whole or not at all");
 
+pub const OUTPUTS: Field =
+    field!(RepeatedFile "output": "a file for the output, written whole or not at all; several where one can't hold it");
+
 pub const FORMAT: Field =
     field!(OptionalText "format": "plain for lines to be read, or json for one JSON value a line");
+
+pub const WARNINGS: Field =
+    field!(OptionalText "warnings": "error: the status is 1 where a warning is given; off: none is given");
+
+pub const SEED: Field =
+    field!(OptionalText "seed": "a word by which one part after another goes first; without it the threads race");
 
 pub const EXPLAINED: Field =
     field!(Flag "explain": "show below a refusal the line that it is about, and what could stand there");
@@ -178,14 +195,29 @@ pub static COMMANDS: [Row; 13] = [
         name: "check",
         about: "Says whether the derivation and the proofs are accepted for the program",
         example: "Example: rgc check counter.rg counter.rgd counter.lrat",
-        fields: &[PROGRAM, DERIVATION, PROOFS, THREADS, FORMAT, EXPLAINED],
+        fields: &[
+            PROGRAM,
+            DERIVATION,
+            PROOFS,
+            FURTHER_DERIVATION,
+            THREADS,
+            FORMAT,
+            EXPLAINED,
+        ],
     },
     Row {
         kind: Kind::Conditions,
         name: "conditions",
         about: "Prints the pre and the names of the conditions",
         example: "Example: rgc conditions counter.rg counter.rgd",
-        fields: &[PROGRAM, DERIVATION, FORMULAS, FORMAT, EXPLAINED],
+        fields: &[
+            PROGRAM,
+            DERIVATION,
+            FORMULAS,
+            FURTHER_DERIVATION,
+            FORMAT,
+            EXPLAINED,
+        ],
     },
     Row {
         kind: Kind::Prove,
@@ -193,7 +225,15 @@ pub static COMMANDS: [Row; 13] = [
         about: "Looks for proofs of all conditions, or for states at which some fail",
         example: "Example: rgc prove counter.rg counter.rgd --output counter.lrat",
         fields: &[
-            PROGRAM, DERIVATION, STEPS, CONDITIONS, THREADS, OUTPUT, FORMAT, EXPLAINED,
+            PROGRAM,
+            DERIVATION,
+            STEPS,
+            CONDITIONS,
+            FURTHER_DERIVATION,
+            THREADS,
+            OUTPUTS,
+            FORMAT,
+            EXPLAINED,
         ],
     },
     Row {
@@ -201,7 +241,15 @@ pub static COMMANDS: [Row; 13] = [
         name: "emit",
         about: "Prints the listing of the code of an accepted program",
         example: "Example: rgc emit counter.rg counter.rgd counter.lrat",
-        fields: &[PROGRAM, DERIVATION, PROOFS, THREADS, OUTPUT, EXPLAINED],
+        fields: &[
+            PROGRAM,
+            DERIVATION,
+            PROOFS,
+            FURTHER_DERIVATION,
+            THREADS,
+            OUTPUT,
+            EXPLAINED,
+        ],
     },
     Row {
         kind: Kind::Run,
@@ -217,9 +265,11 @@ pub static COMMANDS: [Row; 13] = [
             RUN_PROGRAM,
             RUN_DERIVATION,
             RUN_PROOFS,
+            FURTHER_DERIVATION,
             THREADS,
             FORMAT,
             EXPLAINED,
+            SEED,
         ],
     },
     Row {
@@ -282,6 +332,7 @@ pub static COMMANDS: [Row; 13] = [
             VERIFIED_TEXT,
             THREADS,
             FORMAT,
+            WARNINGS,
         ],
     },
     Row {
@@ -289,7 +340,7 @@ pub static COMMANDS: [Row; 13] = [
         name: "challenge",
         about: "Changes an outline's program in small ways, and tells which changes its specification doesn't see",
         example: "Example: rgc challenge lock.rgo",
-        fields: &[OUTLINE, REFUSED, THREADS],
+        fields: &[OUTLINE, REFUSED, THREADS, FORMAT],
     },
     Row {
         kind: Kind::Explain,

@@ -1,9 +1,9 @@
 //! One file or option, from the matches of a subcommand.
 
-ghost use Rattle.std.specs.Prelude.{◌≡◌, IfOk, IfErr, codes};
+ghost use Rattle.std.specs.Prelude.{◌≡◌, map, IfOk, IfErr, codes};
 ghost use Rattle.clap.specs.Words.{found_of, rows_of};
 ghost use Rattle.rgc_line.specs.App.{chosen_condition};
-ghost use Rattle.rgc_line.specs.Line.{HasValue, optional, AreApart, IsBeyond, IsThere};
+ghost use Rattle.rgc_line.specs.Line.{HasFiles, HasValue, optional, AreApart, IsBeyond, IsThere};
 ghost use Rattle.rgc_line.specs.Line as value;
 ghost use Rattle.rgc_line.specs.Inner.Table.{HasOption, HasChosen, IsNumber, IsNumberIf};
 ghost use Rattle.rgc_line.specs.declared.fields.FieldFault.TheVariants.{Apart, NoFile};
@@ -11,6 +11,7 @@ ghost use Rattle.rgc_line.specs.declared.fields.FieldFault.TheVariants.{Apart, N
 use crate::command::{Chosen, Outlines};
 use crate::commands::{CHOSEN_CONDITION, CHOSEN_DERIVATION, OUTLINES};
 use clap::ArgMatches;
+use std::alloc::{AllocError, Global};
 use thiserror::Error;
 
 /// Why the matches of a subcommand give no command.
@@ -61,6 +62,20 @@ pub fn outline_at<'a>(matches: &ArgMatches<'a>, place: usize) -> Result<Outlines
         });
     }
     Err(FieldFault::NoFile)
+}
+
+/// The files at the id, in their order; none where none is there.
+pub fn files<'a>(
+    alloc: Global,
+    matches: &ArgMatches<'a>,
+    id: &str,
+) -> Result<Vec<&'a str>, AllocError>
+    ensures { IfOk result (λ files. HasFiles (rows_of (found_of matches.now)) id.now (map (λ file. file.now) files.items)) }
+{
+    match matches.get_strs(id) {
+        Some(names) => Vec::from_slice(alloc, names),
+        None => Ok(Vec::new(alloc)),
+    }
 }
 
 /// A number that has to be given, or is given by default.

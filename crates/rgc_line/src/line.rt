@@ -3,11 +3,11 @@
 ghost use Rattle.std.specs.Prelude.{◌≡◌, [], map, IfOk, MatchResult};
 ghost use Rattle.clap.specs.Words.{subcommand_of, fault_of};
 ghost use Rattle.rgc_line.specs.App.{rgc_app};
-ghost use Rattle.rgc_line.specs.Line.{Says, IsLineFault};
+ghost use Rattle.rgc_line.specs.Line.{Says, IsLineFault, AreFilesOf};
 
 use crate::app::rgc_command;
 use crate::command::{Command, Settings};
-use crate::fields::FieldFault;
+use crate::fields::{FieldFault, files};
 use crate::readers::line_of;
 use std::alloc::Global;
 use std::convert::AsStr;
@@ -65,6 +65,33 @@ impl<'a> Line<'a> {
         match line_of(name, inner, place) {
             Ok(line) => Ok(line),
             Err(fault) => Err(LineFault::Fields(fault)),
+        }
+    }
+
+    /// The files that the words name at a place or an option, by its id, in their order; none where they name none.
+    ///
+    /// # Errors
+    ///
+    /// `Usage` with the fault that `clap` finds in the words, or where memory is refused.
+    pub fn files<S: AsStr>(
+        alloc: Global,
+        words: &'a [S],
+        id: &str,
+    ) -> Result<Vec<&'a str>, LineFault>
+        ensures { IfOk result (λ files. AreFilesOf (subcommand_of rgc_app (map S.text words.now)) id.now (map (λ file. file.now) files.items)) }
+    {
+        let command = match rgc_command(alloc) {
+            Ok(command) => command,
+            Err(error) => return Err(LineFault::Usage(error.into())),
+        };
+        let matches = match command.try_get_matches_from(words) {
+            Ok(matches) => matches,
+            Err(error) => return Err(LineFault::Usage(error)),
+        };
+        let (_, inner) = matches.subcommand().unwrap();
+        match files(alloc, inner, id) {
+            Ok(files) => Ok(files),
+            Err(error) => Err(LineFault::Usage(error.into())),
         }
     }
 }

@@ -1,69 +1,36 @@
 //! The program `rgc`: it reads the words and the files, and does the command.
 #![tactic(auto)]
 
+mod contents;
 mod memory;
 mod paint;
+mod pieces;
 mod version;
 
 ghost use Rattle.std.specs.Prelude.{◌≡◌};
 ghost use Rattle.rg_words.specs.Written.{CanCount};
 
 use clap::error::ErrorKind;
+use contents::{Contents, lent, reads_input_twice};
 use memory::Memory;
 use paint::painted;
+use pieces::{PieceNames, cut_at, cut_proofs};
 use rg_find::Watcher;
-use rg_outline_reports::{Format as OutlineFormat, OutlineSource, Outlined, read_outline};
-use rg_words::limits::{MOST_PROOF_BYTES, MOST_TEXT_BYTES};
+use rg_outline_reports::{
+    Format as OutlineFormat, Input, Inputs, NoFiles, OutlineSource, Outlined, read_outline,
+};
+use rg_words::limits::MOST_TEXT_BYTES;
 use rg_words::{Buffered, Device, Out, write_all};
 use rgc_commands::{Context, Expanded, Files, Sides, perform};
-use rgc_line::{Command, Format, Line, LineFault, Named};
+use rgc_line::{Command, Format, Line, LineFault};
 use std::alloc::AllocError;
 use std::env::VarError;
-use std::fs::{self, File};
-use std::io::{IsTerminal, Read};
+use std::io::IsTerminal;
 use std::process::ExitCode;
 use std::sync::Wait;
 use std::thread::{Threads, available_parallelism};
-use std::{env, io};
+use std::{env, fs, io};
 use version::proved_at;
-
-/// The name of a file that stands for standard input.
-const INPUT: &str = "-";
-
-/// A file's bytes, or those of standard input, but no more than one past the limit: that one shows that there are too many.
-fn read(rt: &HostRuntime, name: &str, most: usize) -> io::Result<Vec<u8>> {
-    let mut bytes = Vec::new(rt.alloc());
-    let limit = (most as u64).saturating_add(1);
-    if name == INPUT {
-        let mut input = rt.reader().take(limit);
-        input.read_to_end(&mut bytes)?;
-    } else {
-        let mut file = File::open(rt, name)?.take(limit);
-        file.read_to_end(&mut bytes)?;
-    }
-    Ok(bytes)
-}
-
-/// Whether more than one file is standard input.
-fn reads_input_twice(named: &Named<'_>) -> bool {
-    let files = [
-        named.text,
-        named.derivation,
-        named.proofs,
-        named.start,
-        named.moves,
-    ];
-    files.iter().filter(|name| **name == Some(INPUT)).count() > 1
-}
-
-/// A file's bytes, or none where it can't be read.
-fn bytes_of(rt: &HostRuntime, name: &str, most: usize) -> Result<Option<Vec<u8>>, AllocError> {
-    match read(rt, name, most) {
-        Ok(bytes) => Ok(Some(bytes)),
-        Err(error) if error.kind() == io::ErrorKind::OutOfMemory => Err(AllocError),
-        Err(_) => Ok(None),
-    }
-}
 
 /// Prints what is wrong with the words, or the help that they ask for; the status.
 fn usage(rt: &HostRuntime, fault: &LineFault) -> u8 {
@@ -122,11 +89,16 @@ impl Watcher for Terminal<'_> {
 
 /// What a command is done with.
 #[derive(Drop)]
-struct Means<'m, 't, R> {
+struct Means<'m, 't, 'n, R> {
     rt: &'m HostRuntime,
     threads: &'t R,
     /// The most threads for one command.
     most: usize,
+    /// The files that its output goes to, where it is proofs.
+    outputs: &'n [&'n str],
+    /// The files that the derivation and the proofs of an outline go to.
+    derivation: &'n [&'n str],
+    proofs: &'n [&'n str],
 }
 
 /// Where the output of a command goes.
@@ -138,6 +110,17 @@ enum Way {
     Buffered,
     /// To memory first: to a file as a whole, to standard output and to standard error, or in colour.
     Whole,
+}
+
+/// The word by which a warning makes the status that of an outline that isn't verified.
+const STRICT: &str = "error";
+
+/// The word by which no warnings are given.
+const NO_WARNINGS: &str = "off";
+
+/// Whether a warning makes the status that of an outline that isn't verified.
+fn is_strict(line: &Line<'_>) -> bool {
+    line.settings.warnings == Some(STRICT)
 }
 
 /// Whether standard output is a terminal that is to be coloured.
@@ -152,7 +135,7 @@ fn way_of(rt: &HostRuntime, line: &Line<'_>) -> Way {
     }
     match line.command {
         Command::Prove { .. } if !rt.stdout().is_terminal() => Way::Whole,
-        Command::Verify { .. } if is_coloured(rt) => Way::Whole,
+        Command::Verify { .. } if is_coloured(rt) || is_strict(line) => Way::Whole,
         Command::Find { .. }
         | Command::Prove { .. }
         | Command::Run { .. }
@@ -166,7 +149,7 @@ fn way_of(rt: &HostRuntime, line: &Line<'_>) -> Way {
 
 /// Does the command with these writers for its output and its faults; the status.
 fn performed<R: Threads + Wait + Sync, W: Out, F: Out>(
-    means: &Means<'_, '_, R>,
+    means: &Means<'_, '_, '_, R>,
     line: &Line<'_>,
     files: &Files<'_>,
     out: &mut W,
@@ -194,7 +177,7 @@ fn performed<R: Threads + Wait + Sync, W: Out, F: Out>(
 
 /// Does the command through a buffer; the status.
 fn buffered<R: Threads + Wait + Sync>(
-    means: &Means<'_, '_, R>,
+    means: &Means<'_, '_, '_, R>,
     line: &Line<'_>,
     files: &Files<'_>,
     sides: &mut Sides,
@@ -219,25 +202,39 @@ fn shown(rt: &HostRuntime, bytes: &[u8], status: u8) -> u8 {
 }
 
 /// Writes bytes to standard error, where they can be written.
-fn reported(rt: &HostRuntime, bytes: &[u8]) {
+pub(crate) fn reported(rt: &HostRuntime, bytes: &[u8]) {
     let mut faults = Device::new(rt.stderr());
     let _ = write_all(&mut faults, bytes);
 }
 
 /// Writes what a command has printed to where it goes; the status. What `prove` tells of conditions without a proof goes to standard error
 /// too, or there alone where the output is a file's; the answer of `find` goes to standard output alone.
-fn written(rt: &HostRuntime, line: &Line<'_>, bytes: &[u8], status: u8) -> Result<u8, AllocError> {
+fn written<R>(
+    means: &Means<'_, '_, '_, R>,
+    line: &Line<'_>,
+    bytes: &[u8],
+    status: u8,
+) -> Result<u8, AllocError> {
+    let rt = means.rt;
     match (line.settings.output, line.command) {
-        (Some(name), _) if status == 0 => write_whole(rt, name, bytes),
+        (Some(_), Command::Prove { .. }) if status == 0 => {
+            let pieces = cut_proofs(rt.alloc(), bytes)?;
+            if !can_hold(rt, means.outputs, &pieces, "output") {
+                return Ok(1);
+            }
+            write_pieces(rt, means.outputs, &pieces, "output")
+        }
+        (Some(name), _) if status == 0 => write_whole(rt, name, bytes, "output"),
         (Some(_), Command::Find { .. }) => Ok(shown(rt, bytes, status)),
         (Some(_), _) => {
             reported(rt, bytes);
             Ok(status)
         }
-        (None, Command::Verify { .. }) => {
+        (None, Command::Verify { .. }) if is_coloured(rt) => {
             let text = painted(rt.alloc(), bytes)?;
             Ok(shown(rt, &text, status))
         }
+        (None, Command::Verify { .. }) => Ok(shown(rt, bytes, status)),
         (None, _) => {
             if status == 1 {
                 reported(rt, bytes);
@@ -247,9 +244,9 @@ fn written(rt: &HostRuntime, line: &Line<'_>, bytes: &[u8], status: u8) -> Resul
     }
 }
 
-/// Does the command with its output and its faults in memory, and writes these; the status.
+/// Does the command with its output and its faults in memory, and writes these; the status. Of an outline that is verified the faults are its warnings.
 fn whole<R: Threads + Wait + Sync>(
-    means: &Means<'_, '_, R>,
+    means: &Means<'_, '_, '_, R>,
     line: &Line<'_>,
     files: &Files<'_>,
     sides: &mut Sides,
@@ -261,14 +258,17 @@ fn whole<R: Threads + Wait + Sync>(
     if out.is_refused() || faults.is_refused() {
         return Err(AllocError);
     }
-    let status = written(rt, line, out.bytes(), status)?;
+    let status = written(means, line, out.bytes(), status)?;
     reported(rt, faults.bytes());
+    if status == 0 && is_strict(line) && !faults.bytes().is_empty() {
+        return Ok(1);
+    }
     Ok(status)
 }
 
 /// Does the command over its files, and writes what it printed; the status. What it writes beside that is put into `sides`.
 fn done<R: Threads + Wait + Sync>(
-    means: &Means<'_, '_, R>,
+    means: &Means<'_, '_, '_, R>,
     line: &Line<'_>,
     files: &Files<'_>,
     sides: &mut Sides,
@@ -296,10 +296,12 @@ fn write_side(rt: &HostRuntime, name: Option<&str>, side: &[u8], fault: &str) ->
     }
 }
 
-/// Writes the output to a file, as a whole or not at all: to a file beside it, which then takes its name; the status.
-fn write_whole(rt: &HostRuntime, name: &str, bytes: &[u8]) -> Result<u8, AllocError> {
+/// Writes bytes to a file, as a whole or not at all: to a file beside it, which then takes its name; the status. What they are is said where they can't be
+/// written.
+fn write_whole(rt: &HostRuntime, name: &str, bytes: &[u8], what: &str) -> Result<u8, AllocError> {
     let beside = format!(in rt.alloc(); "{name}.part")?;
-    let status = write_side(rt, Some(&beside), bytes, "device output");
+    let fault = format!(in rt.alloc(); "device {what}")?;
+    let status = write_side(rt, Some(&beside), bytes, &fault);
     if status != 0 {
         let _ = fs::remove_file(rt, beside.as_str());
         return Ok(status);
@@ -311,38 +313,97 @@ fn write_whole(rt: &HostRuntime, name: &str, bytes: &[u8]) -> Result<u8, AllocEr
             if error.kind() == io::ErrorKind::OutOfMemory {
                 return Err(AllocError);
             }
-            Ok(tell(rt, "device output"))
+            Ok(tell(rt, &fault))
         }
     }
 }
 
+/// Whether there are as many files as pieces or more; else it is reported how many are needed.
+fn can_hold(rt: &HostRuntime, names: &[&str], pieces: &[&[u8]], option: &str) -> bool {
+    let count = pieces.len();
+    if count > names.len() {
+        let _ = eprintln!(rt; "error: one file can't hold this: give --{option} {count} times");
+        return false;
+    }
+    true
+}
+
+/// Writes pieces to files, each as a whole or not at all; those without a piece are empty. The status.
+fn write_pieces(
+    rt: &HostRuntime,
+    names: &[&str],
+    pieces: &[&[u8]],
+    option: &str,
+) -> Result<u8, AllocError> {
+    let mut worst = 0;
+    for (index, name) in names.iter().enumerate() {
+        let piece = pieces.get(index).copied().unwrap_or(&[]);
+        worst = worst.max(write_whole(rt, name, piece, option)?);
+    }
+    Ok(worst)
+}
+
+/// Where the derivation of an outline is cut into pieces that files can hold; nowhere where a file can hold it.
+fn cuts_of<'a>(files: &Files<'a>, derivation: &[u8]) -> &'a [usize] {
+    match files.outline {
+        Some(Ok(outlined)) if derivation.len() > MOST_TEXT_BYTES => outlined.files.cuts.as_slice(),
+        _ => &[],
+    }
+}
+
+/// Writes the derivation and the proofs that an outline stands for to the files that are named for them, where these can hold them; the status.
+fn write_certificates<R>(
+    means: &Means<'_, '_, '_, R>,
+    files: &Files<'_>,
+    sides: &Sides,
+) -> Result<u8, AllocError> {
+    let (rt, alloc) = (means.rt, means.rt.alloc());
+    let whole = sides.outline.derivation.as_slice();
+    let derivation = cut_at(alloc, whole, cuts_of(files, whole))?;
+    let proofs = cut_proofs(alloc, &sides.outline.proofs)?;
+    let holds_derivation = means.derivation.is_empty()
+        || can_hold(rt, means.derivation, &derivation, "derivation");
+    let holds_proofs = means.proofs.is_empty() || can_hold(rt, means.proofs, &proofs, "proofs");
+    if !holds_derivation || !holds_proofs {
+        return Ok(1);
+    }
+    let status = write_pieces(rt, means.derivation, &derivation, "derivation")?;
+    Ok(status.max(write_pieces(rt, means.proofs, &proofs, "proofs")?))
+}
+
 /// Writes the files that the command names beside its output; the status.
-fn write_sides(rt: &HostRuntime, command: &Command<'_>, sides: &Sides) -> u8 {
-    match *command {
+fn write_sides<R>(
+    means: &Means<'_, '_, '_, R>,
+    command: &Command<'_>,
+    files: &Files<'_>,
+    sides: &Sides,
+) -> Result<u8, AllocError> {
+    let rt = means.rt;
+    Ok(match *command {
         Command::Run { draw, .. } | Command::RunOutline { draw, .. } => {
             write_side(rt, draw, &sides.picture, "device draw")
         }
-        Command::Outline {
-            text,
-            derivation,
-            proofs,
-            map,
-            ..
-        } => {
+        Command::Outline { text, map, .. } => {
+            let status = write_certificates(means, files, sides)?;
+            if status != 0 {
+                return Ok(status);
+            }
             let side = &sides.outline;
-            write_side(rt, text, &side.text, "device text")
-                .max(write_side(rt, derivation, &side.derivation, "device derivation"))
-                .max(write_side(rt, proofs, &side.proofs, "device proofs"))
-                .max(write_side(rt, map, &side.map, "device map"))
+            write_side(rt, text, &side.text, "device text").max(write_side(
+                rt,
+                map,
+                &side.map,
+                "device map",
+            ))
         }
         Command::Verify { text, .. } => write_side(rt, text, &sides.outline.text, "device text"),
         _ => 0,
-    }
+    })
 }
 
 /// Does the command over its files, and writes all that it made; the status.
 fn done_and_drawn<R: Threads + Wait + Sync>(
-    means: &Means<'_, '_, R>,
+    means: &Means<'_, '_, '_, R>,
     line: &Line<'_>,
     files: &Files<'_>,
 ) -> Result<u8, AllocError> {
@@ -351,64 +412,7 @@ fn done_and_drawn<R: Threads + Wait + Sync>(
     if status != 0 {
         return Ok(status);
     }
-    Ok(write_sides(means.rt, &line.command, &sides))
-}
-
-/// The bytes of the files that a command names: none where one isn't named or can't be read.
-#[derive(Drop)]
-struct Contents {
-    text: Option<Vec<u8>>,
-    derivation: Option<Vec<u8>>,
-    proofs: Option<Vec<u8>>,
-    start: Option<Vec<u8>>,
-    moves: Option<Vec<u8>>,
-}
-
-/// The bytes of a file that may not be named, or none where it isn't or can't be read.
-fn bytes_of_named(
-    rt: &HostRuntime,
-    name: Option<&str>,
-    most: usize,
-) -> Result<Option<Vec<u8>>, AllocError> {
-    match name {
-        Some(name) => bytes_of(rt, name, most),
-        None => Ok(None),
-    }
-}
-
-impl Contents {
-    /// No bytes so far.
-    fn empty() -> Contents {
-        Contents {
-            text: None,
-            derivation: None,
-            proofs: None,
-            start: None,
-            moves: None,
-        }
-    }
-
-    /// Reads the files.
-    fn read(&mut self, rt: &HostRuntime, named: &Named<'_>) -> Result<(), AllocError> {
-        self.text = bytes_of_named(rt, named.text, MOST_TEXT_BYTES)?;
-        self.derivation = bytes_of_named(rt, named.derivation, MOST_TEXT_BYTES)?;
-        self.proofs = bytes_of_named(rt, named.proofs, MOST_PROOF_BYTES)?;
-        self.start = bytes_of_named(rt, named.start, MOST_TEXT_BYTES)?;
-        self.moves = bytes_of_named(rt, named.moves, MOST_TEXT_BYTES)?;
-        Ok(())
-    }
-
-    /// The bytes, lent to a command.
-    fn files(&self) -> Files<'_> {
-        Files {
-            text: self.text.as_ref().map(|bytes| bytes.as_slice()),
-            derivation: self.derivation.as_ref().map(|bytes| bytes.as_slice()),
-            proofs: self.proofs.as_ref().map(|bytes| bytes.as_slice()),
-            start: self.start.as_ref().map(|bytes| bytes.as_slice()),
-            moves: self.moves.as_ref().map(|bytes| bytes.as_slice()),
-            outline: None,
-        }
-    }
+    write_sides(means, &line.command, files, &sides)
 }
 
 /// Files with fewer bytes together are checked in about the time that threads take to start.
@@ -419,10 +423,19 @@ fn size_of(file: Option<&[u8]>) -> usize {
     file.map_or(0, |bytes| bytes.len())
 }
 
+/// How many bytes the pieces of a file have.
+fn size_of_pieces(file: Option<&[&[u8]]>) -> usize {
+    let mut size = 0_usize;
+    for piece in file.unwrap_or(&[]) {
+        size = size.saturating_add(piece.len());
+    }
+    size
+}
+
 /// Whether a text, a derivation and proofs are small together.
 fn are_small(files: &Files<'_>) -> bool {
-    let size = size_of(files.text).saturating_add(size_of(files.derivation));
-    size.saturating_add(size_of(files.proofs)) < FEW_BYTES
+    let size = size_of(files.text).saturating_add(size_of_pieces(files.derivation));
+    size.saturating_add(size_of_pieces(files.proofs)) < FEW_BYTES
 }
 
 /// How many threads suit so many processors and these files: as many, or one where small files are checked.
@@ -455,17 +468,27 @@ fn outline_of<'a>(line: &Line<'a>) -> Option<&'a str> {
     }
 }
 
-/// The format in which an outline is reported of: JSON where its verification asks for that.
+/// The format, as reports on outlines have it.
+pub(crate) fn outline_format(format: Format) -> OutlineFormat {
+    match format {
+        Format::Plain => OutlineFormat::Plain,
+        Format::Json => OutlineFormat::Json,
+    }
+}
+
+/// The format in which an outline is reported of: JSON where its verification, or its challenge, asks for that.
 fn format_of(line: &Line<'_>) -> OutlineFormat {
-    match (line.command, line.settings.format) {
-        (Command::Verify { .. }, Format::Json) => OutlineFormat::Json,
+    match line.command {
+        Command::Verify { .. } | Command::Challenge { .. } => {
+            outline_format(line.settings.format)
+        }
         _ => OutlineFormat::Plain,
     }
 }
 
 /// Does the command over the outline of this name, which is worked out once where it can be read; the status.
 fn done_over<'a, R: Threads + Wait + Sync>(
-    means: &Means<'_, '_, R>,
+    means: &Means<'_, '_, '_, R>,
     line: &Line<'_>,
     files: Files<'a>,
     name: &'a str,
@@ -478,6 +501,7 @@ fn done_over<'a, R: Threads + Wait + Sync>(
         name,
         source,
         format: format_of(line),
+        has_warnings: line.settings.warnings != Some(NO_WARNINGS),
     };
     match read_outline(alloc, outline) {
         Ok(read) => {
@@ -490,7 +514,7 @@ fn done_over<'a, R: Threads + Wait + Sync>(
 
 /// Does the command over an outline that was worked out to this; the status.
 fn done_with<'a, R: Threads + Wait + Sync>(
-    means: &Means<'_, '_, R>,
+    means: &Means<'_, '_, '_, R>,
     line: &Line<'_>,
     files: Files<'a>,
     expanded: &'a Expanded<'a>,
@@ -499,7 +523,88 @@ fn done_with<'a, R: Threads + Wait + Sync>(
         outline: Some(expanded),
         ..files
     };
-    done_and_drawn(means, line, &files)
+    match (line.command, expanded) {
+        (Command::RunOutline { .. }, Ok(outlined)) => run_over(means, line, &files, outlined),
+        _ => done_and_drawn(means, line, &files),
+    }
+}
+
+/// A file of a run, where it is named and can be read.
+fn input_of<'a>(name: Option<&'a str>, source: Option<&'a [u8]>) -> Option<Input<'a>> {
+    match (name, source) {
+        (Some(name), Some(source)) => Some(Input { name, source }),
+        _ => None,
+    }
+}
+
+/// Runs the program of an outline, from a start and with moves that name words as the outline does; the status.
+fn run_over<R: Threads + Wait + Sync>(
+    means: &Means<'_, '_, '_, R>,
+    line: &Line<'_>,
+    files: &Files<'_>,
+    outlined: &Outlined<'_>,
+) -> Result<u8, AllocError> {
+    let named = line.command.named();
+    let start = input_of(named.start, files.start);
+    match outlined.inputs(start, input_of(named.moves, files.moves)) {
+        Ok(inputs) => run_from(means, line, files, outlined, &inputs),
+        Err(NoFiles::Reported(lines)) => {
+            reported(means.rt, &lines);
+            Ok(1)
+        }
+        Err(NoFiles::Memory) => Err(AllocError),
+    }
+}
+
+/// What is told of a run whose start isn't in the pre begins so.
+const OUTSIDE_PRE: &[u8] = b"refused 61 ";
+
+/// Runs the program of an outline, from this start and with these moves; the status. Where the start isn't in the pre, it is reported what of that is
+/// false.
+fn run_from<R: Threads + Wait + Sync>(
+    means: &Means<'_, '_, '_, R>,
+    line: &Line<'_>,
+    files: &Files<'_>,
+    outlined: &Outlined<'_>,
+    inputs: &Inputs,
+) -> Result<u8, AllocError> {
+    let rt = means.rt;
+    let files = Files {
+        start: inputs.start.as_ref().map(|bytes| bytes.as_slice()),
+        moves: inputs.moves.as_ref().map(|bytes| bytes.as_slice()),
+        ..*files
+    };
+    let mut sides = Sides::new(rt.alloc());
+    let mut out = Device::new(rt.stdout());
+    // (nothing is written to the faults before the run is over)
+    let mut faults = Memory::new(rt.alloc());
+    let status = performed(means, line, &files, &mut out, &mut faults, &mut sides);
+    reported(rt, faults.bytes());
+    if faults.bytes().starts_with(OUTSIDE_PRE) {
+        reported(rt, &outlined.outside_pre(&inputs.values)?);
+    }
+    if status != 0 {
+        return Ok(status);
+    }
+    write_sides(means, &line.command, &files, &sides)
+}
+
+/// What in the words of a line doesn't fit, before any file is read; nothing where all does.
+fn misfit_of(line: &Line<'_>, names: &PieceNames<'_>) -> Option<&'static str> {
+    if let (Command::RunOutline { .. }, Format::Json) = (line.command, line.settings.format) {
+        return Some("--outline and --format json don't go together");
+    }
+    if let Command::RunOutline { .. } = line.command {
+        if !names.derivation.is_empty() {
+            return Some("--outline and --derivation don't go together");
+        }
+    }
+    match line.settings.warnings {
+        Some(word) if word != STRICT && word != NO_WARNINGS => {
+            Some("--warnings takes error or off")
+        }
+        _ => None,
+    }
 }
 
 /// Reads the files that the command names, and does it; the status.
@@ -507,19 +612,33 @@ fn run<R: Threads + Wait + Sync>(
     rt: &HostRuntime,
     threads: &R,
     line: &Line<'_>,
+    names: &PieceNames<'_>,
 ) -> Result<u8, AllocError> {
     let named = line.command.named();
-    if reads_input_twice(&named) {
+    if reads_input_twice(&named, names) {
         let _ = eprintln!(rt; "error: `-` names standard input, which is read once");
         return Ok(2);
     }
+    if let Some(words) = misfit_of(line, names) {
+        let _ = eprintln!(rt; "error: {words}");
+        return Ok(2);
+    }
     let mut contents = Contents::empty();
-    contents.read(rt, &named)?;
-    let files = contents.files();
-    let most = most_threads(threads, line, &files);
+    contents.read(rt, &named, names, line.settings.format)?;
+    let derivation = lent(rt, &contents.derivation)?;
+    let proofs = lent(rt, &contents.proofs)?;
+    let files = contents.files(&derivation, &proofs);
+    let means = Means {
+        rt,
+        threads,
+        most: most_threads(threads, line, &files),
+        outputs: &names.outputs,
+        derivation: &names.derivation,
+        proofs: &names.proofs,
+    };
     match outline_of(line) {
-        Some(name) => done_over(&Means { rt, threads, most }, line, files, name),
-        None => done_and_drawn(&Means { rt, threads, most }, line, &files),
+        Some(name) => done_over(&means, line, files, name),
+        None => done_and_drawn(&means, line, &files),
     }
 }
 
@@ -541,13 +660,14 @@ fn run_words<R: Threads + Wait + Sync>(
         Ok(line) => line,
         Err(fault) => return Ok(usage(rt, &fault)),
     };
-    let mut worst = run(rt, threads, &first)?;
+    let names = PieceNames::of(rt.alloc(), words, &first.command)?;
+    let mut worst = run(rt, threads, &first, &names)?;
     if worst == 2 {
         return Ok(worst);
     }
     for place in 1..files_of(&first.command) {
         if let Ok(line) = Line::read(rt.alloc(), words, place) {
-            worst = worst.max(run(rt, threads, &line)?);
+            worst = worst.max(run(rt, threads, &line, &names)?);
         }
     }
     Ok(worst)

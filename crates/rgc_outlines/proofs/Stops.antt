@@ -4,16 +4,10 @@ use Rattle.rg_words.specs.declared.refusal.Refusal.{Refusal}
 use Rattle.rg_words.specs.Stopped.{IsStopped}
 use Rattle.rg_words.proofs.Cuts.{stops_weaker}
 use Rattle.rg_parse.specs.Programs.{IsProgramRefusal}
-use Rattle.rgc.specs.Chosen.{IsDeriveRefusal}
 use Rattle.rgc.specs.declared.proofs_found.Unproved.{Unproved}
 use Rattle.rg_outline_reports.specs.declared.files.OutlineFiles.{OutlineFiles}
 use Rattle.rgc_outlines.specs.Refused.{IsVerifyRefusal}
 use Rattle.rgc_outlines.specs.Unproved.{AreUnprovedOf}
-
--- files are refused that are these by other names
-pub refused_same : (a b text derivation : List ℕ) (e : Refusal) → a ≡ text → b ≡ derivation → IsDeriveRefusal a b e → IsDeriveRefusal text derivation e
-refused_same a b text derivation e first second h =
-    subst (λ (t : List ℕ). IsDeriveRefusal t derivation e) first (subst (λ (d : List ℕ). IsDeriveRefusal a d e) second h)
 
 -- of conditions without a proof nothing is reported: the text is refused, or what is reported is cut
 pub telling_stops : (files : OutlineFiles) (steps : ℕ) (unproved : List Unproved) (old middle new : Option (List ℕ)) (m k n : ℕ) (e : Refusal) → AreUnprovedOf files unproved → middle ≡ old → k ≡ m → IsStopped (IsProgramRefusal files.text.items) middle new k n e → IsStopped (IsVerifyRefusal files steps) old new m n e

@@ -13,7 +13,7 @@ use Rattle.rgc_outlines.specs.declared.answers.Answered.{Answered}
 pub record IsProvedText (text : List ℕ) : Type 0 where
   pub derivation : List ℕ
   pub pieces : List (List ℕ)
-  pub proofs : List ℕ
+  pub proofs : List (List ℕ)
   pub program : ProgramTree
   pub cut : ArePiecesOf derivation pieces
   pub accepted : AreAcceptedInPieces text pieces proofs program

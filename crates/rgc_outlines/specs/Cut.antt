@@ -9,7 +9,7 @@ use Rattle.rg_tree.specs.Statements.{ProgramTree}
 use Rattle.rg_tree.specs.Programs.{IsSatisfied}
 use Rattle.rg_code.specs.Code.{BlockTree, HasRunsOf, program_code}
 use Rattle.rg_accept.specs.Accepted.{AreAccepted, IsBuiltText}
-use Rattle.rgc.specs.Pieces.{AreAcceptedInPieces, AreDerivedInPieces, IsDeriveInPiecesRefusal}
+use Rattle.rgc.specs.Pieces.{AreAcceptedInPieces, IsBuiltInPieces, AreDerived, IsDeriveRefusal}
 
 -- one after another these pieces are the derivation, and it is one piece where it is no longer than a file may be
 pub record ArePiecesOf (derivation : List ℕ) (pieces : List (List ℕ)) : Type 0 where
@@ -20,27 +20,19 @@ pub record ArePiecesOf (derivation : List ℕ) (pieces : List (List ℕ)) : Type
 pub record IsOfPieces (text derivation : List ℕ) (program : ProgramTree) (lines : List LineTree) : Type 0 where
   pub pieces : List (List ℕ)
   pub cut : ArePiecesOf derivation pieces
-  pub derived : AreDerivedInPieces text pieces program lines
+  pub derived : AreDerived text pieces program lines
 
 -- why nothing is derived: for want of memory; or the first fault of the text, or of the pieces of the derivation
 abbrev pub IsOfPiecesRefusal : List ℕ → List ℕ → Refusal → Type 0
 IsOfPiecesRefusal text derivation e =
-    (e ≡ no_memory) ⊎ ((pieces : List (List ℕ)) × ArePiecesOf derivation pieces × IsDeriveInPiecesRefusal text pieces e)
+    (e ≡ no_memory) ⊎ ((pieces : List (List ℕ)) × ArePiecesOf derivation pieces × IsDeriveRefusal text pieces e)
 
--- the text, the pieces of a derivation and the proofs are accepted for this program by the written rules; the code is exactly that of the program
--- and has exactly its runs, and it satisfies its specification
-pub record IsBuiltInPieces (text : List ℕ) (pieces : List (List ℕ)) (proofs : List ℕ) (p : ProgramTree) (code : List (List BlockTree)) : Type 0 where
-  pub accepted : AreAcceptedInPieces text pieces proofs p
-  pub compiled : code ≡ program_code p.parts
-  pub runs : HasRunsOf p code
-  pub satisfied : IsSatisfied p
-
--- where a derivation is no longer than a file may be, whatever is accepted with its pieces is accepted with it
+-- where a derivation is no longer than a file may be, whatever is accepted with its pieces and one file of proofs is accepted with it
 abbrev pub ShortDerivationsAreAccepted : Type 0
 ShortDerivationsAreAccepted =
-    (text derivation : List ℕ) (pieces : List (List ℕ)) (proofs : List ℕ) (p : ProgramTree) → ArePiecesOf derivation pieces → length derivation ≤ MOST_TEXT_BYTES → AreAcceptedInPieces text pieces proofs p → AreAccepted text derivation proofs p
+    (text derivation proofs : List ℕ) (pieces : List (List ℕ)) (p : ProgramTree) → ArePiecesOf derivation pieces → length derivation ≤ MOST_TEXT_BYTES → AreAcceptedInPieces text pieces (proofs ∷ []) p → AreAccepted text derivation proofs p
 
 -- and the code that is built with its pieces is the code that is built with it
 abbrev pub ShortDerivationsAreBuilt : Type 0
 ShortDerivationsAreBuilt =
-    (text derivation : List ℕ) (pieces : List (List ℕ)) (proofs : List ℕ) (p : ProgramTree) (code : List (List BlockTree)) → ArePiecesOf derivation pieces → length derivation ≤ MOST_TEXT_BYTES → IsBuiltInPieces text pieces proofs p code → IsBuiltText text derivation proofs p code
+    (text derivation proofs : List ℕ) (pieces : List (List ℕ)) (p : ProgramTree) (code : List (List BlockTree)) → ArePiecesOf derivation pieces → length derivation ≤ MOST_TEXT_BYTES → IsBuiltInPieces text pieces (proofs ∷ []) p code → IsBuiltText text derivation proofs p code

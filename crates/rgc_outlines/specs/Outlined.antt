@@ -7,7 +7,8 @@ use Rattle.rg_tree.specs.Statements.{ProgramTree}
 use Rattle.rg_code.specs.Code.{BlockTree}
 use Rattle.rg_floor.specs.Turns.{ClosedView}
 use Rattle.rgc_outlines.specs.Reported.{NamingView, reported_lines}
-use Rattle.rgc_outlines.specs.Cut.{ArePiecesOf, IsBuiltInPieces}
+use Rattle.rgc.specs.Pieces.{IsBuiltInPieces}
+use Rattle.rgc_outlines.specs.Cut.{ArePiecesOf}
 use Rattle.rgc_answers.specs.Running.{IsRunLeft, why_text}
 
 -- the code was run, with this start and these moves and so many steps of parts at most; the lines of the history went out, by these names of words and
@@ -21,7 +22,7 @@ pub record HasReportedRunOf (program : ProgramTree) (blocks : List (List BlockTr
 -- what it did went out, by some names of words and some lines of statements
 pub record HasReportedRun (files : OutlineFiles) (start moves : Option (Bor (List ℕ))) (limit : ℕ) (old new : Option (List ℕ)) : Type 0 where
   pub pieces : List (List ℕ)
-  pub proofs : List ℕ
+  pub proofs : List (List ℕ)
   pub program : ProgramTree
   pub blocks : List (List BlockTree)
   pub cut : ArePiecesOf files.derivation.items pieces

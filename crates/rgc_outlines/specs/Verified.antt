@@ -1,5 +1,5 @@
 -- What is printed of an outline.
-use Rattle.std.specs.Prelude.{ℕ, ◌≤◌, List, ◌++◌, length, Option, codes, decimal}
+use Rattle.std.specs.Prelude.{◌≡◌, ℕ, ◌≤◌, List, [], ◌∷◌, ◌++◌, length, Option, codes, decimal}
 use Rattle.std.specs.Io.KnownBytes.{Appends}
 use Rattle.serde_json.specs.Data.{Data, object, member, no_members, number, string, unsigned}
 use Rattle.serde_json.specs.Written.{compact_text}
@@ -32,7 +32,7 @@ verdict_text (Json name) conditions found = compact_text (verdict_data name.now 
 -- count of its conditions went out in this form
 pub record HasPrintedVerdict (form : VerdictForm) (files : OutlineFiles) (old new : Option (List ℕ)) : Type 0 where
   pub pieces : List (List ℕ)
-  pub proofs : List ℕ
+  pub proofs : List (List ℕ)
   pub program : ProgramTree
   pub cut : ArePiecesOf files.derivation.items pieces
   pub accepted : AreAcceptedInPieces files.text.items pieces proofs program
@@ -40,10 +40,11 @@ pub record HasPrintedVerdict (form : VerdictForm) (files : OutlineFiles) (old ne
   pub found : ℕ
   pub printed : Appends old new (verdict_text form (length (conditions_of program accepted.lines)) found)
 
--- where the derivation is no longer than a file may be, it is accepted with the text and the proofs
+-- where the derivation is no longer than a file may be, and the proofs are one file, they are accepted with the text
 abbrev pub ShortDerivationsAreAccepted : Type 0
 ShortDerivationsAreAccepted =
-    (form : VerdictForm) (files : OutlineFiles) (old new : Option (List ℕ)) (v : HasPrintedVerdict form files old new) → length files.derivation.items ≤ MOST_TEXT_BYTES → AreAccepted files.text.items files.derivation.items v.proofs v.program
+    (form : VerdictForm) (files : OutlineFiles) (old new : Option (List ℕ)) (v : HasPrintedVerdict form files old new) (proofs : List ℕ) → v.proofs ≡ proofs ∷ [] → length files.derivation.items ≤ MOST_TEXT_BYTES
+    → AreAccepted files.text.items files.derivation.items proofs v.program
 
 -- what a walk found went out
 abbrev pub HasPrintedRuns : Option (List ℕ) → Option (List ℕ) → Type 0

@@ -1,14 +1,15 @@
 -- What was written of an outline.
 use Rattle.std.specs.Prelude.{◌≡◌, ℕ, ◌+◌, List, ◌++◌, length, Bool, true, false, Option}
+use Rattle.std.specs.List.{concat}
 use Rattle.std.specs.Io.KnownBytes.{Appends}
 use Rattle.rg_outline_reports.specs.declared.files.OutlineFiles.{OutlineFiles}
 use Rattle.rg_tree.specs.Lines.{LineTree}
 use Rattle.rg_tree.specs.Statements.{ProgramTree}
-use Rattle.rg_hints.specs.Proved.{AreProved}
+use Rattle.rg_pool.specs.ProofPieces.{AreProvedBy}
 use Rattle.rgc.specs.declared.proofs_found.Unproved.{Unproved}
 use Rattle.rg_accept.specs.Accepted.{conditions_of}
-use Rattle.rgc.specs.Chosen.{AreDerived}
 use Rattle.rgc.specs.Proofs.{AreUnproved}
+use Rattle.rgc_outlines.specs.Cut.{IsOfPieces}
 use Rattle.rgc_outlines.specs.declared.write.Wanted.{Wanted}
 use Rattle.rgc_outlines.specs.declared.write.Sides.{Sides}
 
@@ -29,28 +30,28 @@ pub record HasPut (text derivation proofs : List ℕ) (wanted : Wanted) (before 
   pub proofs_put : IsPut wanted.has_proofs proofs before.proofs.items after.proofs.items
   pub printed : IsPrinted wanted.has_text text old new
 
--- the proofs prove all conditions, where they are wanted
-abbrev pub AreProvedWhere : Bool → ProgramTree → List LineTree → List ℕ → Type 0
-AreProvedWhere true program lines proofs = AreProved (conditions_of program lines) proofs
+-- the pieces of proofs together prove all conditions, where they are wanted
+abbrev pub AreProvedWhere : Bool → ProgramTree → List LineTree → List (List ℕ) → Type 0
+AreProvedWhere true program lines proofs = AreProvedBy (conditions_of program lines) proofs
 AreProvedWhere false program lines proofs = Unit {0}
 
--- the text of these files spells a program, whose parts their derivation derives, and proofs prove its conditions; what is wanted of them was put, and the text
--- went out where it isn't
+-- the text of these files spells a program, whose parts the pieces of their derivation derive, and pieces of proofs prove its conditions; what is wanted of them
+-- was put, the pieces of proofs one after another, and the text went out where it isn't
 pub record HasWritten (files : OutlineFiles) (wanted : Wanted) (before after : Sides) (old new : Option (List ℕ)) : Type 0 where
-  pub proofs : List ℕ
+  pub proofs : List (List ℕ)
   pub program : ProgramTree
   pub lines : List LineTree
-  pub derived : AreDerived files.text.items files.derivation.items program lines
+  pub derived : IsOfPieces files.text.items files.derivation.items program lines
   pub proved : AreProvedWhere wanted.has_proofs program lines proofs
-  pub put : HasPut files.text.items files.derivation.items proofs wanted before after old new
+  pub put : HasPut files.text.items files.derivation.items (concat proofs) wanted before after old new
 
--- proofs are wanted, and aren't found: the text of these files spells a program, whose parts their derivation derives; some of its conditions have no proof, what
+-- proofs are wanted, and aren't found: the text of these files spells a program, whose parts the pieces of their derivation derive; some of its conditions have no proof, what
 -- was found of these is so, and all others hold; and a text went out
 pub record HasReportedMissing (files : OutlineFiles) (wanted : Wanted) (old new : Option (List ℕ)) : Type 0 where
   pub proofs_wanted : wanted.has_proofs ≡ true
   pub program : ProgramTree
   pub lines : List LineTree
-  pub derived : AreDerived files.text.items files.derivation.items program lines
+  pub derived : IsOfPieces files.text.items files.derivation.items program lines
   pub unproved : List Unproved
   pub are : AreUnproved (conditions_of program lines) 1 (length (conditions_of program lines) + 1) unproved
   pub reported : List ℕ

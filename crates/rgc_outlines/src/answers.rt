@@ -5,17 +5,18 @@ ghost use Rattle.rgc_outlines.specs.Changed.{IsAnswered};
 ghost use Rattle.rgc_outlines.specs.Inner.Answers.{AreAnswered};
 
 use crate::asked::is_proved;
-use crate::candidates::{Candidate, files_with, plain, unless_refused};
+use crate::candidates::{Candidate, files_with, nameless, unless_refused};
 use crate::known::Known;
 use crate::walk_text;
 use rg_find::Watcher;
 use rg_outline_challenge::{Between, Change, changed_outline};
-use rg_outline_reports::{OutlineFiles, Outlined, read_outline};
+use rg_outline_reports::{Format, OutlineFiles, Outlined, read_outline};
 use rg_pool::deal;
 use rg_walk::{Bounds, BreakingRun, Walked};
 use rg_words::Refusal;
 use rgc_answers::Context;
 use std::alloc::{AllocError, Global};
+use std::sync::Wait;
 use std::thread::Threads;
 
 /// How far the walk of a changed program goes.
@@ -43,7 +44,7 @@ pub struct Answered {
     pub answer: Answer,
     /// The text of the changed program.
     pub text: Vec<u8>,
-    /// The lines that report the run that breaks it, if there is one.
+    /// The lines that report the run that breaks it, or the line that does as JSON, if there is one.
     pub reported: Vec<u8>,
 }
 
@@ -55,10 +56,12 @@ pub(crate) struct Subject<'s, 'k, 'p> {
     pub(crate) known: &'k Known<'p>,
     /// The most decisions of each search.
     pub(crate) steps: u64,
+    /// How runs are reported.
+    pub(crate) format: Format,
 }
 
 /// A change that survives with these files, if it does.
-fn proved_with<R, P: Watcher + Copy>(
+fn proved_with<R: Threads + Wait + Sync, P: Watcher + Copy>(
     context: &Context<'_, R, P>,
     subject: Subject<'_, '_, '_>,
     change: &Change,
@@ -79,7 +82,7 @@ fn proved_with<R, P: Watcher + Copy>(
 }
 
 /// A change that survives with one of the assertions, if it does.
-fn proved<R, P: Watcher + Copy>(
+fn proved<R: Threads + Wait + Sync, P: Watcher + Copy>(
     context: &Context<'_, R, P>,
     subject: Subject<'_, '_, '_>,
     change: &Change,
@@ -98,8 +101,13 @@ fn proved<R, P: Watcher + Copy>(
 }
 
 /// The lines that report a run of the program of an outline; none where the outline is refused.
-fn run_lines(alloc: Global, source: &[u8], run: &BreakingRun) -> Result<Vec<u8>, AllocError> {
-    let outline = plain(source);
+fn run_lines(
+    alloc: Global,
+    source: &[u8],
+    format: Format,
+    run: &BreakingRun,
+) -> Result<Vec<u8>, AllocError> {
+    let outline = nameless(source, format);
     let Some(written) = unless_refused(read_outline(alloc, outline))? else {
         return Ok(Vec::new(alloc));
     };
@@ -110,7 +118,12 @@ fn run_lines(alloc: Global, source: &[u8], run: &BreakingRun) -> Result<Vec<u8>,
 }
 
 /// A change that isn't proved, with what a walk finds of it.
-fn walked(alloc: Global, source: &[u8], candidate: &Candidate) -> Result<Answered, Refusal>
+fn walked(
+    alloc: Global,
+    source: &[u8],
+    format: Format,
+    candidate: &Candidate,
+) -> Result<Answered, Refusal>
     ensures { IfOk result IsAnswered }
 {
     let change = candidate.change;
@@ -118,7 +131,7 @@ fn walked(alloc: Global, source: &[u8], candidate: &Candidate) -> Result<Answere
     match walk_text(alloc, &text, &[], BOUNDS)? {
         Walked::Breaks(run) => {
             let changed = changed_outline(alloc, source, &change, candidate.between)?;
-            let reported = run_lines(alloc, &changed, &run)?;
+            let reported = run_lines(alloc, &changed, format, &run)?;
             Ok(Answered {
                 change,
                 answer: Answer::Breaks,
@@ -136,7 +149,7 @@ fn walked(alloc: Global, source: &[u8], candidate: &Candidate) -> Result<Answere
 }
 
 /// What is known of a changed program.
-fn answer_of<R, P: Watcher + Copy>(
+fn answer_of<R: Threads + Wait + Sync, P: Watcher + Copy>(
     context: &Context<'_, R, P>,
     subject: Subject<'_, '_, '_>,
     candidate: &Candidate,
@@ -145,12 +158,12 @@ fn answer_of<R, P: Watcher + Copy>(
 {
     match proved(context, subject, &candidate.change)? {
         Some(answered) => Ok(answered),
-        None => walked(context.alloc, subject.source, candidate),
+        None => walked(context.alloc, subject.source, subject.format, candidate),
     }
 }
 
 /// What is known of each changed program, at its place, found in threads.
-fn answer_all<R: Threads + Sync, P: Watcher + Copy + Sync>(
+fn answer_all<R: Threads + Wait + Sync, P: Watcher + Copy + Sync>(
     context: &Context<'_, R, P>,
     subject: Subject<'_, '_, '_>,
     candidates: &[Candidate],
@@ -170,7 +183,7 @@ fn answer_all<R: Threads + Sync, P: Watcher + Copy + Sync>(
 }
 
 /// What is known of the changed program at a place: what was found of it before, which is taken, or what is found now.
-fn answer_at<R, P: Watcher + Copy>(
+fn answer_at<R: Threads + Wait + Sync, P: Watcher + Copy>(
     context: &Context<'_, R, P>,
     subject: Subject<'_, '_, '_>,
     candidates: &[Candidate],
@@ -202,7 +215,7 @@ fn keep(answers: &mut Vec<Answered>, answered: Answered) -> Result<(), AllocErro
 
 /// What is known of each changed program, in the order of the candidates. They are asked side by side, in threads; the answers are
 /// the same for any count of threads.
-pub(crate) fn answers_of<R: Threads + Sync, P: Watcher + Copy + Sync>(
+pub(crate) fn answers_of<R: Threads + Wait + Sync, P: Watcher + Copy + Sync>(
     context: &Context<'_, R, P>,
     subject: Subject<'_, '_, '_>,
     candidates: &[Candidate],

@@ -16,15 +16,18 @@ use crate::known::Known;
 use rg_find::{Judged, Watcher, judge};
 use rg_outline_reports::OutlineFiles;
 use rg_tree::condition::Condition;
+use rg_words::limits::MOST_PROOF_BYTES;
 use rg_words::{Refusal, RefusalNumber, SourceFile};
-use rgc::Derived;
+use rgc::{Derived, InThreads};
 use rgc_answers::Context;
 use std::alloc::{AllocError, Global};
+use std::sync::Wait;
+use std::thread::Threads;
 
-/// Adds the section of a condition of this number, where it has lines.
+/// Adds the section of a condition of this number, where it has lines: to the last piece, or where it doesn't fit into that, as a new one.
 fn push_section(
     alloc: Global,
-    proofs: &mut Vec<u8>,
+    pieces: &mut Vec<Vec<u8>>,
     number: u64,
     lines: &[u8],
 ) -> Result<(), AllocError> {
@@ -32,8 +35,18 @@ fn push_section(
         return Ok(());
     }
     let head = format!(in alloc; "section {number}\n")?;
-    proofs.extend_from_slice(head.as_bytes())?;
-    proofs.extend_from_slice(lines)?;
+    let size = head.len().saturating_add(lines.len());
+    if let Some(last) = pieces.last_mut() {
+        if size <= MOST_PROOF_BYTES.saturating_sub(last.len()) {
+            last.extend_from_slice(head.as_bytes())?;
+            last.extend_from_slice(lines)?;
+            return Ok(());
+        }
+    }
+    let mut piece = Vec::new(alloc);
+    piece.extend_from_slice(head.as_bytes())?;
+    piece.extend_from_slice(lines)?;
+    pieces.push(piece)?;
     Ok(())
 }
 
@@ -43,7 +56,7 @@ fn search<R, P: Watcher + Copy>(
     condition: &Condition,
     number: u64,
     steps: u64,
-    proofs: &mut Vec<u8>,
+    proofs: &mut Vec<Vec<u8>>,
 ) -> Result<bool, Refusal>
     ensures { IfErr result (IsJudgeRefusal (condition_tree condition.now) Derivation number steps) }
 {
@@ -68,7 +81,7 @@ fn judge_one<R, P: Watcher + Copy>(
     number: u64,
     known: &Known<'_>,
     steps: u64,
-    proofs: &mut Vec<u8>,
+    proofs: &mut Vec<Vec<u8>>,
 ) -> Result<bool, Refusal>
     ensures { IfErr result (IsJudgeRefusal (condition_tree condition.now) Derivation number steps) }
 {
@@ -87,7 +100,7 @@ fn judge_all<R, P: Watcher + Copy>(
     conditions: &[Condition],
     known: &Known<'_>,
     steps: u64,
-    proofs: &mut Vec<u8>,
+    proofs: &mut Vec<Vec<u8>>,
 ) -> Result<bool, Refusal>
     ensures { IfErr result (IsUnjudged (map condition_tree conditions.now) steps) }
 {
@@ -109,7 +122,7 @@ fn judge_derived<R, P: Watcher + Copy>(
     derived: &Derived,
     known: &Known<'_>,
     steps: u64,
-    proofs: &mut Vec<u8>,
+    proofs: &mut Vec<Vec<u8>>,
 ) -> Result<bool, Refusal>
     ensures { IfErr result (λ e. (e ≡ no_memory) ⊎ IsUnjudged (conditions_of (derived_program derived.now) (derived_lines derived.now)) steps e) }
 {
@@ -120,12 +133,31 @@ fn judge_derived<R, P: Watcher + Copy>(
     }
 }
 
-/// Whether these proofs prove all conditions of a program.
-fn has_proofs(alloc: Global, derived: Derived, proofs: &[u8]) -> Result<bool, Refusal>
+/// The bytes of pieces, in their order.
+fn slices_of(alloc: Global, pieces: &[Vec<u8>]) -> Result<Vec<&[u8]>, AllocError> {
+    let mut slices = Vec::new(alloc);
+    for piece in pieces {
+        slices.push(piece.as_slice())?;
+    }
+    Ok(slices)
+}
+
+/// Whether these pieces of proofs prove all conditions of a program.
+fn has_proofs<R: Threads + Wait + Sync, P>(
+    context: &Context<'_, R, P>,
+    derived: Derived,
+    proofs: &[Vec<u8>],
+) -> Result<bool, Refusal>
     ensures proved { IfOk result (λ b. IsTrue b → HasProofs (derived_program derived) (derived_lines derived)) }
     ensures refused { IfErr result (λ e. e ≡ no_memory) }
 {
-    match derived.prove(alloc, proofs) {
+    let slices = slices_of(context.alloc, proofs)?;
+    // Changed programs are asked side by side: each is checked in the thread that asks.
+    let checker = InThreads {
+        rt: context.rt,
+        threads: 1,
+    };
+    match derived.prove_pieces(&checker, context.alloc, &slices) {
         Ok(_) => Ok(true),
         Err(refusal) if refusal.number == RefusalNumber::Memory => Err(Refusal::from(AllocError)),
         Err(_) => Ok(false),
@@ -139,7 +171,7 @@ fn has_proofs(alloc: Global, derived: Derived, proofs: &[u8]) -> Result<bool, Re
 /// # Errors
 ///
 /// As `crate::derive_outline`; then as `rg_find::judge` of the conditions that are looked at.
-pub fn is_proved<R, P: Watcher + Copy>(
+pub fn is_proved<R: Threads + Wait + Sync, P: Watcher + Copy>(
     context: &Context<'_, R, P>,
     files: &OutlineFiles,
     known: &Known<'_>,
@@ -159,7 +191,7 @@ pub fn is_proved<R, P: Watcher + Copy>(
         Ok(has_lines) => has_lines,
         Err(refusal) => return Err(refusal),
     };
-    if has_lines && has_proofs(alloc, derived, &proofs)? {
+    if has_lines && has_proofs(context, derived, &proofs)? {
         return Ok(true);
     }
     Ok(false)

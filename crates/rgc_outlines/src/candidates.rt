@@ -31,11 +31,12 @@ pub(crate) struct Original<'a> {
 type Reading = Result<Option<Candidate>, AllocError>;
 
 /// An outline without a name, whose faults nobody reads.
-pub(crate) fn plain(source: &[u8]) -> OutlineSource<'_> {
+pub(crate) fn nameless(source: &[u8], format: Format) -> OutlineSource<'_> {
     OutlineSource {
         name: "",
         source,
-        format: Format::Plain,
+        format,
+        has_warnings: false,
     }
 }
 
@@ -50,7 +51,7 @@ pub(crate) fn unless_refused<T>(made: Result<T, NoFiles>) -> Result<Option<T>, A
 
 /// The files of an outline; nothing where it is refused.
 fn files_of(alloc: Global, source: &[u8]) -> Result<Option<OutlineFiles>, AllocError> {
-    let outline = plain(source);
+    let outline = nameless(source, Format::Plain);
     let Some(written) = unless_refused(read_outline(alloc, outline))? else {
         return Ok(None);
     };

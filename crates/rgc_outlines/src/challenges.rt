@@ -7,11 +7,11 @@ ghost use Rattle.rgc_outlines.specs.Changed.{IsAnswered};
 ghost use Rattle.rgc_outlines.specs.Challenged.{IsChallengeStopped};
 ghost use Rattle.rgc_outlines.specs.Unproved.{HasReportedUnverified};
 ghost use Rattle.rgc_outlines.specs.Verified.{HasPrintedVerdict};
-ghost use Rattle.rgc_outlines.specs.declared.verdict.VerdictForm.TheVariants.{Alone};
 ghost use Rattle.rgc_answers.specs.Failures.{NoFailure};
 
 use crate::answers::{Answer, Answered, Subject, answers_of};
 use crate::candidates::{Original, candidates_of};
+use crate::challenge_json::json_lines_of;
 use crate::known::Known;
 use crate::verdict::VerdictForm;
 use crate::{derive_outline, verify_outline};
@@ -19,7 +19,7 @@ use rg_find::Watcher;
 use rg_outline_challenge::{
     Change, Counts, changes_of, push_change, push_counts, push_survivors, push_unspoken,
 };
-use rg_outline_reports::{OutlineSource, Outlined};
+use rg_outline_reports::{Format, OutlineSource, Outlined};
 use rg_outline_syntax::Span;
 use rg_words::{Out, Refusal, write_all};
 use rgc::{Derived, ProofsFound, find_proofs};
@@ -87,15 +87,18 @@ fn lines_of(
     unspoken: &[Span],
     answers: &[Answered],
 ) -> Result<Vec<u8>, AllocError> {
-    let mut lines = Vec::new(alloc);
-    if options.with_refused {
-        push_refused(alloc, &mut lines, outline, answers)?;
-    }
     let counts = Counts {
         surviving: count(answers, Answer::Survives),
         breaking: count(answers, Answer::Breaks),
         undecided: count(answers, Answer::Undecided),
     };
+    if outline.format == Format::Json {
+        return json_lines_of(alloc, outline, counts, unspoken, answers);
+    }
+    let mut lines = Vec::new(alloc);
+    if options.with_refused {
+        push_refused(alloc, &mut lines, outline, answers)?;
+    }
     push_counts(&mut lines, counts)?;
     push_unspoken(&mut lines, outline.source, unspoken)?;
     let alive = survivors(alloc, answers)?;
@@ -112,7 +115,7 @@ fn known_by<'p>(
     match found {
         ProofsFound::Proofs(proofs) => {
             let conditions = derived.conditions(alloc)?;
-            Known::of(alloc, &conditions, proofs.as_bytes())
+            Known::of(alloc, &conditions, proofs)
         }
         ProofsFound::Failures(_) => Ok(Known::nothing(alloc)),
     }
@@ -141,6 +144,7 @@ fn answers_in<R: Threads + Wait + Sync, P: Watcher + Copy + Sync>(
         source,
         known: &known,
         steps,
+        format: outlined.outline.format,
     };
     answers_of(context, subject, &candidates)
 }
@@ -169,7 +173,8 @@ fn challenge_verified<R: Threads + Wait + Sync, W: Out, P: Watcher + Copy + Sync
 /// Verifies an outline, as `crate::verify_outline` does. Where it is verified, changes its program in each small way, asks of each changed
 /// program whether the same specification still holds, and prints what it found: where it is wanted, the changes that don't survive; then how
 /// many changes there are of each kind; then those that survive, with their lines, first those that touch words of the specification. Where
-/// it isn't verified, answers nothing. The changed programs are asked side by side, in threads; what is printed is the same for any count of
+/// it isn't verified, answers nothing. Where the outline is reported of as JSON, all changes are told, a line each, and then how many there are of each
+/// kind. `form` is that of the verdict. The changed programs are asked side by side, in threads; what is printed is the same for any count of
 /// threads.
 ///
 /// # Errors
@@ -181,20 +186,21 @@ pub fn challenge<R: Threads + Wait + Sync, W: Out, P: Watcher + Copy + Sync>(
     context: &Context<'_, R, P>,
     outlined: &Outlined<'_>,
     options: Options,
+    form: VerdictForm<'_>,
     out: &mut W,
     warnings: &mut Vec<u8>,
 ) -> Result<Option<Vec<Answered>>, Refusal>
     requires { CanCount (W.failures out.old) }
-    ensures verdict { IfOk result (λ found. IfSome found (λ _. (middle : Option (List ℕ)) × HasPrintedVerdict Alone outlined.now.files (W.contents out.old) middle)) }
+    ensures verdict { IfOk result (λ found. IfSome found (λ _. (middle : Option (List ℕ)) × HasPrintedVerdict form.entry outlined.now.files (W.contents out.old) middle)) }
     // A change is said to survive only where its text, the pieces of a derivation and proofs are accepted; and to break the specification only where
     // its text's program doesn't satisfy it.
     ensures answers { IfOk result (λ found. IfSome found (λ answers. All IsAnswered answers.items)) }
     ensures reported { IfOk result (λ found. found ≡ None → HasReportedUnverified outlined.now.files (W.contents out.old) (W.contents out.new)) }
     ensures failures { NoFailure result (W.failures out.old) (W.failures out.new) }
     // Where a changed program is refused, nothing went out after the verdict, unless the writer failed; of why it is refused nothing is said.
-    ensures stopped { IfErr result (IsChallengeStopped outlined.now.files options.steps (W.contents out.old) (W.contents out.new) (W.failures out.old) (W.failures out.new)) }
+    ensures stopped { IfErr result (IsChallengeStopped form.entry outlined.now.files options.steps (W.contents out.old) (W.contents out.new) (W.failures out.old) (W.failures out.new)) }
 {
-    let (form, steps) = (VerdictForm::Alone, options.steps);
+    let steps = options.steps;
     let is_verified = match verify_outline(context, outlined, form, steps, out, warnings) {
         Ok(is_verified) => is_verified,
         Err(refusal) => return Err(refusal),

@@ -14,7 +14,7 @@ const MULTIPLIER: u64 = 0x9E37_79B9_7F4A_7C15;
 struct Proved<'p> {
     /// Equal conditions have equal prints. Two others could have equal ones, too, so the lines are checked wherever they are used.
     print: u64,
-    /// The lines of its section; none where it needs none.
+    /// The lines of its section.
     lines: &'p [u8],
 }
 
@@ -100,22 +100,20 @@ fn print_of(condition: &Condition) -> u64 {
     with_formula(flags, &condition.goal)
 }
 
-/// Conditions, each with the lines of its section.
-fn proved_by<'p>(
-    alloc: Global,
+/// Adds the conditions that have a section, each with its lines. (One that needs no section is found again at once.)
+fn add_proved<'p>(
     conditions: &[Condition],
     placed: &[Option<SectionBytes<'p>>],
-) -> Result<Vec<Proved<'p>>, AllocError> {
-    let mut proved = Vec::new(alloc);
+    proved: &mut Vec<Proved<'p>>,
+) -> Result<(), AllocError> {
     for (condition, section) in conditions.iter().zip(placed) {
-        let print = print_of(condition);
-        let lines: &[u8] = match section {
-            Some(section) => section.bytes,
-            None => &[],
-        };
-        proved.push(Proved { print, lines })?;
+        if let Some(section) = section {
+            let print = print_of(condition);
+            let lines = section.bytes;
+            proved.push(Proved { print, lines })?;
+        }
     }
-    Ok(proved)
+    Ok(())
 }
 
 impl<'p> Known<'p> {
@@ -126,7 +124,7 @@ impl<'p> Known<'p> {
         }
     }
 
-    /// These conditions, which this proofs file proves.
+    /// These conditions, which these pieces of proofs prove.
     ///
     /// # Errors
     ///
@@ -134,12 +132,15 @@ impl<'p> Known<'p> {
     pub fn of(
         alloc: Global,
         conditions: &[Condition],
-        proofs: &'p [u8],
+        proofs: &'p [String],
     ) -> Result<Known<'p>, Refusal> {
         let count = conditions.len();
-        let sections = proof_sections(alloc, proofs, count)?;
-        let placed = place_sections(alloc, &sections, count)?;
-        let proved = proved_by(alloc, conditions, &placed)?;
+        let mut proved = Vec::new(alloc);
+        for piece in proofs {
+            let sections = proof_sections(alloc, piece.as_bytes(), count)?;
+            let placed = place_sections(alloc, &sections, count)?;
+            add_proved(conditions, &placed, &mut proved)?;
+        }
         Ok(Known { proved })
     }
 

@@ -5,6 +5,7 @@
 mod answers;
 mod asked;
 mod candidates;
+mod challenge_json;
 mod challenges;
 mod claims;
 mod failures;

@@ -5,12 +5,14 @@ ghost use Rattle.rg_tree.specs.ProgramTrees.{program as program_tree};
 ghost use Rattle.rg_monitor.specs.Lines.{change_text, change_if};
 ghost use Rattle.rgc_outlines.specs.Reported.{changes_by, words_by, line_in, reported_line, reported_lines};
 
+use rg_floor::closed::Closed;
 use rg_monitor::lines::{name, push_cover, push_number};
 use rg_monitor::record::Record;
 use rg_outline_reports::{Outlined, Places};
 use rg_tree::numbered::Numbered;
 use rg_tree::program::Program;
 use rg_words::State;
+use rgc_answers::{MOST_DRAWN, Shown, draw};
 use std::alloc::{AllocError, Global};
 use std::marker::Model;
 
@@ -148,6 +150,27 @@ pub fn push_reported(
         push_line(text, naming, program, step)?;
     }
     Ok(())
+}
+
+/// Draws a run where that is asked, as an outline names what it speaks of; of a long one the last steps.
+pub(crate) fn draw_reported(
+    alloc: Global,
+    naming: &Naming,
+    closed: &Closed<'_>,
+    is_drawn: bool,
+    picture: &mut Vec<u8>,
+) -> Result<(), AllocError> {
+    if !is_drawn {
+        return Ok(());
+    }
+    let left_out = closed.len().saturating_sub(MOST_DRAWN);
+    let records = closed.records_from(alloc, left_out.saturating_add(1))?;
+    let shown = Shown {
+        program: closed.program(),
+        words: &naming.words,
+        lines: &naming.lines,
+    };
+    draw(picture, shown, left_out as u64, &records)
 }
 
 /// Puts the outline's line of a statement at the statement's line of the text, where none is there yet.

@@ -12,9 +12,10 @@ ghost use Rattle.rgc_answers.specs.Failures.{NoFailure};
 
 use crate::verdict::{VerdictForm, push_name};
 use crate::verify::print_verified;
+use crate::walk::warn_of_stuck;
 use crate::{conditions_reported, tell_walk};
 use rg_find::{Judged, Unwatched, Watcher};
-use rg_outline_reports::{Outlined, values_of};
+use rg_outline_reports::{Asks, Outlined, Outside, Question, values_of};
 use rg_words::{Out, Refusal, write_all};
 use rgc::{Unproved, find};
 use rgc_answers::Context;
@@ -70,12 +71,37 @@ fn print_unproved<W: Out>(
     Ok(())
 }
 
-/// Whether a short search finds that a formula to show is true in all states.
-fn is_shown(alloc: Global, text: &[u8]) -> bool {
-    match find(alloc, text, MOST_STEPS_FOR_WARNING, &mut Unwatched) {
-        Ok((_, judged)) => matches!(judged, Judged::Holds(_)),
-        Err(_) => false,
+/// What short searches found for the warnings of an outline.
+#[derive(Drop)]
+struct Answers {
+    /// The questions to which the answer is yes.
+    shown: Vec<Asks>,
+    outside: Vec<Outside>,
+}
+
+/// Adds what a short search finds for a question.
+fn push_answer(
+    alloc: Global,
+    question: &Question,
+    answers: &mut Answers,
+) -> Result<(), AllocError> {
+    let Ok((_, judged)) = find(
+        alloc,
+        &question.text,
+        MOST_STEPS_FOR_WARNING,
+        &mut Unwatched,
+    ) else {
+        return Ok(());
+    };
+    match (&judged, question.asks) {
+        (Judged::Holds(_), asks) => answers.shown.push(asks)?,
+        (Judged::Fails(state, _), Asks::IndexInside(place)) => {
+            let state = values_of(alloc, state)?;
+            answers.outside.push(Outside { place, state })?;
+        }
+        _ => {}
     }
+    Ok(())
 }
 
 /// Adds the warnings of an outline, of which some are found by a short search.
@@ -85,19 +111,21 @@ fn push_warnings(
     warnings: &mut Vec<u8>,
 ) -> Result<(), AllocError> {
     let questions = outlined.questions()?;
-    let mut shown = Vec::new(alloc);
+    let mut answers = Answers {
+        shown: Vec::new(alloc),
+        outside: Vec::new(alloc),
+    };
     for question in &questions {
-        if is_shown(alloc, &question.text) {
-            shown.push(question.asks)?;
-        }
+        push_answer(alloc, question, &mut answers)?;
     }
-    let reported = outlined.warnings(&shown)?;
+    let reported = outlined.warnings(&answers.shown, &answers.outside)?;
     warnings.extend_from_slice(&reported)
 }
 
 /// Prints how many conditions of an outline's program were proved, in this form; else reports which aren't, and a run that breaks the
 /// specification or that none was found, and answers false. Proofs are looked for and checked in threads, each search with a copy of the
-/// watcher. The outline's warnings are put after what `warnings` holds; they change no answer.
+/// watcher. The outline's warnings are put after what `warnings` holds, and last, where all is proved, that of a run that gets stuck; they change
+/// no answer.
 ///
 /// # Errors
 ///
@@ -120,7 +148,10 @@ pub fn verify_outline<R: Threads + Wait + Sync, W: Out, P: Watcher + Copy + Sync
 {
     push_warnings(context.alloc, outlined, warnings)?;
     match print_verified(context, &outlined.files, steps, form, out)? {
-        None => Ok(true),
+        None => {
+            warn_of_stuck(context.alloc, outlined, warnings);
+            Ok(true)
+        }
         Some(unproved) => {
             print_unproved(context.alloc, outlined, &unproved, form, out)?;
             Ok(false)

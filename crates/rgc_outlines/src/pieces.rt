@@ -8,7 +8,7 @@ ghost use Rattle.rgc_outlines.specs.Cut.{ArePiecesOf, IsOfPieces, IsOfPiecesRefu
 use rg_outline_reports::OutlineFiles;
 use rg_words::Refusal;
 use rg_words::limits::MOST_TEXT_BYTES;
-use rgc::{Derived, derive_in_pieces};
+use rgc::{Derived, derive_program};
 use std::alloc::{AllocError, Global};
 
 /// Bytes that are cut at these places. A place before the one that was cut last cuts off no byte, and so does one after the end.
@@ -52,14 +52,14 @@ fn pieces_of(alloc: Global, files: &OutlineFiles) -> Result<Vec<&[u8]>, AllocErr
 ///
 /// # Errors
 ///
-/// As `rgc::derive_in_pieces`: an outline's text and its derivation are refused only where they are too deep. `Memory` where memory is refused.
+/// As `rgc::derive_program`: an outline's text and its derivation are refused only where they are too deep. `Memory` where memory is refused.
 pub fn derive_outline(alloc: Global, files: &OutlineFiles) -> Result<Derived, Refusal>
     // What is derived comes from the whole derivation, and from one piece where that is no longer than a file may be.
     ensures derived { IfOk result (λ d. IsOfPieces files.now.text.items files.now.derivation.items (derived_program d) (derived_lines d)) }
     ensures refused { IfErr result (IsOfPiecesRefusal files.now.text.items files.now.derivation.items) }
 {
     let pieces = pieces_of(alloc, files)?;
-    match derive_in_pieces(alloc, &files.text, &pieces) {
+    match derive_program(alloc, &files.text, &pieces) {
         Ok(derived) => Ok(derived),
         Err(refusal) => Err(refusal),
     }

@@ -1,11 +1,12 @@
 //! A run of an outline's program, in the outline's words.
 
+ghost use Rattle.rg_pool.specs.ProofPieces.{AreProofsRefused};
+ghost use Rattle.rgc.specs.Pieces.{bytes_of};
 ghost use Rattle.std.specs.Prelude.{◌≡◌, IsTrue, false, IfOk, IfErr, OnOk, OnErr};
 ghost use Rattle.std.specs.Io.KnownBytes.{Appends};
 ghost use Rattle.rg_words.specs.Stopped.{IsFailure, IsStopped};
 ghost use Rattle.rg_words.specs.Written.{CanCount};
 ghost use Rattle.rg_tree.specs.ProgramTrees.{program as program_tree};
-ghost use Rattle.rg_hints.specs.Proved.{IsProofsRefusal};
 ghost use Rattle.rg_accept.specs.Accepted.{conditions_of};
 ghost use Rattle.rg_accept.specs.Stages.{derived_program, derived_lines, emitted_program, emitted_blocks};
 ghost use Rattle.rgc_outlines.specs.Reported.{reported_lines};
@@ -17,26 +18,27 @@ ghost use Rattle.rgc_answers.specs.Failures.{NoFailure};
 
 use crate::derive_outline;
 use crate::failures::print_unproved;
-use crate::naming::{Naming, naming_of, push_reported};
+use crate::naming::{Naming, draw_reported, naming_of, push_reported};
 use rg_code::checked::Checked;
 use rg_find::Watcher;
 use rg_floor::closed::Closed;
 use rg_outline_reports::Outlined;
 use rg_tree::program::Program;
 use rg_words::{Out, Refusal, write_all};
-use rgc::{Derived, Emitted, InThreads, ProofsFound, find_proofs};
+use rgc::{Derived, Emitted, InThreads, ProofsFound, bytes_of_pieces, find_proofs};
 use rgc_answers::{Context, RunFiles, Unread, end_run, play_files};
 use std::alloc::Global;
 use std::sync::Wait;
 use std::thread::Threads;
 
 /// How an outline is run: the bytes of a start and of the environment's moves, which name words as the program's text does; how many steps
-/// parts may make; whether the run is drawn; and the most decisions of the search for the proof of each condition.
+/// parts may make; the word by which parts are let go, where there is one; whether the run is drawn; and the most decisions of the search for the proof of each condition.
 #[derive(Clone, Copy)]
 pub struct RunOutline<'a> {
     pub start: Option<&'a [u8]>,
     pub moves: Option<&'a [u8]>,
     pub limit: u64,
+    pub seed: Option<&'a str>,
     pub is_drawn: bool,
     pub steps: u64,
 }
@@ -87,21 +89,22 @@ fn run_emitted<R: Threads + Wait + Sync, W: Out, F: Out, P>(
     let alloc = context.alloc;
     let NamedCode { naming, emitted } = code;
     let closed = play_files(context.rt, alloc, emitted, files, &mut Unread)?;
+    draw_reported(alloc, naming, &closed, files.is_drawn, picture)?;
     let program = emitted.program();
     print_reported(alloc, naming, program, &closed, out)?;
-    end_run(alloc, &closed, files.is_drawn, out, faults, picture)
+    end_run(alloc, &closed, false, out, faults, picture)
 }
 
-/// The code of a program, all of whose conditions these proofs prove.
+/// The code of a program, all of whose conditions these pieces of proofs prove.
 fn emitted_by<R: Threads + Wait + Sync, P>(
     context: &Context<'_, R, P>,
     derived: Derived,
-    proofs: &[u8],
+    proofs: &[&[u8]],
 ) -> Result<Emitted, Refusal>
-    ensures emitted { IfOk result (λ e. IsEmittedBy (derived_program derived) (derived_lines derived) proofs.now (emitted_program e) (emitted_blocks e)) }
-    ensures refused { IfErr result (IsProofsRefusal (conditions_of (derived_program derived) (derived_lines derived)) proofs.now) }
+    ensures emitted { IfOk result (λ e. IsEmittedBy (derived_program derived) (derived_lines derived) (bytes_of proofs.now) (emitted_program e) (emitted_blocks e)) }
+    ensures refused { IfErr result (AreProofsRefused (conditions_of (derived_program derived) (derived_lines derived)) (bytes_of proofs.now)) }
 {
-    let accepted = derived.prove_by(
+    let accepted = derived.prove_pieces(
         &InThreads {
             rt: context.rt,
             threads: context.threads,
@@ -131,9 +134,9 @@ fn run_proved<R: Threads + Wait + Sync, W: Out, F: Out, P>(
 ) -> Result<(), Refusal>
     requires out { CanCount (W.failures out.old) }
     requires faults { CanCount (F.failures faults.old) }
-    ensures printed { OnOk result (HasReportedProved (derived_program outline.entry.derived) (derived_lines outline.entry.derived) files.entry.proofs.now files.entry.start files.entry.moves files.entry.limit (W.contents out.old) (W.contents out.new)) }
+    ensures printed { OnOk result (HasReportedProved (derived_program outline.entry.derived) (derived_lines outline.entry.derived) (bytes_of files.entry.proofs.now) files.entry.start files.entry.moves files.entry.limit (W.contents out.old) (W.contents out.new)) }
     ensures failures { NoFailure result (W.failures out.old) (W.failures out.new) }
-    ensures stopped { IfErr result (IsStopped (IsProvedRunRefusal (derived_program outline.entry.derived) (derived_lines outline.entry.derived) files.entry.proofs.now files.entry.start files.entry.moves files.entry.limit) (W.contents out.old) (W.contents out.new) (W.failures out.old) (W.failures out.new)) }
+    ensures stopped { IfErr result (IsStopped (IsProvedRunRefusal (derived_program outline.entry.derived) (derived_lines outline.entry.derived) (bytes_of files.entry.proofs.now) files.entry.start files.entry.moves files.entry.limit) (W.contents out.old) (W.contents out.new) (W.failures out.old) (W.failures out.new)) }
     ensures quiet { OnErr result (F.failures faults.new ≡ F.failures faults.old) }
 {
     let DerivedOutline { outlined, derived } = outline;
@@ -178,13 +181,15 @@ pub fn run_outline<R: Threads + Wait + Sync, W: Out, F: Out, P: Watcher + Copy +
     let derived = derive_outline(alloc, files)?;
     match find_proofs(rt, alloc, threads, &derived, how.steps, context.watcher)? {
         ProofsFound::Proofs(proofs) => {
+            let pieces = bytes_of_pieces(alloc, &proofs)?;
             let run = RunFiles {
                 text: &files.text,
-                derivation: &files.derivation,
-                proofs: proofs.as_bytes(),
+                derivation: &[],
+                proofs: &pieces,
                 start: how.start,
                 moves: how.moves,
                 limit: how.limit,
+                seed: how.seed,
                 is_drawn: how.is_drawn,
                 threads,
             };

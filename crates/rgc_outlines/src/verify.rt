@@ -1,9 +1,9 @@
 //! The verification of an outline: its text is read as any file is, and so is each piece of its derivation; proofs are looked for, and checked.
 
-ghost use Rattle.std.specs.Prelude.{◌≡◌, None, IfOk, IfErr, IfSome, OnOk};
+ghost use Rattle.std.specs.Prelude.{◌≡◌, None, map, string_bytes, IfOk, IfErr, IfSome, OnOk};
 ghost use Rattle.rg_words.specs.Stopped.{IsFailure, IsStopped};
 ghost use Rattle.rg_words.specs.Written.{CanCount};
-ghost use Rattle.rg_hints.specs.Proved.{AreProved};
+ghost use Rattle.rg_pool.specs.ProofPieces.{AreProvedBy};
 ghost use Rattle.rg_tree.specs.Programs.{IsSatisfied};
 ghost use Rattle.rg_accept.specs.Accepted.{conditions_of};
 ghost use Rattle.rg_accept.specs.Stages.{derived_program, derived_lines};
@@ -32,24 +32,33 @@ fn sections_in(proofs: &[u8]) -> usize {
         .count()
 }
 
-/// Prints how many conditions these proofs prove, which is all of them.
+/// How many sections all pieces have.
+fn all_sections_in(pieces: &[String]) -> usize {
+    let mut count = 0_usize;
+    for piece in pieces {
+        count = count.saturating_add(sections_in(piece.as_bytes()));
+    }
+    count
+}
+
+/// Prints how many conditions these pieces of proofs prove, which is all of them.
 fn print_counts<W: Out>(
     alloc: Global,
     derived: &Derived,
-    proofs: &[u8],
+    proofs: &[String],
     form: VerdictForm<'_>,
     out: &mut W,
 ) -> Result<(), Refusal>
-    requires proved { AreProved (conditions_of (derived_program derived.now) (derived_lines derived.now)) proofs.now }
+    requires proved { AreProvedBy (conditions_of (derived_program derived.now) (derived_lines derived.now)) (map string_bytes proofs.now) }
     requires satisfied { IsSatisfied (derived_program derived.now) }
     requires out { CanCount (W.failures out.old) }
-    ensures printed { OnOk result (HasPrintedCounts (derived_program derived.now) (derived_lines derived.now) proofs.now form.entry (W.contents out.old) (W.contents out.new)) }
+    ensures printed { OnOk result (HasPrintedCounts (derived_program derived.now) (derived_lines derived.now) (map string_bytes proofs.now) form.entry (W.contents out.old) (W.contents out.new)) }
     ensures failures { NoFailure result (W.failures out.old) (W.failures out.new) }
     ensures stopped { IfErr result (IsFailure (W.failures out.old) (W.failures out.new)) }
 {
     let conditions = derived.conditions(alloc)?;
     let all = conditions.as_slice();
-    let line = verdict_line(alloc, form, all.len(), sections_in(proofs))?;
+    let line = verdict_line(alloc, form, all.len(), all_sections_in(proofs))?;
     write_all(out, line.as_bytes())?;
     Ok(())
 }
@@ -79,15 +88,15 @@ pub fn print_verified<R: Threads + Wait + Sync, W: Out, P: Watcher + Copy + Sync
     let (rt, alloc, threads) = (context.rt, context.alloc, context.threads);
     match find_proofs(rt, alloc, threads, &derived, steps, context.watcher)? {
         ProofsFound::Proofs(proofs) => {
-            print_counts(alloc, &derived, proofs.as_bytes(), form, out)?;
+            print_counts(alloc, &derived, &proofs, form, out)?;
             Ok(None)
         }
         ProofsFound::Failures(unproved) => Ok(Some(unproved)),
     }
 }
 
-/// Where a derivation is no longer than a file may be, what is said of its pieces where a verdict is printed is said of it: it is accepted with the
-/// text and the proofs, as `rgc::accept` accepts them.
+/// Where a derivation is no longer than a file may be, and the proofs are one file, what is said of their pieces where a verdict is printed is said of
+/// them: they are accepted with the text, as `rgc::accept` accepts them.
 pub fn short_verdicts_are_accepted()
     ensures { ShortDerivationsAreAccepted }
 {}

@@ -10,11 +10,11 @@ ghost use Rattle.rgc_outlines.specs.WalkedRefuted.{IsRefuted, IsReported};
 ghost use Rattle.rgc_answers.specs.Failures.{NoFailure};
 
 use crate::verdict::{VerdictForm, push_name};
-use rg_outline_reports::Outlined;
+use rg_outline_reports::{Format, Outlined};
 use rg_parse::program;
 use rg_walk::{Bounds, Walked, walk};
 use rg_words::{Out, Refusal, write_all};
-use std::alloc::Global;
+use std::alloc::{AllocError, Global};
 
 /// How far a walk goes where conditions have no proof: about five seconds.
 const BOUNDS: Bounds = Bounds {
@@ -34,6 +34,13 @@ fn bounds_of(steps: Option<u64>) -> Bounds {
         ..BOUNDS
     }
 }
+
+/// How far a walk goes for a run that gets stuck, where all conditions are proved: about a fifth of a second.
+const BOUNDS_FOR_STUCK: Bounds = Bounds {
+    steps: 500_000,
+    bytes: 100_000_000,
+    with_parts: false,
+};
 
 /// What was reported of a walk.
 #[derive(Clone, Copy, PartialEq, Eq)]
@@ -64,8 +71,34 @@ pub fn walk_text(
     Ok(walked)
 }
 
+/// Adds a warning where a walk found a run that gets stuck.
+fn push_stuck(
+    outlined: &Outlined<'_>,
+    walked: &Walked,
+    warnings: &mut Vec<u8>,
+) -> Result<(), AllocError> {
+    if let Walked::NotFound(found) = walked
+        && let Some(run) = &found.stuck
+    {
+        let lines = outlined.stuck(run)?;
+        if !warnings.is_empty() && outlined.outline.format == Format::Plain {
+            warnings.push(b'\n')?;
+        }
+        warnings.extend_from_slice(&lines)?;
+    }
+    Ok(())
+}
+
+/// Follows runs of an outline's text for a short time, and adds a warning where one gets stuck. Where memory is refused it adds none.
+pub(crate) fn warn_of_stuck(alloc: Global, outlined: &Outlined<'_>, warnings: &mut Vec<u8>) {
+    if let Ok(walked) = walk_text(alloc, &outlined.files.text, &[], BOUNDS_FOR_STUCK) {
+        let _ = push_stuck(outlined, &walked, warnings);
+    }
+}
+
 /// Walks the text of an outline within these bounds, and adds what was found, in the outline's words: a run that breaks the specification, or that
-/// none was found and how far was looked. `given` are states from which it looks, too, each as the values of the words in their order.
+/// none was found and how far was looked; and the warning of a run that gets stuck. `given` are states from which it looks, too, each as the values of
+/// the words in their order.
 ///
 /// # Errors
 ///
@@ -76,6 +109,7 @@ fn push_found(
     given: &[Vec<u64>],
     bounds: Bounds,
     reported: &mut Vec<u8>,
+    warnings: &mut Vec<u8>,
 ) -> Result<WalkReported, Refusal>
     // Where a run is reported, the program that the text spells doesn't satisfy its specification.
     ensures reported { IfOk result (IsReported outlined.now.files.text.items) }
@@ -84,6 +118,7 @@ fn push_found(
     let walked = walk_text(alloc, &outlined.files.text, given, bounds)?;
     let lines = outlined.walked(&walked)?;
     reported.extend_from_slice(&lines)?;
+    push_stuck(outlined, &walked, warnings)?;
     match walked {
         Walked::Breaks(_) => Ok(WalkReported::Breaks),
         Walked::NotFound(_) => Ok(WalkReported::NotFound),
@@ -107,11 +142,14 @@ pub fn tell_walk(
     ensures reported { IfOk result (IsReported outlined.now.files.text.items) }
     ensures refused { IfErr result (IsProgramRefusal outlined.now.files.text.items) }
 {
-    push_found(alloc, outlined, given, BOUNDS, reported)
+    // A run that gets stuck is nothing to look at while conditions have no proof.
+    let mut unsaid = Vec::new(alloc);
+    push_found(alloc, outlined, given, BOUNDS, reported, &mut unsaid)
 }
 
 /// Prints a run of an outline's program that breaks its specification, in this form, and answers false; or that none was found and how far
-/// was looked, and answers true. At most so many steps are made, or as many as take about ten seconds.
+/// was looked, and answers true. At most so many steps are made, or as many as take about ten seconds. The warning of a run that gets stuck is put
+/// after what `warnings` holds.
 ///
 /// # Errors
 ///
@@ -122,6 +160,7 @@ pub fn runs_only<W: Out>(
     steps: Option<u64>,
     form: VerdictForm<'_>,
     out: &mut W,
+    warnings: &mut Vec<u8>,
 ) -> Result<bool, Refusal>
     requires { CanCount (W.failures out.old) }
     // A run is reported only where the program that the outline's text spells doesn't satisfy its specification.
@@ -132,7 +171,8 @@ pub fn runs_only<W: Out>(
 {
     let mut reported = Vec::new(alloc);
     push_name(form, &mut reported)?;
-    let walk = push_found(alloc, outlined, &[], bounds_of(steps), &mut reported)?;
+    let bounds = bounds_of(steps);
+    let walk = push_found(alloc, outlined, &[], bounds, &mut reported, warnings)?;
     write_all(out, &reported)?;
     match walk {
         WalkReported::Breaks => Ok(false),

@@ -1,6 +1,7 @@
 //! The files that an outline stands for, written out.
 
-ghost use Rattle.std.specs.Prelude.{◌≡◌, IsTrue, false, IfOk, IfErr, OnOk};
+ghost use Rattle.std.specs.Prelude.{◌≡◌, IsTrue, false, map, string_bytes, IfOk, IfErr, OnOk};
+ghost use Rattle.std.specs.List.{concat};
 ghost use Rattle.rg_words.specs.Stopped.{IsFailure, IsStopped};
 ghost use Rattle.rg_words.specs.Written.{CanCount};
 ghost use Rattle.rg_accept.specs.Stages.{derived_program, derived_lines};
@@ -9,11 +10,12 @@ ghost use Rattle.rgc_outlines.specs.Written.{IsPut, IsPrinted, HasPut, HasWritte
 ghost use Rattle.rgc_outlines.specs.Inner.Proved.{AreFoundWhere};
 ghost use Rattle.rgc_answers.specs.Failures.{NoFailure};
 
+use crate::derive_outline;
 use crate::failures::print_unproved;
 use rg_find::Watcher;
 use rg_outline_reports::{OutlineFiles, Outlined};
 use rg_words::{Out, Refusal, write_all};
-use rgc::{Derived, ProofsFound, derive_program, find_proofs};
+use rgc::{Derived, ProofsFound, find_proofs};
 use rgc_answers::Context;
 use std::alloc::{AllocError, Global};
 use std::sync::Wait;
@@ -116,7 +118,18 @@ fn proofs_where<R: Threads + Wait + Sync, P: Watcher + Copy + Sync>(
     if is_wanted {
         return find_proofs(rt, alloc, threads, derived, steps, context.watcher);
     }
-    Ok(ProofsFound::Proofs(String::new(alloc)))
+    Ok(ProofsFound::Proofs(Vec::new(alloc)))
+}
+
+/// Pieces of proofs, one after another.
+fn joined(alloc: Global, pieces: &[String]) -> Result<Vec<u8>, AllocError>
+    ensures { IfOk result (λ all. all.items ≡ concat (map string_bytes pieces.now)) }
+{
+    let mut all = Vec::new(alloc);
+    for piece in pieces {
+        all.extend_from_slice(piece.as_bytes())?;
+    }
+    Ok(all)
 }
 
 /// The map of an outline where it is wanted; else nothing.
@@ -132,12 +145,13 @@ fn map_where(
 }
 
 /// Puts the files that an outline stands for after what is there, those that are wanted, and prints the program's text where it isn't
-/// wanted so. Proofs are looked for only where they are wanted, in threads, each search with a copy of the watcher; they prove all conditions. Where
+/// wanted so. Proofs are looked for only where they are wanted, in threads, each search with a copy of the watcher; they prove all conditions. A derivation
+/// and proofs that are longer than a file may be are put whole: cut into pieces they are files. Where
 /// they aren't found, it is printed which conditions have none, no file is put, and the answer is false. Of the map nothing is promised.
 ///
 /// # Errors
 ///
-/// Where the outline's text or derivation is refused, as any files are; where proofs are wanted, as `rgc::find_proofs`; then `Write` where the
+/// As `crate::derive_outline`; where proofs are wanted, as `rgc::find_proofs`; then `Write` where the
 /// writer failed. `Memory` where memory is refused.
 pub fn write_outline<R: Threads + Wait + Sync, W: Out, P: Watcher + Copy + Sync>(
     context: &Context<'_, R, P>,
@@ -157,10 +171,11 @@ pub fn write_outline<R: Threads + Wait + Sync, W: Out, P: Watcher + Copy + Sync>
     let alloc = context.alloc;
     let files = &outlined.files;
     let map = map_where(alloc, outlined, wanted.has_map)?;
-    let derived = derive_program(alloc, &files.text, &files.derivation)?;
+    let derived = derive_outline(alloc, files)?;
     match proofs_where(context, &derived, wanted.has_proofs, steps)? {
         ProofsFound::Proofs(proofs) => {
-            put(files, proofs.as_bytes(), &map, wanted, out, sides)?;
+            let all = joined(alloc, &proofs)?;
+            put(files, &all, &map, wanted, out, sides)?;
             Ok(true)
         }
         ProofsFound::Failures(unproved) => {

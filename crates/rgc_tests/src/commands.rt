@@ -8,8 +8,8 @@ use rgc_line::{Chosen, Command};
 #[derive(Clone, Copy)]
 pub(crate) struct Texts {
     pub(crate) text: Option<&'static [u8]>,
-    pub(crate) derivation: Option<&'static [u8]>,
-    pub(crate) proofs: Option<&'static [u8]>,
+    pub(crate) derivation: Option<&'static [&'static [u8]]>,
+    pub(crate) proofs: Option<&'static [&'static [u8]]>,
     pub(crate) start: Option<&'static [u8]>,
     pub(crate) moves: Option<&'static [u8]>,
 }
@@ -38,8 +38,8 @@ pub(crate) struct Printed {
 
 const PROGRAM: Texts = Texts {
     text: Some(TEXT),
-    derivation: Some(DERIVATION),
-    proofs: Some(PROOFS),
+    derivation: Some(&[DERIVATION]),
+    proofs: Some(&[PROOFS]),
     start: None,
     moves: None,
 };
@@ -47,7 +47,7 @@ const PROGRAM: Texts = Texts {
 const FORMULA: Texts = Texts {
     text: Some(b"words x:1 y:1 show (((x = 1) and (y = 1)) implies (x = 1))"),
     derivation: None,
-    proofs: Some(b"8 0 7 5 1 4 0"),
+    proofs: Some(&[b"8 0 7 5 1 4 0"]),
     start: None,
     moves: None,
 };
@@ -57,8 +57,8 @@ const WAITING: Texts = Texts {
     text: Some(
         b"words x:2 turn:1\npre true rely true guar true post true\npart p pre true rely true guar true post true\nbegin await (turn = 1) do x := 2; turn := 0 end end\n",
     ),
-    derivation: Some(b"line 1 atomic 1 pre true rely true guar true post true\n"),
-    proofs: Some(b""),
+    derivation: Some(&[b"line 1 atomic 1 pre true rely true guar true post true\n"]),
+    proofs: Some(&[b""]),
     start: None,
     moves: Some(b"at 0 turn = 1"),
 };
@@ -68,10 +68,10 @@ const IN_TURN: Texts = Texts {
     text: Some(
         b"words x:1 y:1\npre true rely true guar true post true\npart a pre true rely true guar true post true\nbegin await (y = 1) do x := 1 end end\npart b pre true rely true guar true post true\nbegin await (x = 1) do y := 1 end end\n",
     ),
-    derivation: Some(
+    derivation: Some(&[
         b"line 1 atomic 1 pre true rely true guar true post true\nline 2 atomic 2 pre true rely true guar true post true\n",
-    ),
-    proofs: Some(b""),
+    ]),
+    proofs: Some(&[b""]),
     start: Some(b"x = 1"),
     moves: None,
 };

@@ -151,7 +151,7 @@ fn ends_so<R: Threads + Wait + Sync>(
 ) -> Result<bool, Refusal> {
     let derived = derived(alloc, post)?;
     match find_proofs(rt, alloc, 1, &derived, 100, &Unwatched)? {
-        ProofsFound::Proofs(found) => Ok(post && found.as_str() == text),
+        ProofsFound::Proofs(found) => Ok(post && found.len() == 1 && found[0].as_str() == text),
         ProofsFound::Failures(unproved) => {
             let reported = failures_text(alloc, &derived, &unproved)?;
             Ok(!post && reported.as_str() == text)

@@ -7,7 +7,7 @@ use rgc::{
     Derived, InThreads, ProofsFound, SearchSettings, accept, accept_all, build_by, derive_program,
     find_part, find_proofs,
 };
-use std::alloc::Global;
+use std::alloc::{AllocError, Global};
 use std::sync::Wait;
 use std::test::Fail;
 use std::thread::Threads;
@@ -66,12 +66,15 @@ fn builds_in_threads(rt: HostRuntime) -> Result<(), Fail> {
 /// The most decisions of a search.
 const STEPS: u64 = 1_000;
 
-/// The text of proofs that were found; an empty one where there are failures.
-fn text_of(alloc: Global, found: ProofsFound) -> String {
-    match found {
-        ProofsFound::Proofs(text) => text,
-        ProofsFound::Failures(_) => String::new(alloc),
+/// The text of proofs that were found, in one piece; an empty one where there are failures.
+fn text_of(alloc: Global, found: ProofsFound) -> Result<String, AllocError> {
+    let mut text = String::new(alloc);
+    if let ProofsFound::Proofs(pieces) = found {
+        for piece in &pieces {
+            text.push_str(piece)?;
+        }
     }
+    Ok(text)
 }
 
 /// What so many threads find.
@@ -82,7 +85,8 @@ fn found_by<R: Threads + Wait + Sync>(
     derived: &Derived,
 ) -> Result<String, Refusal> {
     let found = find_proofs(rt, alloc, threads, derived, STEPS, &Unwatched)?;
-    Ok(text_of(alloc, found))
+    let text = text_of(alloc, found)?;
+    Ok(text)
 }
 
 /// Whether so many threads find this.
@@ -114,7 +118,7 @@ fn ranges_find<R: Threads + Wait + Sync>(
     let mut whole = String::new(alloc);
     for (first, last) in [(1, 7), (8, 8), (9, 17)] {
         let found = find_part(&settings, alloc, derived, first, last)?;
-        let part = text_of(alloc, found);
+        let part = text_of(alloc, found)?;
         whole.push_str(&part)?;
     }
     Ok(whole.as_str() == text)
@@ -122,7 +126,7 @@ fn ranges_find<R: Threads + Wait + Sync>(
 
 #[test]
 fn all_counts_of_threads_and_ranges_in_order_find_the_same(rt: HostRuntime) -> Result<(), Fail> {
-    let derived = derive_program(rt.alloc(), TEXT, DERIVATION)?;
+    let derived = derive_program(rt.alloc(), TEXT, &[DERIVATION])?;
     let one = found_by(&rt, rt.alloc(), 1, &derived)?;
     for threads in COUNTS {
         let same = all_find(&rt, rt.alloc(), threads, &derived, &one)?;

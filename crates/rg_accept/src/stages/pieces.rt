@@ -1,20 +1,26 @@
-//! A derivation that is longer than a file may be, in pieces of whole lines that are each read as a file is.
+//! A derivation and proofs that are longer than a file may be, in pieces that are each read as a file is.
 
-ghost use Rattle.std.specs.Prelude.{◌≡◌, ℕ, List, ◌++◌, map, IfOk, IfErr};
+ghost use Rattle.std.specs.Prelude.{◌≡◌, ℕ, List, ◌++◌, map, IfOk, IfErr, OnOk};
 ghost use Rattle.rg_words.specs.Refusals.{no_memory};
 ghost use Rattle.rg_tree.specs.ProgramTrees.{program as program_tree};
 ghost use Rattle.rg_tree.specs.Lines.{LineTree, line_tree, AreTypedLines};
+ghost use Rattle.rg_tree.specs.Programs.{IsSatisfied};
 ghost use Rattle.rg_parse.specs.Derivations.{SpellsDerivation, IsDerivationTextRefusal};
 ghost use Rattle.rg_accept.specs.Pieces.{AreSpelledInPieces, FitsInPieces, IsPieceRefusal, IsPiecesRefusal};
-ghost use Rattle.rg_accept.specs.Stages.{parsed_program, derived_program, derived_lines};
+ghost use Rattle.rg_pool.specs.ProofPieces.{AreProvedBy, AreProofsRefused};
+ghost use Rattle.rg_accept.specs.Accepted.{conditions_of};
+ghost use Rattle.rg_accept.specs.Stages.{parsed_program, derived_program, derived_lines, accepted_program};
 
-use super::{Derived, Parsed};
+use super::{Accepted, Derived, Parsed};
 use rg_parse::{derivation, one_derivation};
+use rg_pool::{InThreads, prove_pieces};
 use rg_rules::{Derivation, derivations_have_no_fault};
 use rg_tree::line::DerivationLine;
 use rg_tree::program::Program;
 use rg_words::{Layout, Refusal};
 use std::alloc::Global;
+use std::sync::Wait;
+use std::thread::Threads;
 
 impl Parsed {
     /// The program with the lines that the pieces of a derivation spell, which derive its parts.
@@ -66,6 +72,33 @@ impl Derived {
             }),
             Err(refusal) => Err(refusal),
         }
+    }
+
+    /// The program, where the pieces of proofs together prove all its conditions. It then satisfies its specification.
+    ///
+    /// # Errors
+    ///
+    /// The first fault of the pieces, as `rg_pool::prove_pieces` reports it.
+    pub fn prove_pieces<R: Threads + Wait + Sync>(
+        self,
+        checker: &InThreads<'_, R>,
+        alloc: Global,
+        proofs: &[&[u8]],
+    ) -> Result<Accepted, Refusal>
+        ensures program { IfOk result (λ a. accepted_program a ≡ derived_program self) }
+        ensures proved { OnOk result (AreProvedBy (conditions_of (derived_program self) (derived_lines self)) (map (λ piece. piece.now) proofs.now)) }
+        ensures satisfied { IfOk result (λ a. IsSatisfied (accepted_program a)) }
+        ensures refused { IfErr result (AreProofsRefused (conditions_of (derived_program self) (derived_lines self)) (map (λ piece. piece.now) proofs.now)) }
+        ensures accepts { AreProvedBy (conditions_of (derived_program self) (derived_lines self)) (map (λ piece. piece.now) proofs.now) → IfErr result (λ e. e ≡ no_memory) }
+    {
+        let conditions = self.conditions(alloc)?;
+        let all = conditions.as_slice();
+        match prove_pieces(checker, alloc, all.len(), 0, all, proofs) {
+            Ok(()) => {}
+            Err(refusal) => return Err(refusal),
+        }
+        let Derived { program, .. } = self;
+        Ok(Accepted { program })
     }
 }
 

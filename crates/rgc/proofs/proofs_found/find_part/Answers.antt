@@ -1,5 +1,6 @@
 use Rattle.std.proofs.Common.{◌≡◌, ◌∙◌, ◌+◌, ◌-◌, List, length, map, arith, ap, inr}
-use Rattle.std.specs.Prelude.{string_bytes}
+use Rattle.std.specs.Prelude.{String, string_bytes}
+use Rattle.std.specs.Global.{Global}
 use Rattle.rg_tree.specs.declared.condition.Condition.{Condition}
 use Rattle.rg_tree.specs.Conditions.{condition_tree}
 use Rattle.rg_accept.specs.Accepted.{conditions_of}
@@ -25,19 +26,20 @@ returns-in-Err-search_in-clause-refused g c =
     (range_same items c.as_slice-all.result.now asked c.args.first c.args.last c.len-count.result c.in_ok-conditions.ensures.list c.as_slice-all.ensures.value range count)
     c.in-Err-search_in.ensures.refused
 
-pub returns-in-Ok-prove_part-clause-found : goal.returns-in-Ok-prove_part-clause-found
-returns-in-Ok-prove_part-clause-found g c =
+pub returns-in-Ok-check_found-clause-found : goal.returns-in-Ok-check_found-clause-found
+returns-in-Ok-check_found-clause-found g c =
     let asked = conditions_of (derived_program c.args.derived.now) (derived_lines c.args.derived.now) in
     let count : c.len-count.result ≡ length c.in_ok-conditions.conditions.items = omega (arith, c.len-count.ensures, c.in_ok-conditions.conditions.ok.0) in
+    let lent = ap (λ (xs : List (String Global)). map string_bytes xs) c.deref.ensures.value in
     part_found c.in_ok-conditions.conditions.items c.as_slice-all.result.now asked c.args.first c.args.last c.len-count.result c.in_ok-conditions.ensures.list c.as_slice-all.ensures.value c.in-Ok.ensures.range count
-    c.as_bytes.result.now (string_bytes c.in-Ok-search_in.found.sections) c.as_bytes.ensures.value c.in-Ok-prove_part.ensures.proved
+    (map string_bytes c.in-Ok-search_in.found.pieces.items) (rw (← lent) c.in-Ok-check_found.ensures.proved)
 
 pub returns-clause-refused : goal.returns-clause-refused
 returns-clause-refused g c =
     let asked = conditions_of (derived_program c.args.derived.now) (derived_lines c.args.derived.now) in
     let count : c.len-count.result ≡ length c.in_ok-conditions.conditions.items = omega (arith, c.len-count.ensures, c.in_ok-conditions.conditions.ok.0) in
     inr (inr (inr (
-      c.as_bytes.result.now,
+      map string_bytes c.deref.result.now,
       part_refused c.in_ok-conditions.conditions.items c.as_slice-all.result.now asked c.args.first c.args.last c.len-count.result c.in_ok-conditions.ensures.list c.as_slice-all.ensures.value c.in-Ok.ensures.range count
-          c.as_bytes.result.now c.in-Err-prove_part.refusal c.in-Err-prove_part.ensures.refused,
+          (map string_bytes c.deref.result.now) c.in-Err-check_found.refusal c.in-Err-check_found.ensures.refused,
     )))

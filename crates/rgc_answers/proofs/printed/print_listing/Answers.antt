@@ -9,7 +9,7 @@ use Rattle.rg_code.specs.declared.code.Code.{Code}
 use Rattle.rgc_answers.specs.Listing.{listing_data}
 use Rattle.rg_accept.specs.Stages.{emitted_program}
 use Rattle.rgc_answers.proofs.Listings.{lawful_over}
-use Rattle.rg_accept.specs.Accepted.{IsAcceptTextRefusal}
+use Rattle.rgc.specs.Pieces.{bytes_of, IsAcceptInPiecesRefusal}
 use Rattle.rgc_answers.proofs.printed.print_listing.Goals as goal
 
 pub returns-clause-printed : goal.returns-clause-printed
@@ -31,4 +31,4 @@ returns-clause-printed g c =
 pub returns-in_err-emitted-clause-stopped : goal.returns-in_err-emitted-clause-stopped
 returns-in_err-emitted-clause-stopped g c =
     let p = err_from_is_err_and c.from_residual.result c.from_residual.ensures.1 in
-    rw (p.1, p.2) (refused_stops (IsAcceptTextRefusal c.args.text.now c.args.derivation.now c.args.proofs.now) _ _ _ c.in_err-emitted.ensures.refused)
+    rw (p.1, p.2) (refused_stops (IsAcceptInPiecesRefusal c.args.text.now (bytes_of c.args.derivation.now) (bytes_of c.args.proofs.now)) _ _ _ c.in_err-emitted.ensures.refused)

@@ -1,4 +1,6 @@
-use Rattle.std.proofs.Common.{None, inl}
+use Rattle.std.proofs.Common.{◌≡◌, ◌∙◌, None, inl, inr, refl}
+use Rattle.std.specs.List.{concat}
+use Rattle.rgc.specs.Pieces.{bytes_of}
 use Rattle.std.proofs.lemmas.Result.{err_from_is_err_and}
 use Rattle.rgc_line.specs.declared.command.Command.TheVariants.{Valid}
 use Rattle.rgc_commands.proofs.Stopping.{device_stops}
@@ -15,7 +17,18 @@ returns-in_err-proofs-clause-stopped g c = λ f t p'.
     let p = err_from_is_err_and c.from_residual-in_err-proofs.result c.from_residual-in_err-proofs.ensures.1 in
     rw (p.1, p.2) (device_stops f (Valid t p') c.args.files.now _ _ _ (rw c.in_ok-text.ensures.bytes (c.in_err-proofs.ensures.unread None)))
 
+pub returns-in_err-hints-clause-stopped : goal.returns-in_err-hints-clause-stopped
+returns-in_err-hints-clause-stopped g c = λ f t p'.
+    let p = err_from_is_err_and c.from_residual-in_err-hints.result c.from_residual-in_err-hints.ensures.1 in
+    rw (p.1, p.2) (inl (inr (inr (c.in_err-hints.ensures.refused, refl))))
+
 pub returns-in_err-print_valid-clause-stopped : goal.returns-in_err-print_valid-clause-stopped
 returns-in_err-print_valid-clause-stopped g c = λ f t p'.
     let p = err_from_is_err_and c.from_residual-in_err-print_valid.result c.from_residual-in_err-print_valid.ensures.1 in
-    rw (p.1, p.2, c.in_ok-text.ensures.bytes, c.in_ok-proofs.ensures.bytes) (inl c.in_err-print_valid.ensures.stopped)
+    let same : c.deref.result.now ≡ concat (bytes_of c.in_ok-proofs.proofs.now) = c.deref.ensures.value ∙ c.in_ok-hints.ensures.joined in
+    rw (p.1, p.2, c.in_ok-text.ensures.bytes, c.in_ok-proofs.ensures.bytes, ← same) (inl c.in_err-print_valid.ensures.stopped)
+
+pub returns-clause-done : goal.returns-clause-done
+returns-clause-done g c = λ f t p'.
+    let same : c.deref.result.now ≡ concat (bytes_of c.in_ok-proofs.proofs.now) = c.deref.ensures.value ∙ c.in_ok-hints.ensures.joined in
+    rw (c.in_ok-text.ensures.bytes, c.in_ok-proofs.ensures.bytes, ← same) c.in_ok-print_valid.ensures.printed

@@ -12,4 +12,4 @@ returns-in_err-outlined-clause-stopped g c = λ f o.
 pub returns-in_err-challenge-clause-stopped : goal.returns-in_err-challenge-clause-stopped
 returns-in_err-challenge-clause-stopped g c = λ f o.
     let p = err_from_is_err_and c.from_residual-in_err-challenge.result c.from_residual-in_err-challenge.ensures.1 in
-    rw (p.1, p.2) (challenge_stops f o c.args.has_refused c.args.files.now _ _ _ _ _ _ c.in_ok-outlined.ensures.files c.in_err-challenge.ensures.stopped)
+    rw (p.1, p.2) (challenge_stops f o c.args.has_refused c.args.files.now _ _ _ _ _ _ _ c.in_ok-outlined.ensures.files c.in_err-challenge.ensures.stopped)

@@ -1,4 +1,4 @@
-use Rattle.std.proofs.Common.{◌≡◌, ◌++◌, ap, subst, inr, None}
+use Rattle.std.proofs.Common.{◌≡◌, ◌++◌, ap, subst, inr, refl, None}
 use Rattle.std.proofs.lemmas.Result.{err_from_is_err_and, on_ok_weaker}
 use Rattle.std.specs.Io.KnownBytes.{Appends}
 use Rattle.rg_words.proofs.Written.{appends_both}
@@ -30,6 +30,11 @@ pub returns-in_err-closed-clause-stopped : goal.returns-in_err-closed-clause-sto
 returns-in_err-closed-clause-stopped g c =
     let p = err_from_is_err_and c.from_residual.result c.from_residual.ensures.1 in
     rw (p.1, p.2) (unprinted_run (emitted_program c.args.code.emitted.now) c.args.files.start c.args.files.moves c.args.files.limit None None _ 0 _ _ c.in_err-closed.ensures.stopped)
+
+pub returns-in_err-draw_reported-clause-stopped : goal.returns-in_err-draw_reported-clause-stopped
+returns-in_err-draw_reported-clause-stopped g c =
+    let p = err_from_is_err_and c.from_residual-in_err-draw_reported.result c.from_residual-in_err-draw_reported.ensures.1 in
+    rw (p.1, p.2) (inr (inr (refl, refl)))
 
 pub returns-in_err-print_reported-clause-stopped : goal.returns-in_err-print_reported-clause-stopped
 returns-in_err-print_reported-clause-stopped g c =

@@ -1,7 +1,8 @@
-use Rattle.std.proofs.Common.{Err, inl, inr, subst}
+use Rattle.std.proofs.Common.{Err, inl, inr, refl, subst}
 use Rattle.std.proofs.lemmas.Result.{err_from_is_err_and}
 use Rattle.rg_words.proofs.Cuts.{refused_stops, stops_weaker}
 use Rattle.rg_accept.specs.Stages.{derived_program, derived_lines}
+use Rattle.rgc.specs.Pieces.{bytes_of}
 use Rattle.rgc.specs.Proofs.{AreFoundFor}
 use Rattle.rgc.specs.declared.proofs_found.ProofsFound.{ProofsFound}
 use Rattle.rgc_outlines.specs.Inner.OutlinedProved.{IsProvedRunRefusal}
@@ -15,7 +16,7 @@ returns-in_ok-run_proved-in-Proofs-clause-printed g c = λ _.
     let reported = c.in_ok-run_proved-in-Proofs.ensures.printed in
     record {
       pieces = cut.pieces;
-      proofs = c.as_bytes.result.now;
+      proofs = bytes_of c.deref-in-Proofs-2.result.now;
       program = derived_program c.in_ok-derived.derived;
       blocks = reported.code;
       cut = cut.cut;
@@ -66,11 +67,16 @@ returns-in_err-run_proved-in-Proofs-clause-stopped g c =
     let p = err_from_is_err_and c.from_residual-in_err-run_proved-in-Proofs.result c.from_residual-in_err-run_proved-in-Proofs.ensures.1 in
     let derived = c.in_ok-derived.derived in
     let how = c.args.how in
-    rw (p.1, p.2) (stops_weaker {A = Unit {0}} (IsProvedRunRefusal (derived_program derived) (derived_lines derived) c.as_bytes.result.now how.start how.moves how.limit) (IsOutlineRunRefusal c.args.outlined.now.files c.args.how.start c.args.how.moves c.args.how.limit c.args.how.steps) _ _ _ _ (Err _)
-    (λ e h. inr (derived_program derived, derived_lines derived, c.in_ok-derived.ensures.derived, proved_refused (derived_program derived) (derived_lines derived) c.as_bytes.result.now how.start how.moves how.limit how.steps e h))
+    rw (p.1, p.2) (stops_weaker {A = Unit {0}} (IsProvedRunRefusal (derived_program derived) (derived_lines derived) (bytes_of c.deref-in-Proofs-2.result.now) how.start how.moves how.limit) (IsOutlineRunRefusal c.args.outlined.now.files c.args.how.start c.args.how.moves c.args.how.limit c.args.how.steps) _ _ _ _ (Err _)
+    (λ e h. inr (derived_program derived, derived_lines derived, c.in_ok-derived.ensures.derived, proved_refused (derived_program derived) (derived_lines derived) (bytes_of c.deref-in-Proofs-2.result.now) how.start how.moves how.limit how.steps e h))
     c.in_err-run_proved-in-Proofs.ensures.stopped)
 
 pub returns-in_err-print_unproved-in-Failures-clause-stopped : goal.returns-in_err-print_unproved-in-Failures-clause-stopped
 returns-in_err-print_unproved-in-Failures-clause-stopped g c =
     let p = err_from_is_err_and c.from_residual-in_err-print_unproved-in-Failures.result c.from_residual-in_err-print_unproved-in-Failures.ensures.1 in
     rw (p.1, p.2) (inr c.in_err-print_unproved-in-Failures.ensures.stopped)
+
+pub returns-in_err-pieces-in-Proofs-clause-stopped : goal.returns-in_err-pieces-in-Proofs-clause-stopped
+returns-in_err-pieces-in-Proofs-clause-stopped g c =
+    let p = err_from_is_err_and c.from_residual-in_err-pieces-in-Proofs.result c.from_residual-in_err-pieces-in-Proofs.ensures.1 in
+    rw (p.1, p.2) (inr (inr (refl, refl)))

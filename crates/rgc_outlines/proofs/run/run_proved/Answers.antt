@@ -2,6 +2,7 @@ use Rattle.std.proofs.Common.{subst, inl, inr, refl}
 use Rattle.std.proofs.lemmas.Result.{err_from_is_err_and}
 use Rattle.rg_words.proofs.Cuts.{refused_stops}
 use Rattle.rg_tree.specs.Statements.{ProgramTree}
+use Rattle.rgc.specs.Pieces.{bytes_of}
 use Rattle.rg_accept.specs.Stages.{derived_program, derived_lines, emitted_program, emitted_blocks}
 use Rattle.rgc_outlines.specs.Outlined.{HasReportedRunOf}
 use Rattle.rgc_outlines.specs.Inner.OutlinedProved.{IsProvedRunRefusal}
@@ -26,7 +27,7 @@ returns-clause-printed g c =
 pub returns-in_err-emitted-clause-stopped : goal.returns-in_err-emitted-clause-stopped
 returns-in_err-emitted-clause-stopped g c =
     let p = err_from_is_err_and c.from_residual.result c.from_residual.ensures.1 in
-    rw (p.1, p.2) (refused_stops (IsProvedRunRefusal (derived_program c.args.outline.derived) (derived_lines c.args.outline.derived) c.args.files.proofs.now c.args.files.start c.args.files.moves c.args.files.limit) _ _ _ (inl c.in_err-emitted.ensures.refused))
+    rw (p.1, p.2) (refused_stops (IsProvedRunRefusal (derived_program c.args.outline.derived) (derived_lines c.args.outline.derived) (bytes_of c.args.files.proofs.now) c.args.files.start c.args.files.moves c.args.files.limit) _ _ _ (inl c.in_err-emitted.ensures.refused))
 
 pub returns-in_err-naming-clause-stopped : goal.returns-in_err-naming-clause-stopped
 returns-in_err-naming-clause-stopped g c =
@@ -36,4 +37,4 @@ returns-in_err-naming-clause-stopped g c =
 pub returns-in_err-run_emitted-clause-stopped : goal.returns-in_err-run_emitted-clause-stopped
 returns-in_err-run_emitted-clause-stopped g c =
     let p = err_from_is_err_and c.from_residual-in_err-run_emitted.result c.from_residual-in_err-run_emitted.ensures.1 in
-    rw (p.1, p.2) (unrun_proved (emitted_program c.in_ok-emitted.emitted) (derived_program c.args.outline.derived) (derived_lines c.args.outline.derived) c.args.files.proofs.now c.args.files.start c.args.files.moves c.args.files.limit _ _ _ _ _ c.in_ok-emitted.ensures.emitted.same c.in_err-run_emitted.ensures.stopped)
+    rw (p.1, p.2) (unrun_proved (emitted_program c.in_ok-emitted.emitted) (derived_program c.args.outline.derived) (derived_lines c.args.outline.derived) (bytes_of c.args.files.proofs.now) c.args.files.start c.args.files.moves c.args.files.limit _ _ _ _ _ c.in_ok-emitted.ensures.emitted.same c.in_err-run_emitted.ensures.stopped)

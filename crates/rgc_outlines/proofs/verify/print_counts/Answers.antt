@@ -13,7 +13,7 @@ pub returns-clause-printed : goal.returns-clause-printed
 returns-clause-printed g c =
     let all = c.as_slice-all.result.now in
     let asked = conditions_of (derived_program c.args.derived.now) (derived_lines c.args.derived.now) in
-    let found = c.sections_in.result in
+    let found = c.all_sections_in.result in
     let line : c.as_bytes.result.now ≡ verdict_text c.args.form (length all) found = c.as_bytes.ensures.value ∙ c.in_ok-line.ensures in
     let same : map condition_tree all ≡ asked = ap (λ (xs : List Condition). map condition_tree xs) c.as_slice-all.ensures.value ∙ c.in_ok-conditions.ensures.list in
     let count : length all ≡ length asked = sym (length-map all condition_tree) ∙ ap (λ (cs : List ConditionTree). length cs) same in

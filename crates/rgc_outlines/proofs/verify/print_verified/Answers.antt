@@ -1,7 +1,9 @@
-use Rattle.std.proofs.Common.{List, ℕ, inl, inr, subst, sym}
+use Rattle.std.proofs.Common.{List, ℕ, ap, inl, inr, map, subst, sym}
 use Rattle.std.proofs.lemmas.Result.{err_from_is_err_and}
 use Rattle.rg_words.proofs.Cuts.{refused_stops}
-use Rattle.rg_hints.specs.Proved.{AreProved}
+use Rattle.std.specs.Prelude.{String, string_bytes}
+use Rattle.std.specs.Global.{Global}
+use Rattle.rg_pool.specs.ProofPieces.{AreProvedBy}
 use Rattle.rg_accept.specs.Accepted.{conditions_of}
 use Rattle.rg_accept.specs.Stages.{derived_program, derived_lines}
 use Rattle.rgc.specs.Proofs.{AreFoundFor, IsSatisfiedWhere}
@@ -15,7 +17,7 @@ returns-in-Proofs-clause-printed g c = λ _.
     let counts = c.in_ok-print_counts-in-Proofs.ensures.printed in
     record {
       pieces = of_pieces.pieces;
-      proofs = c.as_bytes.result.now;
+      proofs = map string_bytes c.deref.result.now;
       program = derived_program c.in_ok-derived.derived;
       cut = of_pieces.cut;
       accepted = record {
@@ -32,7 +34,8 @@ pub print_counts-requires-clause-proved : goal.print_counts-requires-clause-prov
 print_counts-requires-clause-proved g c =
     let program = derived_program c.in_ok-derived.derived in
     let lines = derived_lines c.in_ok-derived.derived in
-    subst (λ (bytes : List ℕ). AreProved (conditions_of program lines) bytes) (sym c.as_bytes.ensures.value)
+    let lent = ap (λ (pieces : List (String Global)). map string_bytes pieces) (sym c.deref.ensures.value) in
+    subst (λ (pieces : List (List ℕ)). AreProvedBy (conditions_of program lines) pieces) lent
     (subst (λ (found : ProofsFound). AreFoundFor program lines found) c.in-Proofs.is c.in_ok-proofs.ensures.found)
 
 pub print_counts-requires-clause-satisfied : goal.print_counts-requires-clause-satisfied

@@ -16,3 +16,8 @@ pub returns-in_err-extend_from_slice-clause-refused : goal.returns-in_err-extend
 returns-in_err-extend_from_slice-clause-refused c =
     let p = err_from_is_err_and c.from_residual-in_err-extend_from_slice.result c.from_residual-in_err-extend_from_slice.ensures.1 in
     rw (p.1, p.2) (inl (inr (inr refl)))
+
+pub returns-in_err-push_stuck-clause-refused : goal.returns-in_err-push_stuck-clause-refused
+returns-in_err-push_stuck-clause-refused c =
+    let p = err_from_is_err_and c.from_residual-in_err-push_stuck.result c.from_residual-in_err-push_stuck.ensures.1 in
+    rw (p.1, p.2) (inl (inr (inr refl)))

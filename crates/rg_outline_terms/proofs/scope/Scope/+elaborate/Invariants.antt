@@ -16,6 +16,9 @@ decreases-called l = 7 * l.depth + 1
 abbrev pub decreases-both : goal.decreases-both
 decreases-both l = 7 * l.depth + 2
 
+abbrev pub decreases-under : goal.decreases-under
+decreases-under l = 7 * l.depth + 2
+
 abbrev pub decreases-range_of : goal.decreases-range_of
 decreases-range_of l = 7 * l.depth + 2
 
@@ -28,8 +31,8 @@ decreases-composed l = 7 * l.depth + 3
 abbrev pub decreases-quantified : goal.decreases-quantified
 decreases-quantified l = 7 * l.depth + 3
 
-abbrev pub decreases-member : goal.decreases-member
-decreases-member l = 7 * l.depth + 3
+abbrev pub decreases-selected : goal.decreases-selected
+decreases-selected l = 7 * l.depth + 3
 
 abbrev pub decreases-listed_words : goal.decreases-listed_words
 decreases-listed_words l = 7 * l.depth + 3

@@ -1,0 +1,85 @@
+//! What the names stand for that a formula uses.
+
+use crate::reports::{Detail, Said};
+use crate::show::push_shown;
+use rg_outline::Expansion;
+use std::alloc::AllocError;
+
+/// The most names of a formula for which it is said what they stand for.
+const MOST_NAMES: usize = 3;
+
+/// The most trees of a formula that are looked at.
+const MOST_TREES: usize = 10_000;
+
+/// The most bytes of what a name stands for, where it is said.
+const MOST_BYTES: usize = 80;
+
+/// Whether a tree has a name and speaks of words.
+fn is_named(expansion: &Expansion<'_>, tree: usize) -> bool {
+    let forest = &expansion.scope.forest;
+    let reads = forest.reads(tree);
+    forest.tree(tree).name.is_some() && (reads.plain | reads.primed) != 0
+}
+
+/// Adds the trees that a formula shows by their names, from left to right; equal ones once. Whether the formula itself is shown by its name is said.
+fn push_named(
+    expansion: &Expansion<'_>,
+    named: &mut Vec<usize>,
+    formula: usize,
+    by_name: bool,
+) -> Result<(), AllocError> {
+    let forest = &expansion.scope.forest;
+    let mut open = Vec::new(expansion.scope.alloc);
+    open.push(formula)?;
+    for _ in 0..MOST_TREES {
+        let Some(tree) = open.pop() else {
+            break;
+        };
+        if named.len() > MOST_NAMES {
+            break;
+        }
+        if (by_name || tree != formula) && is_named(expansion, tree) {
+            if !named.iter().any(|known| forest.is_equal(*known, tree)) {
+                named.push(tree)?;
+            }
+            continue;
+        }
+        for place in (0..forest.root(tree).arity()).rev() {
+            open.push(forest.operand(tree, place))?;
+        }
+    }
+    Ok(())
+}
+
+/// Adds what the names stand for that a conjunct and its premises use: a detail for each where that is short; none where there are many.
+pub(crate) fn push_meanings(
+    expansion: &Expansion<'_>,
+    details: &mut Vec<Detail>,
+    conjunct: usize,
+    premises: &[usize],
+) -> Result<(), AllocError> {
+    let mut named = Vec::new(expansion.scope.alloc);
+    push_named(expansion, &mut named, conjunct, false)?;
+    for premise in premises {
+        push_named(expansion, &mut named, *premise, true)?;
+    }
+    if named.len() > MOST_NAMES {
+        return Ok(());
+    }
+    for tree in &named {
+        let mut text = Vec::new(expansion.scope.alloc);
+        push_shown(expansion, &mut text, *tree, 0, true)?;
+        text.extend_from_slice(b" stands for ")?;
+        let start = text.len();
+        push_shown(expansion, &mut text, *tree, 0, false)?;
+        if text.len().saturating_sub(start) <= MOST_BYTES {
+            let said = Said::Meaning;
+            details.push(Detail {
+                said,
+                text,
+                line: 0,
+            })?;
+        }
+    }
+    Ok(())
+}

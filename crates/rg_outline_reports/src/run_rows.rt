@@ -1,0 +1,331 @@
+//! The steps of a run in rows: each step that changes a word is one, and so is a loop that was gone round many times; steps without a change share
+//! a row.
+
+use crate::places::statement_at;
+use crate::run::{push_changes, push_statement, push_step};
+use crate::subject::line_of;
+use crate::written::is_same_place;
+use rg_outline::{Action, Expansion, Statement};
+use rg_outline_syntax::{Span, Texts, push_count};
+use rg_walk::RunStep;
+use rg_words::State;
+use std::alloc::AllocError;
+
+/// The most steps of a loop that is shown in one row.
+const MOST_IN_LOOP: usize = 32;
+
+/// The fewest rounds of a loop that are shown in one row.
+const FEWEST_ROUNDS: usize = 3;
+
+/// The fewest steps without a change that are only counted.
+const FEWEST_COUNTED: usize = 6;
+
+/// The most bytes of a row with several steps without a change.
+const WIDTH: usize = 110;
+
+/// A start, and the steps from there.
+#[derive(Clone, Copy)]
+pub(crate) struct Steps<'r> {
+    pub(crate) start: &'r State,
+    pub(crate) steps: &'r [RunStep],
+}
+
+/// The rows of a run.
+#[derive(Drop)]
+pub(crate) struct RunRows {
+    pub(crate) texts: Texts,
+    /// How many steps each row stands for.
+    pub(crate) counts: Vec<usize>,
+}
+
+/// A step that is shown.
+#[derive(Clone, Copy)]
+struct Shown {
+    /// Its index among the steps of the run.
+    index: usize,
+    who: usize,
+    /// Its statement and the line of that; nowhere for the environment.
+    span: Span,
+    line: u64,
+    is_quiet: bool,
+}
+
+/// A loop that was gone round: how many steps it has, and how often they were made.
+#[derive(Clone, Copy)]
+struct Loop {
+    steps: usize,
+    rounds: usize,
+}
+
+impl<'r> Steps<'r> {
+    /// The state before a step.
+    fn before(self, index: usize) -> &'r State {
+        let earlier = index.checked_sub(1).and_then(|index| self.steps.get(index));
+        earlier.map_or(self.start, |step| &step.after)
+    }
+}
+
+/// Whether the words are the same in two states.
+fn is_same_state(first: &State, second: &State) -> bool {
+    for word in 0..first.len().min(second.len()) {
+        if first.get(word) != second.get(word) {
+            return false;
+        }
+    }
+    true
+}
+
+/// Whether a statement is the `skip` that stands for a missing `else`.
+fn is_missing_else(expansion: &Expansion<'_>, statement: Statement) -> bool {
+    let written = statement.span.of(expansion.scope.source);
+    statement.action == Action::Skip && !written.starts_with(b"skip")
+}
+
+/// The statement of a step; none for the environment.
+fn statement_of(
+    expansion: &Expansion<'_>,
+    who: usize,
+    place: usize,
+) -> Result<Option<Statement>, AllocError> {
+    match who.checked_sub(1) {
+        Some(part) => statement_at(expansion, part, place),
+        None => Ok(None),
+    }
+}
+
+/// The steps that are shown: all but those of a missing `else`.
+fn shown_of(expansion: &Expansion<'_>, run: Steps<'_>) -> Result<Vec<Shown>, AllocError> {
+    let mut shown = Vec::new(expansion.scope.alloc);
+    for (index, step) in run.steps.iter().enumerate() {
+        let mut span = Span::NOWHERE;
+        if let Some(statement) = statement_of(expansion, step.who, step.place)? {
+            if is_missing_else(expansion, statement) {
+                continue;
+            }
+            span = statement.span;
+        }
+        shown.push(Shown {
+            index,
+            who: step.who,
+            span,
+            line: line_of(expansion, span),
+            is_quiet: is_same_state(run.before(index), &step.after),
+        })?;
+    }
+    Ok(shown)
+}
+
+/// Whether two steps are those of one statement of a part, which may be in several rounds of a `for`.
+fn is_same_step(first: Shown, second: Shown) -> bool {
+    first.who != 0 && first.who == second.who && is_same_place(first.span, second.span)
+}
+
+/// How often these first steps are made one after the other.
+fn rounds_of(shown: &[Shown], steps: usize) -> usize {
+    let mut again = 0usize;
+    let next = shown.get(steps..).unwrap_or(&[]);
+    for (first, second) in shown.iter().zip(next) {
+        if !is_same_step(*first, *second) {
+            break;
+        }
+        again = again.saturating_add(1);
+    }
+    again.checked_div(steps).unwrap_or(0).saturating_add(1)
+}
+
+/// The loop with which these steps begin, if they were gone round often: the one that takes up most of them. The last step of a run, which breaks
+/// something, is in none.
+fn loop_in(shown: &[Shown]) -> Option<Loop> {
+    let inner = shown.get(..shown.len().saturating_sub(1)).unwrap_or(&[]);
+    let mut found = None;
+    let mut most = 0usize;
+    for steps in 1..MOST_IN_LOOP {
+        let rounds = rounds_of(inner, steps);
+        let all = rounds.saturating_mul(steps);
+        if rounds >= FEWEST_ROUNDS && all > most {
+            found = Some(Loop { steps, rounds });
+            most = all;
+        }
+    }
+    found
+}
+
+/// How many of these steps, from the first on, change no word and are in no loop that is shown in one row.
+fn quiet_in(shown: &[Shown]) -> usize {
+    for (index, step) in shown.iter().enumerate() {
+        let rest = shown.get(index..).unwrap_or(&[]);
+        if !step.is_quiet || loop_in(rest).is_some() {
+            return index;
+        }
+    }
+    shown.len()
+}
+
+/// Adds the first and the last line of the steps of a part among these, and the part before them; whether it makes any.
+fn push_lines_of_part(
+    expansion: &Expansion<'_>,
+    text: &mut Vec<u8>,
+    shown: &[Shown],
+    part: usize,
+    between: &[u8],
+) -> Result<bool, AllocError> {
+    let mut first = u64::MAX;
+    let mut last = 0u64;
+    for step in shown {
+        if step.who.checked_sub(1) == Some(part) {
+            first = first.min(step.line);
+            last = last.max(step.line);
+        }
+    }
+    if first > last {
+        return Ok(false);
+    }
+    text.extend_from_slice(between)?;
+    text.extend_from_slice(expansion.part_names.at(part))?;
+    text.extend_from_slice(if first == last {
+        b", line "
+    } else {
+        b", lines "
+    })?;
+    push_count(text, first)?;
+    if first != last {
+        text.extend_from_slice(b" to ")?;
+        push_count(text, last)?;
+    }
+    Ok(true)
+}
+
+/// Adds the parts that make these steps, each with its lines.
+fn push_lines(
+    expansion: &Expansion<'_>,
+    text: &mut Vec<u8>,
+    shown: &[Shown],
+) -> Result<(), AllocError> {
+    let mut between: &[u8] = b"";
+    for part in 0..expansion.parts.len() {
+        if push_lines_of_part(expansion, text, shown, part, between)? {
+            between = b"; ";
+        }
+    }
+    Ok(())
+}
+
+/// Adds a loop that was gone round: the parts with their lines, how often, and the words that it changes in all.
+fn push_loop(
+    expansion: &Expansion<'_>,
+    text: &mut Vec<u8>,
+    run: Steps<'_>,
+    shown: &[Shown],
+    rounds: usize,
+) -> Result<(), AllocError> {
+    push_lines(expansion, text, shown)?;
+    text.extend_from_slice(b", ")?;
+    push_count(text, rounds as u64)?;
+    text.extend_from_slice(b" times:")?;
+    let first = shown.first().map_or(0, |step| step.index);
+    let end = shown.last().map_or(0, |step| step.index.saturating_add(1));
+    push_changes(expansion, text, run.before(first), run.before(end))
+}
+
+/// Adds how many steps change nothing, and the parts that make them with their lines.
+fn push_counted(
+    expansion: &Expansion<'_>,
+    text: &mut Vec<u8>,
+    shown: &[Shown],
+) -> Result<(), AllocError> {
+    text.extend_from_slice(b"and ")?;
+    push_count(text, shown.len() as u64)?;
+    text.extend_from_slice(b" steps that change nothing: ")?;
+    push_lines(expansion, text, shown)
+}
+
+/// Adds steps of one part that change no word, as many as a row has room for; how many.
+fn push_quiet(
+    expansion: &Expansion<'_>,
+    text: &mut Vec<u8>,
+    shown: &[Shown],
+) -> Result<usize, AllocError> {
+    let start = text.len();
+    let who = shown.first().map_or(0, |step| step.who);
+    let mut line = 0u64;
+    let mut count = 0usize;
+    text.extend_from_slice(expansion.part_names.at(who.saturating_sub(1)))?;
+    for step in shown {
+        let end = text.len();
+        text.extend_from_slice(if count == 0 { b", " } else { b"; " })?;
+        if step.line != line {
+            text.extend_from_slice(b"line ")?;
+            push_count(text, step.line)?;
+            text.extend_from_slice(b", ")?;
+        }
+        push_statement(expansion, text, step.span)?;
+        let is_wide = count > 0 && text.len().saturating_sub(start) > WIDTH;
+        if step.who != who || is_wide {
+            text.truncate(end);
+            break;
+        }
+        line = step.line;
+        count = count.saturating_add(1);
+    }
+    text.extend_from_slice(b": no word changes")?;
+    Ok(count)
+}
+
+impl RunRows {
+    /// Ends a row that stands for so many steps.
+    fn end(&mut self, count: usize) -> Result<(), AllocError> {
+        self.counts.push(count)?;
+        self.texts.end()
+    }
+
+    /// Adds a row for the first of these steps, and for those after it that it stands for; how many there are.
+    fn push_row(
+        &mut self,
+        expansion: &Expansion<'_>,
+        run: Steps<'_>,
+        shown: &[Shown],
+    ) -> Result<usize, AllocError> {
+        if let Some(found) = loop_in(shown) {
+            let count = found.steps.saturating_mul(found.rounds);
+            let all = shown.get(..count).unwrap_or(shown);
+            push_loop(expansion, self.texts.unended(), run, all, found.rounds)?;
+            self.end(count)?;
+            return Ok(count);
+        }
+        let quiet = shown.get(..quiet_in(shown)).unwrap_or(&[]);
+        let mut count = quiet.len();
+        if count >= FEWEST_COUNTED {
+            push_counted(expansion, self.texts.unended(), quiet)?;
+        } else if count > 0 {
+            count = push_quiet(expansion, self.texts.unended(), quiet)?;
+        } else if let Some(first) = shown.first()
+            && let Some(step) = run.steps.get(first.index)
+        {
+            let before = run.before(first.index);
+            push_step(expansion, self.texts.unended(), before, step)?;
+            count = 1;
+        }
+        self.end(count)?;
+        Ok(count)
+    }
+}
+
+/// The rows of a run.
+pub(crate) fn rows_of(expansion: &Expansion<'_>, run: Steps<'_>) -> Result<RunRows, AllocError> {
+    let alloc = expansion.scope.alloc;
+    let shown = shown_of(expansion, run)?;
+    let mut rows = RunRows {
+        texts: Texts::new(alloc),
+        counts: Vec::new(alloc),
+    };
+    let mut place = 0usize;
+    for _ in 0..shown.len() {
+        let rest = shown.get(place..).unwrap_or(&[]);
+        if rest.is_empty() {
+            break;
+        }
+        let count = rows.push_row(expansion, run, rest)?;
+        place = place.saturating_add(count);
+    }
+    Ok(rows)
+}
