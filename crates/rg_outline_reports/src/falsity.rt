@@ -34,7 +34,9 @@ fn below(expansion: &Expansion<'_>, values: &Values, tree: usize) -> Option<(usi
         Root::Join(Junction::And) if !values.holds(forest, second) => Some((second, false)),
         Root::Imply(Conditional::Implies)
             if forest.root(second) == Root::Join(Junction::And)
-                || forest.tree(second).name.is_some() => { Some((second, true)) }
+                || (forest.tree(second).name.is_some() && forest.form(tree).is_none()) => {
+            Some((second, true))
+        }
         _ => None,
     }
 }

@@ -3,6 +3,7 @@
 use crate::reports::{Detail, Said};
 use crate::show::push_shown;
 use rg_outline::Expansion;
+use rg_outline_terms::FormKind;
 use std::alloc::AllocError;
 
 /// The most names of a formula for which it is said what they stand for.
@@ -19,6 +20,16 @@ fn is_named(expansion: &Expansion<'_>, tree: usize) -> bool {
     let forest = &expansion.scope.forest;
     let reads = forest.reads(tree);
     forest.tree(tree).name.is_some() && (reads.plain | reads.primed) != 0
+}
+
+/// How many of its operands a tree shows, in whatever form: a quantifier or a sum shows its body once, and no instance.
+fn shown_operands(expansion: &Expansion<'_>, tree: usize) -> usize {
+    let forest = &expansion.scope.forest;
+    match forest.form(tree).map(|form| form.kind) {
+        Some(FormKind::Keeps) => 1,
+        Some(_) => 0,
+        None => forest.root(tree).arity(),
+    }
 }
 
 /// Adds the trees that a formula shows by their names, from left to right; equal ones once. Whether the formula itself is shown by its name is said.
@@ -44,7 +55,7 @@ fn push_named(
             }
             continue;
         }
-        for place in (0..forest.root(tree).arity()).rev() {
+        for place in (0..shown_operands(expansion, tree)).rev() {
             open.push(forest.operand(tree, place))?;
         }
     }

@@ -7,6 +7,7 @@ use crate::inputs::{Input, Inputs, inputs_of, report_outside_pre};
 use crate::lines::push_reports;
 use crate::map::push_conditions;
 use crate::marks::take_marks;
+use crate::promises::auxiliary_bits;
 use crate::questions::{Asks, Outside, Question, questions_of};
 use crate::reports::Reports;
 use crate::run::{push_run, push_walked};
@@ -126,6 +127,11 @@ impl<'a> Outlined<'a> {
         }
         push_conditions(&self.expansion, &mut map)?;
         printable(self.expansion.scope.alloc, &map)
+    }
+
+    /// The auxiliary words, as bits: the first word of the text is the lowest one.
+    pub fn auxiliary_words(&self) -> u64 {
+        auxiliary_bits(&self.expansion)
     }
 
     /// What the words and the statements of the text are in the outline.

@@ -3,7 +3,7 @@
 use crate::written::is_same_place;
 use rg_outline::{Expansion, middle};
 use rg_outline_syntax::{Operator, Span, push_number, push_phrase};
-use rg_outline_terms::Root;
+use rg_outline_terms::{Form, FormKind, Root};
 use std::alloc::AllocError;
 
 /// The most bytes of a formula that is shown.
@@ -20,14 +20,34 @@ enum Pending {
     /// The name of a word up to a place, or from a place on.
     NameUpTo(usize, usize),
     NameFrom(usize, usize),
+    /// A piece of a form as it is written, with the gaps at its ends.
+    Piece(Span),
     /// A name, as it is used, and whether that for which it stands was primed as a whole.
     Name(Span, bool),
     /// A tree, within parentheses where it binds more loosely than this. A tree with a name is shown by it, or not.
     Tree(usize, u8, bool),
 }
 
+/// How tightly a tree binds as it is shown.
+fn level_of(expansion: &Expansion<'_>, tree: usize) -> u8 {
+    let forest = &expansion.scope.forest;
+    match forest.form(tree).map(|form| form.kind) {
+        Some(FormKind::Quantified) => 1,
+        Some(FormKind::Keeps) => 3,
+        Some(FormKind::Constant) => 5,
+        Some(FormKind::Sum) => 9,
+        None => level_of_root(forest.root(tree)),
+    }
+}
+
+/// Whether a tree is shown with `all` or `some` before its body.
+fn is_quantified(expansion: &Expansion<'_>, tree: usize) -> bool {
+    let form = expansion.scope.forest.form(tree);
+    form.map(|form| form.kind) == Some(FormKind::Quantified)
+}
+
 /// How tightly a root binds.
-fn level_of(root: Root) -> u8 {
+fn level_of_root(root: Root) -> u8 {
     match root {
         Root::Imply(_) => 1,
         Root::Join(_) => 2,
@@ -89,9 +109,27 @@ fn push_pending(
             let name = expansion.scope.shown.at(word);
             text.extend_from_slice(name.get(start..).unwrap_or(&[]))
         }
+        Pending::Piece(piece) => push_piece(text, piece.of(expansion.scope.source)),
         Pending::Name(name, is_primed) => push_use(expansion, text, name, is_primed),
         Pending::Tree(tree, level, by_name) => open_tree(expansion, open, tree, level, by_name),
     }
+}
+
+/// Whether a byte is there, and is white space.
+fn is_gap(byte: Option<&u8>) -> bool {
+    byte.copied().unwrap_or(0).is_ascii_whitespace()
+}
+
+/// Adds a piece of a form as it is written: in one line, without comments, and with one space for each gap.
+fn push_piece(text: &mut Vec<u8>, piece: &[u8]) -> Result<(), AllocError> {
+    if is_gap(piece.first()) {
+        text.push(b' ')?;
+    }
+    push_phrase(text, piece)?;
+    if is_gap(piece.last()) && !text.ends_with(b" ") {
+        text.push(b' ')?;
+    }
+    Ok(())
 }
 
 /// Adds a name as it is used, with a prime where that for which it stands was primed as a whole.
@@ -176,7 +214,59 @@ fn number_of(expansion: &Expansion<'_>, tree: usize, number: i128) -> Pending {
     }
 }
 
-/// Adds what a tree is made of: its name, where it is shown by that; else its root, in parentheses where it binds too loosely.
+/// Whether a piece stands alone between brackets, parentheses or commas.
+fn is_delimited(expansion: &Expansion<'_>, place: Span) -> bool {
+    let source = expansion.scope.source;
+    let before = source.get(..place.start).unwrap_or(&[]);
+    let after = source.get(place.end..).unwrap_or(&[]);
+    let last = before.last().copied().unwrap_or(b' ');
+    let next = after.first().copied().unwrap_or(b' ');
+    b"([".contains(&last) && b")],".contains(&next)
+}
+
+/// Adds a form as it is written, with what stands there for parameters and indices that it doesn't bind.
+fn open_written(
+    expansion: &Expansion<'_>,
+    open: &mut Vec<Pending>,
+    form: Form,
+) -> Result<(), AllocError> {
+    let mut end = form.place.end;
+    for filled in expansion.scope.forest.filled(form) {
+        let level = if is_delimited(expansion, filled.place) {
+            0
+        } else {
+            9
+        };
+        let start = filled.place.end;
+        open.push(Pending::Piece(Span { start, end }))?;
+        open.push(Pending::Tree(filled.tree, level, true))?;
+        end = filled.place.start;
+    }
+    let start = form.place.start;
+    open.push(Pending::Piece(Span { start, end }))?;
+    Ok(())
+}
+
+/// Adds a tree as it is written, without the parentheses round it.
+fn open_form(
+    expansion: &Expansion<'_>,
+    open: &mut Vec<Pending>,
+    tree: usize,
+    form: Form,
+) -> Result<(), AllocError> {
+    match form.kind {
+        FormKind::Keeps => {
+            let kept = expansion.scope.forest.operand(tree, 0);
+            open_all(
+                open,
+                &[Pending::Text("keeps "), Pending::Tree(kept, 3, true)],
+            )
+        }
+        _ => open_written(expansion, open, form),
+    }
+}
+
+/// Adds what a tree is made of: its name, where it is shown by that; else its form or its root, in parentheses where it binds too loosely.
 fn open_tree(
     expansion: &Expansion<'_>,
     open: &mut Vec<Pending>,
@@ -190,11 +280,14 @@ fn open_tree(
     {
         return open_name(expansion, open, tree, name);
     }
-    let is_loose = level_of(forest.root(tree)) < level;
+    let is_loose = level_of(expansion, tree) < level;
     if is_loose {
         open.push(Pending::Text(")"))?;
     }
-    open_root(expansion, open, tree)?;
+    match forest.form(tree) {
+        Some(form) => open_form(expansion, open, tree, form)?,
+        None => open_root(expansion, open, tree, is_loose || level == 0)?,
+    }
     if is_loose {
         open.push(Pending::Text("("))?;
     }
@@ -209,11 +302,12 @@ fn open_all(open: &mut Vec<Pending>, all: &[Pending]) -> Result<(), AllocError> 
     Ok(())
 }
 
-/// Adds what a tree is made of without the parentheses around it.
+/// Adds what a tree is made of without the parentheses around it; `is_whole` says that nothing stands beside it.
 fn open_root(
     expansion: &Expansion<'_>,
     open: &mut Vec<Pending>,
     tree: usize,
+    is_whole: bool,
 ) -> Result<(), AllocError> {
     let forest = &expansion.scope.forest;
     let root = forest.root(tree);
@@ -236,7 +330,9 @@ fn open_root(
             }
             return open_choice(expansion, open, tree);
         }
-        Root::Join(_) => return open_chain(expansion, open, tree),
+        Root::Join(_) => return open_chain(expansion, open, tree, is_whole),
+        // (what begins with `all` or `some` ends the whole)
+        Root::Imply(_) if is_quantified(expansion, forest.operand(tree, 1)) => (2, 1),
         Root::Imply(_) => (2, 2),
         Root::Operate(_) if is_sum(root) && is_sum(forest.root(forest.operand(tree, 0))) => (5, 6),
         Root::Operate(_) => (6, 6),
@@ -373,23 +469,30 @@ fn open_choice(
     open_all(open, &[Pending::Text("(if ")])
 }
 
-/// Adds what a chain of `and` or of `or` is made of, from the right. An operand that has a name ends it.
+/// Adds what a chain of `and` or of `or` is made of, from the right. An operand that has a name or a form ends it. Where nothing stands beside the
+/// chain, what begins with `all` or `some` may end it without parentheses.
 fn open_chain(
     expansion: &Expansion<'_>,
     open: &mut Vec<Pending>,
     tree: usize,
+    is_whole: bool,
 ) -> Result<(), AllocError> {
     let forest = &expansion.scope.forest;
     let root = forest.root(tree);
     let mut current = tree;
+    let mut level = 3;
+    if is_whole && is_quantified(expansion, forest.operand(tree, 1)) {
+        level = 1;
+    }
     for _ in 0..forest.trees.len() {
-        let is_next = forest.root(current) == root
-            && (current == tree || forest.tree(current).name.is_none());
+        let is_shown = forest.tree(current).name.is_some() || forest.form(current).is_some();
+        let is_next = forest.root(current) == root && (current == tree || !is_shown);
         if !is_next {
             break;
         }
-        open.push(Pending::Tree(forest.operand(current, 1), 3, true))?;
+        open.push(Pending::Tree(forest.operand(current, 1), level, true))?;
         open.push(Pending::Text(middle(root)))?;
+        level = 3;
         current = forest.operand(current, 0);
     }
     open.push(Pending::Tree(current, 3, true))?;

@@ -44,14 +44,7 @@ pub(crate) fn expression_span(written: &Written, index: usize) -> Span {
 
 /// An expression with those in it: they stand before it, without a gap.
 pub(crate) fn expressions_in(written: &Written, index: usize) -> &[Expression] {
-    let place = expression_span(written, index);
     let end = index.saturating_add(1);
     let known = written.expressions.get(..end).unwrap_or(&[]);
-    let count = known
-        .iter()
-        .rev()
-        .take_while(|inner| place.start <= inner.span.start)
-        .count();
-    let start = known.len().saturating_sub(count);
-    known.get(start..).unwrap_or(&[])
+    known.get(written.first_within(index)..).unwrap_or(&[])
 }

@@ -307,4 +307,19 @@ impl Written {
     pub fn expression(&self, index: usize) -> Option<Expression> {
         self.expressions.get(index).copied()
     }
+
+    /// The first of an expression and those in it: they stand before it, without a gap.
+    pub fn first_within(&self, index: usize) -> usize {
+        let place = self
+            .expression(index)
+            .map_or(Span::NOWHERE, |expression| expression.span);
+        let end = index.saturating_add(1);
+        let known = self.expressions.get(..end).unwrap_or(&[]);
+        let count = known
+            .iter()
+            .rev()
+            .take_while(|inner| place.start <= inner.span.start)
+            .count();
+        known.len().saturating_sub(count)
+    }
 }

@@ -61,7 +61,7 @@ impl Scope<'_> {
         if !self.spends(span) {
             return 0;
         }
-        match kind {
+        let tree = match kind {
             ExpressionKind::Group(inner) => self.elaborate(inner, depth - 1),
             ExpressionKind::Name {
                 name,
@@ -85,7 +85,8 @@ impl Scope<'_> {
                 let made = self.composed(kind, span, depth - 1);
                 self.made(made)
             }
-        }
+        };
+        self.formed(index, tree)
     }
 
     /// The tree of a number, a truth, or a form with operands.

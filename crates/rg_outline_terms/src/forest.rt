@@ -1,5 +1,6 @@
 //! Formulas and values over plain words, with their places in the outline.
 
+use crate::forms::{Filled, Form};
 use indexmap::IndexSet;
 use rg_outline_syntax::{
     Comparison, Conditional, Fault, Junction, List, MeaningFault, Operator, Span,
@@ -43,6 +44,8 @@ pub struct Tree {
     pub name: Option<Span>,
     /// The trees with which that name is used: a list of `arguments`.
     pub arguments: List,
+    /// How it is written, where its root doesn't show it: a place of `forms`.
+    pub(crate) form: Option<usize>,
 }
 
 /// A tree that was made: its index, or why there is none.
@@ -64,6 +67,9 @@ pub struct Reads {
 pub struct Forest {
     pub trees: Vec<Tree>,
     pub(crate) arguments: Vec<usize>,
+    pub(crate) forms: Vec<Form>,
+    /// What stands for parameters and indices in forms.
+    pub(crate) filled: Vec<Filled>,
     terms: IndexSet<Term>,
     reads: Vec<Reads>,
     /// For each tree the one above it in which all words are primed, plus one; 0 where none was made.
@@ -103,6 +109,8 @@ impl Forest {
         Forest {
             trees: Vec::new(alloc),
             arguments: Vec::new(alloc),
+            forms: Vec::new(alloc),
+            filled: Vec::new(alloc),
             terms: IndexSet::new(alloc),
             reads: Vec::new(alloc),
             primed: Vec::new(alloc),
@@ -117,6 +125,7 @@ impl Forest {
             span: Span::NOWHERE,
             name: None,
             arguments: List::EMPTY,
+            form: None,
         })
     }
 
@@ -203,7 +212,7 @@ impl Forest {
     }
 
     /// Adds a tree whose term is kept.
-    fn push(&mut self, tree: Tree) -> Made {
+    pub(crate) fn push(&mut self, tree: Tree) -> Made {
         let index = self.trees.len();
         if index >= MOST_TREES {
             return Err(Fault::meaning(MeaningFault::TooLarge, tree.span));
@@ -234,6 +243,7 @@ impl Forest {
             span,
             name: None,
             arguments: List::EMPTY,
+            form: None,
         })
     }
 

@@ -7,6 +7,7 @@ mod elaborate;
 mod families;
 mod fold;
 mod forest;
+mod forms;
 mod names;
 mod prime;
 mod ranges;
@@ -17,6 +18,7 @@ mod words;
 
 pub use chosen::{Chosen, Target};
 pub use forest::{Forest, Made, Reads, Root, Term, Tree, bit_of};
+pub use forms::{Filled, Form, FormKind};
 pub use names::{Meaning, Named};
 pub use scope::Scope;
 pub use widths::Word;

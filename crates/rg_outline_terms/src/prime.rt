@@ -29,8 +29,8 @@ impl Forest {
         operands.find(|operand| self.reads(*operand).primed != 0)
     }
 
-    /// Primes a tree whose operands were primed.
-    fn prime_root(&mut self, tree: usize) -> Result<(), Fault> {
+    /// A tree with its root primed, whose operands were primed.
+    fn primed_root(&mut self, tree: usize) -> Made {
         let kept = self.tree(tree);
         let root = match self.root(tree) {
             Root::Word {
@@ -50,7 +50,16 @@ impl Forest {
             *slot = self.primed_of(*operand).unwrap_or(*operand);
         }
         let plain = self.add(root, operands, kept.span)?;
-        let index = self.named(plain, kept.name, kept.arguments)?;
+        self.named(plain, kept.name, kept.arguments)
+    }
+
+    /// Primes a tree whose operands were primed. One that reads no word is its own next state.
+    fn prime_root(&mut self, tree: usize) -> Result<(), Fault> {
+        let reads = self.reads(tree);
+        let mut index = tree;
+        if reads.plain | reads.primed != 0 {
+            index = self.primed_root(tree)?;
+        }
         if let Some(slot) = self.primed.get_mut(tree) {
             *slot = index.saturating_add(1);
         }

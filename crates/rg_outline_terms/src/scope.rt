@@ -31,6 +31,8 @@ pub struct Scope<'a> {
     pub(crate) fillings: Vec<Filling>,
     /// The uses of names of trees that are being worked out.
     pub uses: Vec<Span>,
+    /// What each expression stood for when it was worked out last, at its index.
+    pub(crate) latest: Vec<usize>,
     /// The arguments of names that are being worked out.
     pub(crate) passed: Vec<usize>,
     /// What holds where something is worked out, by the tests of the choices, and the left sides of `and` and `or`, within which it stands.
@@ -58,6 +60,7 @@ impl<'a> Scope<'a> {
             numbers: Vec::new(alloc),
             fillings: Vec::new(alloc),
             uses: Vec::new(alloc),
+            latest: Vec::new(alloc),
             passed: Vec::new(alloc),
             guards: Vec::new(alloc),
             chosen: Vec::new(alloc),

@@ -38,5 +38,5 @@ pub use printed::{
     print_valid,
 };
 pub use refusals::{refusal_json, refusal_value};
-pub use run_json::{print_run_json, write_closed};
-pub use running::{RunFiles, Unread, end_run, play_files, print_run};
+pub use run_json::{print_emitted_json, print_run_json, write_closed};
+pub use running::{RunFiles, Unread, end_run, play_files, print_emitted, print_run};

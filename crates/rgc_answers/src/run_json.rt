@@ -4,7 +4,7 @@ ghost use Rattle.std.specs.Prelude.{IfErr, OnOk};
 ghost use Rattle.std.specs.Io.KnownBytes.{Appends};
 ghost use Rattle.rg_words.specs.Stopped.{IsFailure};
 ghost use Rattle.rg_words.specs.Written.{CanCount};
-ghost use Rattle.rg_accept.specs.Stages.{emitted_program, emitted_blocks};
+ghost use Rattle.rg_code.specs.CodeTrees.{code_blocks};
 ghost use Rattle.rg_tree.specs.ProgramTrees.{program as program_tree};
 ghost use Rattle.rgc.specs.Pieces.{bytes_of};
 ghost use Rattle.rgc_answers.specs.Failures.{NoFailure};
@@ -17,7 +17,6 @@ use crate::context::Context;
 use crate::ends::{end_line, passed_line};
 use crate::records::record_line;
 use crate::running::{RunFiles, Unread, play_files};
-use rg_accept::Emitted;
 use rg_code::checked::Checked;
 use rg_floor::closed::{Closed, Passed};
 use rg_floor::turn::Why;
@@ -98,17 +97,22 @@ pub fn write_closed<W: Out>(
     write_end(alloc, closed.why(), out)
 }
 
-/// Runs code, and prints what is left of the run. The lines that a run prints of its steps go nowhere.
-fn print_emitted_json<R: Threads + Wait + Sync, P, W: Out>(
+/// Runs code, and prints what is left of the run. The lines that a run prints of its steps go nowhere. Of the files the start and the moves are read, and
+/// no other.
+///
+/// # Errors
+///
+/// As `print_run_json` from the start on.
+pub fn print_emitted_json<R: Threads + Wait + Sync, P, E: Checked, W: Out>(
     context: &Context<'_, R, P>,
-    emitted: &Emitted,
+    emitted: &E,
     files: RunFiles<'_>,
     out: &mut W,
 ) -> Result<(), Refusal>
     requires { CanCount (W.failures out.old) }
-    ensures printed { OnOk result (HasPrintedRunJsonOf (emitted_program emitted.now) (emitted_blocks emitted.now) files.entry.start files.entry.moves files.entry.limit (W.contents out.old) (W.contents out.new)) }
+    ensures printed { OnOk result (HasPrintedRunJsonOf (program_tree (E.program_of emitted.now)) (code_blocks (E.code_of emitted.now)) files.entry.start files.entry.moves files.entry.limit (W.contents out.old) (W.contents out.new)) }
     ensures failures { NoFailure result (W.failures out.old) (W.failures out.new) }
-    ensures stopped { IfErr result (IsRunStopped (IsUnbegun (emitted_program emitted.now) files.entry.start files.entry.moves files.entry.limit) (W.contents out.old) (W.contents out.new) (W.failures out.old) (W.failures out.new)) }
+    ensures stopped { IfErr result (IsRunStopped (IsUnbegun (program_tree (E.program_of emitted.now)) files.entry.start files.entry.moves files.entry.limit) (W.contents out.old) (W.contents out.new) (W.failures out.old) (W.failures out.new)) }
 {
     let closed = play_files(context.rt, context.alloc, emitted, files, &mut Unread)?;
     write_closed(context.alloc, emitted.program(), &closed, out)

@@ -8,14 +8,14 @@ ghost use Rattle.rg_words.specs.Stopped.{IsFailure};
 ghost use Rattle.rg_words.specs.Written.{CanCount};
 ghost use Rattle.rg_tree.specs.Moves.{move as move_tree, AreMoves};
 ghost use Rattle.rg_monitor.specs.Lines.{lines_of};
-ghost use Rattle.rg_accept.specs.Stages.{emitted_program, emitted_blocks};
+ghost use Rattle.rg_tree.specs.ProgramTrees.{program as program_tree};
+ghost use Rattle.rg_code.specs.CodeTrees.{code_blocks};
 ghost use Rattle.rgc.specs.Pieces.{bytes_of};
 ghost use Rattle.rgc_answers.specs.Failures.{NoFailure};
 ghost use Rattle.rgc_answers.specs.Running.{StartsAt, AreTheMoves, IsRunLeft, HasPrintedRunOf, HasPrintedRun, why_text, passed_line, passed_text, HasReportedPassed};
 ghost use Rattle.rgc_answers.specs.Refused.{IsUnreadStart, AreUnreadMoves, opening_refusal, IsUnbegun, IsRunRefusal, IsRunStopped};
 
 use crate::{Context, MOST_DRAWN, Shown, draw};
-use rg_accept::Emitted;
 use rg_code::checked::Checked;
 use rg_floor::closed::{Closed, Passed};
 use rg_floor::turn::Why;
@@ -184,18 +184,18 @@ pub fn end_run<W: Out, F: Out>(
 /// # Errors
 ///
 /// As `print_run` from the start on.
-pub fn play_files<'e, R: Threads + Wait + Sync, W: Out>(
+pub fn play_files<'e, R: Threads + Wait + Sync, E: Checked, W: Out>(
     rt: &R,
     alloc: Global,
-    emitted: &'e Emitted,
+    emitted: &'e E,
     files: RunFiles<'_>,
     out: &mut W,
 ) -> Result<Closed<'e>, Refusal>
     requires { CanCount (W.failures out.old) }
-    ensures run { IfOk result (λ c. IsRunLeft (emitted_program emitted.now) (emitted_blocks emitted.now) files.entry.start files.entry.moves files.entry.limit c) }
-    ensures printed { IfOk result (λ c. Appends (W.contents out.old) (W.contents out.new) (lines_of (emitted_program emitted.now) c.history)) }
+    ensures run { IfOk result (λ c. IsRunLeft (program_tree (E.program_of emitted.now)) (code_blocks (E.code_of emitted.now)) files.entry.start files.entry.moves files.entry.limit c) }
+    ensures printed { IfOk result (λ c. Appends (W.contents out.old) (W.contents out.new) (lines_of (program_tree (E.program_of emitted.now)) c.history)) }
     ensures failures { NoFailure result (W.failures out.old) (W.failures out.new) }
-    ensures stopped { IfErr result (IsRunStopped (IsUnbegun (emitted_program emitted.now) files.entry.start files.entry.moves files.entry.limit) (W.contents out.old) (W.contents out.new) (W.failures out.old) (W.failures out.new)) }
+    ensures stopped { IfErr result (IsRunStopped (IsUnbegun (program_tree (E.program_of emitted.now)) files.entry.start files.entry.moves files.entry.limit) (W.contents out.old) (W.contents out.new) (W.failures out.old) (W.failures out.new)) }
 {
     let layout = &emitted.program().layout;
     let first = first_state(alloc, layout, files.start)?;
@@ -213,10 +213,14 @@ pub fn play_files<'e, R: Threads + Wait + Sync, W: Out>(
     }
 }
 
-/// Runs code, and prints a line for each step and why the run is over.
-fn print_emitted<R: Threads + Wait + Sync, P, W: Out, F: Out>(
+/// Runs code, and prints a line for each step and why the run is over. Of the files the start and the moves are read, and no other.
+///
+/// # Errors
+///
+/// As `print_run` from the start on.
+pub fn print_emitted<R: Threads + Wait + Sync, P, E: Checked, W: Out, F: Out>(
     context: &Context<'_, R, P>,
-    emitted: &Emitted,
+    emitted: &E,
     files: RunFiles<'_>,
     out: &mut W,
     faults: &mut F,
@@ -224,9 +228,9 @@ fn print_emitted<R: Threads + Wait + Sync, P, W: Out, F: Out>(
 ) -> Result<(), Refusal>
     requires out { CanCount (W.failures out.old) }
     requires faults { CanCount (F.failures faults.old) }
-    ensures printed { OnOk result (HasPrintedRunOf (emitted_program emitted.now) (emitted_blocks emitted.now) files.entry.start files.entry.moves files.entry.limit (W.contents out.old) (W.contents out.new)) }
+    ensures printed { OnOk result (HasPrintedRunOf (program_tree (E.program_of emitted.now)) (code_blocks (E.code_of emitted.now)) files.entry.start files.entry.moves files.entry.limit (W.contents out.old) (W.contents out.new)) }
     ensures failures { NoFailure result (W.failures out.old) (W.failures out.new) }
-    ensures stopped { IfErr result (IsRunStopped (IsUnbegun (emitted_program emitted.now) files.entry.start files.entry.moves files.entry.limit) (W.contents out.old) (W.contents out.new) (W.failures out.old) (W.failures out.new)) }
+    ensures stopped { IfErr result (IsRunStopped (IsUnbegun (program_tree (E.program_of emitted.now)) files.entry.start files.entry.moves files.entry.limit) (W.contents out.old) (W.contents out.new) (W.failures out.old) (W.failures out.new)) }
     ensures quiet { OnErr result (F.failures faults.new ≡ F.failures faults.old) }
 {
     let closed = play_files(context.rt, context.alloc, emitted, files, out)?;

@@ -1,3 +1,4 @@
-pub mod Stopping
+mod Texts
 pub mod PerformStopping
+pub mod Stopping
 pub mod Telling

@@ -4,3 +4,5 @@ pub mod Stopped
 pub mod Inner
 pub mod PerformDone
 pub mod PerformStopped
+pub mod Device
+pub mod Performed

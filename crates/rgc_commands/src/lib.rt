@@ -4,6 +4,7 @@
 
 mod commands;
 mod derivation_entries;
+mod device;
 mod dispatch;
 mod entries;
 mod explained;

@@ -64,7 +64,7 @@ fn outlined_in<'a>(alloc: Global, expanded: &'a Expanded<'a>) -> Result<&'a Outl
 }
 
 /// The outline of a command, where it stands for files.
-fn outlined_of<'a>(alloc: Global, files: &Files<'a>) -> Result<&'a Outlined<'a>, Stop>
+pub(crate) fn outlined_of<'a>(alloc: Global, files: &Files<'a>) -> Result<&'a Outlined<'a>, Stop>
     ensures files { IfOk result (λ o. outline_files files.now.outline ≡ Some o.now.files) }
     ensures none { (rest : Option (List ℕ)) → IfErr result (IsNotOutlined (outline_line files.now rest)) }
 {
@@ -76,7 +76,7 @@ fn outlined_of<'a>(alloc: Global, files: &Files<'a>) -> Result<&'a Outlined<'a>,
 }
 
 /// The most decisions of each search, where a command doesn't name them.
-const MOST_STEPS: u64 = 1_000_000;
+pub(crate) const MOST_STEPS: u64 = 1_000_000;
 
 /// The most decisions of each search for a changed program.
 const MOST_STEPS_FOR_CHANGES: u64 = 10_000;

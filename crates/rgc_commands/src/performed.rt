@@ -2,10 +2,12 @@
 
 ghost use Rattle.std.specs.Prelude.{◌≡◌, ◌≤◌, ◌++◌, string_bytes, IfOk};
 ghost use Rattle.rg_words.specs.Written.{CanCount};
-ghost use Rattle.rgc_commands.specs.PerformDone.{IsLineDone};
-ghost use Rattle.rgc_commands.specs.PerformStopped.{IsBelow, Writes, TellsRefusal, refusal_status, reported_line, IsRefused, HasReportedMisfit, HasFailed};
+ghost use Rattle.rgc_commands.specs.Device.{is_on_device, IsDeviceDone};
+ghost use Rattle.rgc_commands.specs.Performed.{IsPerformed, IsTextReported, IsRefusedBy, IsMisfitBy, IsFailedBy};
+ghost use Rattle.rgc_commands.specs.PerformStopped.{IsBelow, Writes, TellsRefusal, refusal_status, reported_line};
 ghost use Rattle.rgc_commands.specs.Inner.Stops.{IsReported};
 
+use crate::device::{carry_out_device, is_on_device};
 use crate::dispatch::carry_out_line;
 use crate::explained::explained;
 use crate::sides::Sides;
@@ -132,11 +134,34 @@ fn tell<F: Out>(
     }
 }
 
+/// Does what a line about a device asks for; the status, as `perform` gives it.
+fn perform_on_device<R: Threads + Wait + Sync, W: Out, F: Out, P: Watcher + Copy + Sync>(
+    context: &Context<'_, R, P>,
+    line: &Line<'_>,
+    files: &Files<'_>,
+    out: &mut W,
+    faults: &mut F,
+    picture: &mut Vec<u8>,
+) -> u8
+    requires out { CanCount (W.failures out.old) }
+    requires faults { CanCount (F.failures faults.old) }
+    ensures status { result ≤ 3 }
+    ensures failures { result ≡ 0 → W.failures out.new ≡ W.failures out.old }
+    ensures done { result ≡ 0 → IsDeviceDone line.now files.now (W.contents out.old) (W.contents out.new) }
+    ensures reported { 1 ≤ result → IsTextReported (F.contents faults.old) (F.contents faults.new) (F.failures faults.old) (F.failures faults.new) }
+{
+    match carry_out_device(context, line, files, out, faults, picture) {
+        Ok(()) => 0,
+        Err(stop) => tell(context.alloc, line, files, &stop, faults),
+    }
+}
+
 /// Does the command over the bytes of its files in the threads of the context (a run has one for each part besides), and answers the program's
 /// status: 0 done, 1 refused or no proof found, 2 where the words don't fit (a range of conditions that isn't one, no refusal of the number to
 /// explain), 3 where a file can't be read, where the output can't be written, or where memory is refused. A refusal is one line on `faults`,
 /// and what explains it below, where that is asked; why the search of `find` gave up is one line there. Moves of a run that were passed over are
-/// reported there too, and change no status. Each search has a copy of the watcher, which hears of a long one. A run that is drawn has its picture
+/// reported there too, and change no status. Of a line about a device (words are erased, or code is that of an outline) whose status isn't 0 it is
+/// promised alone that a text is reported. Each search has a copy of the watcher, which hears of a long one. A run that is drawn has its picture
 /// put after what `sides` holds, and an outline the files that it stands for and its map; of the picture and the map nothing is promised.
 pub fn perform<R: Threads + Wait + Sync, W: Out, F: Out, P: Watcher + Copy + Sync>(
     context: &Context<'_, R, P>,
@@ -151,18 +176,21 @@ pub fn perform<R: Threads + Wait + Sync, W: Out, F: Out, P: Watcher + Copy + Syn
     ensures status { result ≤ 3 }
     ensures failures { result ≡ 0 → W.failures out.new ≡ W.failures out.old }
     // What is said to be proved of an outline is so of the files that it stands for, which are those that are written.
-    ensures done { result ≡ 0 → IsLineDone line.now files.now sides.old.outline sides.new.outline (W.contents out.old) (W.contents out.new) }
+    ensures done { result ≡ 0 → IsPerformed line.now files.now sides.old.outline sides.new.outline (W.contents out.old) (W.contents out.new) }
 
     // There is no proof, and the output says why; or it says that the search gave up, and the faults why; or the files are refused, nothing
     // went out, and the refusal is reported; or an outline is refused.
-    ensures refused { result ≡ 1 → IsRefused line.now files.now (W.contents out.old) (W.contents out.new) (W.failures out.old) (W.failures out.new) (F.contents faults.old) (F.contents faults.new) (F.failures faults.old) (F.failures faults.new) }
+    ensures refused { result ≡ 1 → IsRefusedBy (is_on_device line.now) line.now files.now (W.contents out.old) (W.contents out.new) (W.failures out.old) (W.failures out.new) (F.contents faults.old) (F.contents faults.new) (F.failures faults.old) (F.failures faults.new) }
 
     // The words don't fit, nothing went out, and that is reported.
-    ensures misfit { result ≡ 2 → HasReportedMisfit line.now (W.contents out.old) (W.contents out.new) (W.failures out.old) (W.failures out.new) (F.contents faults.old) (F.contents faults.new) (F.failures faults.old) (F.failures faults.new) }
+    ensures misfit { result ≡ 2 → IsMisfitBy (is_on_device line.now) line.now (W.contents out.old) (W.contents out.new) (W.failures out.old) (W.failures out.new) (F.contents faults.old) (F.contents faults.new) (F.failures faults.old) (F.failures faults.new) }
 
     // A file can't be read; or the writer failed, or memory was refused; and that is reported.
-    ensures failed { result ≡ 3 → HasFailed line.now files.now (W.contents out.old) (W.contents out.new) (W.failures out.old) (W.failures out.new) (F.contents faults.old) (F.contents faults.new) (F.failures faults.old) (F.failures faults.new) }
+    ensures failed { result ≡ 3 → IsFailedBy (is_on_device line.now) line.now files.now (W.contents out.old) (W.contents out.new) (W.failures out.old) (W.failures out.new) (F.contents faults.old) (F.contents faults.new) (F.failures faults.old) (F.failures faults.new) }
 {
+    if is_on_device(line) {
+        return perform_on_device(context, line, files, out, faults, &mut sides.picture);
+    }
     match carry_out_line(context, line, files, out, faults, sides) {
         Ok(()) => 0,
         Err(stop) => tell(context.alloc, line, files, &stop, faults),

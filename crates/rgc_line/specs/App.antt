@@ -70,6 +70,14 @@ warnings = field OptionalText "warnings"
 abbrev pub seed : Rule
 seed = field OptionalText "seed"
 
+-- the names of words that are erased
+abbrev pub erase : Rule
+erase = field OptionalText "erase"
+
+-- whether the auxiliary words of an outline stay
+abbrev pub keep_aux : Rule
+keep_aux = field Flag "keep-aux"
+
 -- a command with these arguments and no subcommands
 abbrev pub leaf : Text → List Rule → Shape
 leaf name rules = record (new_shape name) { rules = rules }
@@ -80,8 +88,8 @@ row_of Number = leaf (codes "number") (field File "TEXT" ∷ format ∷ explaine
 row_of Check = leaf (codes "check") (field File "TEXT" ∷ field File "DERIVATION" ∷ field Files "PROOFS" ∷ further_derivation ∷ threads ∷ format ∷ explained ∷ [])
 row_of Conditions = leaf (codes "conditions") (field File "TEXT" ∷ field File "DERIVATION" ∷ field Flag "formulas" ∷ further_derivation ∷ format ∷ explained ∷ [])
 row_of Prove = leaf (codes "prove") (field File "TEXT" ∷ field File "DERIVATION" ∷ field NumberOrMillion "steps" ∷ field OptionalText "conditions" ∷ further_derivation ∷ threads ∷ field RepeatedFile "output" ∷ format ∷ explained ∷ [])
-row_of Emit = leaf (codes "emit") (field File "TEXT" ∷ field File "DERIVATION" ∷ field Files "PROOFS" ∷ further_derivation ∷ threads ∷ output ∷ explained ∷ [])
-row_of Run = leaf (codes "run") (field OptionalFile "start" ∷ field OptionalFile "moves" ∷ field NumberOrMillion "limit" ∷ field OptionalFile "draw" ∷ field OptionalFile "outline" ∷ field Place "TEXT" ∷ field Place "DERIVATION" ∷ field Places "PROOFS" ∷ further_derivation ∷ threads ∷ format ∷ explained ∷ seed ∷ [])
+row_of Emit = leaf (codes "emit") (field OptionalFile "outline" ∷ field Place "TEXT" ∷ field Place "DERIVATION" ∷ field Places "PROOFS" ∷ further_derivation ∷ threads ∷ output ∷ explained ∷ erase ∷ keep_aux ∷ [])
+row_of Run = leaf (codes "run") (field OptionalFile "start" ∷ field OptionalFile "moves" ∷ field NumberOrMillion "limit" ∷ field OptionalFile "draw" ∷ field OptionalFile "outline" ∷ field Place "TEXT" ∷ field Place "DERIVATION" ∷ field Places "PROOFS" ∷ further_derivation ∷ threads ∷ format ∷ explained ∷ seed ∷ erase ∷ [])
 row_of Valid = leaf (codes "valid") (field File "TEXT" ∷ field File "PROOFS" ∷ threads ∷ explained ∷ [])
 row_of Clauses = leaf (codes "clauses") (field File "TEXT" ∷ chosen_derivation ∷ chosen_condition ∷ output ∷ explained ∷ [])
 row_of Find = leaf (codes "find") (field File "TEXT" ∷ chosen_derivation ∷ chosen_condition ∷ field NumberOrMillion "steps" ∷ output ∷ explained ∷ [])

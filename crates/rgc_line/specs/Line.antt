@@ -3,11 +3,11 @@ use Rattle.std.specs.Prelude.{◌≡◌, ◌⊎◌, ◌↔◌, ℕ, Bool, true, 
 use Rattle.std.specs.Str.Parse.{ParsesUnsigned}
 use Rattle.std.specs.Borrow.{Bor}
 use Rattle.clap.specs.Words.{Row, Rule, Text, all_of, first_of, one_of, HasKind, fault_of, subcommand_of}
-use Rattle.rgc_line.specs.App.{rgc_app, row_of, chosen_derivation, chosen_condition, output, format, explained, threads, warnings, seed}
+use Rattle.rgc_line.specs.App.{rgc_app, row_of, chosen_derivation, chosen_condition, output, format, explained, threads, warnings, seed, erase, keep_aux}
 use Rattle.rgc_line.specs.declared.line.LineFault.{LineFault}
 use Rattle.rgc_line.specs.declared.line.LineFault.TheVariants.{Usage, Fields}
 use Rattle.rgc_line.specs.declared.fields.FieldFault.{FieldFault}
-use Rattle.rgc_line.specs.declared.fields.FieldFault.TheVariants.{Apart, UnknownFormat, RunFiles, NoFile}
+use Rattle.rgc_line.specs.declared.fields.FieldFault.TheVariants.{Apart, UnknownFormat, RunFiles, EmitFiles, NoFile}
 use Rattle.rgc_line.specs.declared.command.Chosen.{Chosen}
 use Rattle.rgc_line.specs.declared.command.Outlines.{Outlines}
 use Rattle.rgc_line.specs.declared.command.Format.{Format}
@@ -15,7 +15,7 @@ use Rattle.rgc_line.specs.declared.command.Format.TheVariants.{Plain, Json}
 use Rattle.rgc_line.specs.declared.command.Settings.{Settings}
 use Rattle.rgc_line.specs.declared.line.Line.{Line}
 use Rattle.rgc_line.specs.declared.command.Command.{Command}
-use Rattle.rgc_line.specs.declared.command.Command.TheVariants.{Number, Check, Conditions, Prove, Emit, Run, RunOutline, Valid, Clauses, Find, Outline, Verify, Challenge, Explain}
+use Rattle.rgc_line.specs.declared.command.Command.TheVariants.{Number, Check, Conditions, Prove, Emit, EmitOutline, Run, RunOutline, Valid, Clauses, Find, Outline, Verify, Challenge, Explain}
 use Rattle.rgc_line.specs.declared.commands.Kind.{Kind}
 use Rattle.rgc_line.specs.declared.commands.Kind.TheVariants as kind
 
@@ -72,7 +72,8 @@ contents_of (Number text) = (kind.Number, file text ∷ [])
 contents_of (Check text derivation proofs) = (kind.Check, file text ∷ file derivation ∷ file proofs ∷ [])
 contents_of (Conditions text derivation has_formulas) = (kind.Conditions, file text ∷ file derivation ∷ flag has_formulas ∷ [])
 contents_of (Prove text derivation steps conditions) = (kind.Prove, file text ∷ file derivation ∷ number steps ∷ optional file conditions ∷ [])
-contents_of (Emit text derivation proofs) = (kind.Emit, file text ∷ file derivation ∷ file proofs ∷ [])
+contents_of (Emit text derivation proofs) = (kind.Emit, absent ∷ file text ∷ file derivation ∷ file proofs ∷ [])
+contents_of (EmitOutline outline) = (kind.Emit, file outline ∷ absent ∷ [])
 contents_of (Run text derivation proofs start moves limit draw) = (kind.Run, optional file start ∷ optional file moves ∷ number limit ∷ optional file draw ∷ absent ∷ file text ∷ file derivation ∷ file proofs ∷ [])
 contents_of (RunOutline outline start moves limit draw) = (kind.Run, optional file start ∷ optional file moves ∷ number limit ∷ optional file draw ∷ file outline ∷ absent ∷ [])
 contents_of (Valid text proofs) = (kind.Valid, file text ∷ file proofs ∷ [])
@@ -100,6 +101,8 @@ pub record HasSettings (rows : List Row) (settings : Settings) : Type 0 where
   pub threads : HasValue rows threads.id (optional number settings.threads)
   pub warnings : HasValue rows warnings.id (optional file settings.warnings)
   pub seed : HasValue rows seed.id (optional file settings.seed)
+  pub erase : HasValue rows erase.id (optional file settings.erase)
+  pub keeps_aux : HasValue rows keep_aux.id (flag settings.keeps_aux)
 
 -- a command over several files is the one over the file at this place
 abbrev pub IsAt : ℕ → Command → Type 0
@@ -124,7 +127,7 @@ AreApart rows =
 abbrev pub IsUnknownFormat : List Row → Type 0
 IsUnknownFormat rows = (word : Text) × (first_of format.id rows ≡ Some word) × (word ≡ codes "plain" → ⊥) × (word ≡ codes "json" → ⊥)
 
--- a run is asked for of an outline and of files, or of no outline and of some of the three files alone
+-- a run, or code, is asked for of an outline and of files, or of no outline and of some of the three files alone
 abbrev pub AreRunFilesApart : List Row → Type 0
 AreRunFilesApart rows =
     (IsThere rows (codes "outline") × IsThere rows (codes "TEXT"))
@@ -144,6 +147,7 @@ abbrev pub IsFieldFault : Kind → List Row → ℕ → FieldFault → Type 0
 IsFieldFault of rows place Apart = ((of ≡ kind.Clauses) ⊎ (of ≡ kind.Find)) × AreApart rows
 IsFieldFault of rows place UnknownFormat = IsUnknownFormat rows
 IsFieldFault of rows place RunFiles = (of ≡ kind.Run) × AreRunFilesApart rows
+IsFieldFault of rows place EmitFiles = (of ≡ kind.Emit) × AreRunFilesApart rows
 IsFieldFault of rows place NoFile = (of ≡ kind.Verify) × IsBeyond rows place
 
 -- the words are those of a subcommand of the table, and its matches give no command

@@ -47,6 +47,10 @@ pub struct Settings<'a> {
     pub warnings: Option<&'a str>,
     /// The word by which one part of a run after another is let go.
     pub seed: Option<&'a str>,
+    /// The names of words that are erased, with commas between them.
+    pub erase: Option<&'a str>,
+    /// Whether the auxiliary words of an outline stay.
+    pub keeps_aux: bool,
 }
 
 /// The settings where nothing is asked for.
@@ -57,6 +61,8 @@ pub const PLAIN: Settings<'static> = Settings {
     threads: None,
     warnings: None,
     seed: None,
+    erase: None,
+    keeps_aux: false,
 };
 
 /// A command with its files, each by its path as given.
@@ -91,6 +97,10 @@ pub enum Command<'a> {
         text: &'a str,
         derivation: &'a str,
         proofs: &'a str,
+    },
+    /// The code of an outline's program, which is verified first.
+    EmitOutline {
+        outline: &'a str,
     },
     /// A run of an accepted program, from the start file or else from words that are all 0, with the environment's moves, where a file has
     /// them, and with at most so many steps; it is drawn to a file where one is named, which is written and not read.
@@ -204,6 +214,7 @@ impl<'a> Command<'a> {
                 (Some(text), chosen.map(|chosen| chosen.derivation), None)
             }
             Command::Outline { outline, .. }
+            | Command::EmitOutline { outline }
             | Command::RunOutline { outline, .. }
             | Command::Challenge { outline, .. } => (Some(outline), None, None),
             Command::Verify { outlines, .. } => (Some(outlines.outline), None, None),

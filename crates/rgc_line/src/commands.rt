@@ -132,6 +132,11 @@ pub const RUN_PROOFS: Field =
 pub const RUN_OUTLINE: Field =
     field!(OptionalFile "outline": "an outline in the place of the three files; it is verified first");
 
+pub const ERASE: Field =
+    field!(OptionalText "erase": "words to leave out, with commas between them: auxiliary words, which nothing else needs");
+
+pub const KEEP_AUX: Field = field!(Flag "keep-aux": "leave the auxiliary words of the outline in");
+
 pub const WRITTEN_TEXT: Field =
     field!(OptionalFile "text": "a file to write the program to, in the place of the output");
 
@@ -242,13 +247,16 @@ pub static COMMANDS: [Row; 13] = [
         about: "Prints the listing of the code of an accepted program",
         example: "Example: rgc emit counter.rg counter.rgd counter.lrat",
         fields: &[
-            PROGRAM,
-            DERIVATION,
-            PROOFS,
+            RUN_OUTLINE,
+            RUN_PROGRAM,
+            RUN_DERIVATION,
+            RUN_PROOFS,
             FURTHER_DERIVATION,
             THREADS,
             OUTPUT,
             EXPLAINED,
+            ERASE,
+            KEEP_AUX,
         ],
     },
     Row {
@@ -270,6 +278,7 @@ pub static COMMANDS: [Row; 13] = [
             FORMAT,
             EXPLAINED,
             SEED,
+            ERASE,
         ],
     },
     Row {

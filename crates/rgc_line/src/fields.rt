@@ -26,6 +26,9 @@ pub enum FieldFault {
     /// A run of an outline and of files, or of some files alone.
     #[error("run takes TEXT DERIVATION PROOFS, or --outline FILE")]
     RunFiles,
+    /// The code of an outline and of files, or of some files alone.
+    #[error("emit takes TEXT DERIVATION PROOFS, or --outline FILE")]
+    EmitFiles,
     /// The place is after the last of the files.
     #[error("there is no file at the place")]
     NoFile,

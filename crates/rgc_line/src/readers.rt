@@ -7,7 +7,7 @@ ghost use Rattle.rgc_line.specs.Line.{AreRunFilesApart, HasContents, HasSettings
 ghost use Rattle.rgc_line.specs.App.{kinds, row_of};
 ghost use Rattle.rgc_line.specs.Inner.Table.{IsListed, IsRefused, IsTable, IsWhole, Reads};
 ghost use Rattle.rgc_line.specs.declared.commands.Kind.TheVariants as kind;
-ghost use Rattle.rgc_line.specs.declared.fields.FieldFault.TheVariants.{RunFiles};
+ghost use Rattle.rgc_line.specs.declared.fields.FieldFault.TheVariants.{EmitFiles, RunFiles};
 
 use crate::command::Command;
 use crate::commands::{
@@ -102,16 +102,32 @@ fn prove<'a>(matches: &ArgMatches<'a>) -> Command<'a>
     }
 }
 
-/// The code of three files.
-fn emit<'a>(matches: &ArgMatches<'a>) -> Command<'a>
+/// The code of three files, or of an outline.
+fn emit<'a>(matches: &ArgMatches<'a>) -> Result<Command<'a>, FieldFault>
     requires { IsWhole kind.Emit (rows_of (found_of matches.now)) }
-    ensures { Reads kind.Emit (rows_of (found_of matches.now)) result }
+    ensures reads { IfOk result (Reads kind.Emit (rows_of (found_of matches.now))) }
+    ensures fault { IfErr result (λ f. (f ≡ EmitFiles) × AreRunFilesApart (rows_of (found_of matches.now))) }
 {
-    Command::Emit {
-        text: file(matches, PROGRAM.id),
-        derivation: file(matches, DERIVATION.id),
-        proofs: file(matches, PROOFS.id),
+    if let Some(outline) = option(matches, RUN_OUTLINE.id) {
+        if let Some(_) = option(matches, RUN_PROGRAM.id) {
+            return Err(FieldFault::EmitFiles);
+        }
+        return Ok(Command::EmitOutline { outline });
     }
+    let Some(text) = option(matches, RUN_PROGRAM.id) else {
+        return Err(FieldFault::EmitFiles);
+    };
+    let Some(derivation) = option(matches, RUN_DERIVATION.id) else {
+        return Err(FieldFault::EmitFiles);
+    };
+    let Some(proofs) = option(matches, RUN_PROOFS.id) else {
+        return Err(FieldFault::EmitFiles);
+    };
+    Ok(Command::Emit {
+        text,
+        derivation,
+        proofs,
+    })
 }
 
 /// The files of an outline.
@@ -146,7 +162,7 @@ fn command_of<'a>(
         Kind::Check => Ok(check(matches)),
         Kind::Conditions => Ok(conditions(matches)),
         Kind::Prove => Ok(prove(matches)),
-        Kind::Emit => Ok(emit(matches)),
+        Kind::Emit => emit(matches),
         Kind::Run => run(matches),
         Kind::Valid => Ok(Command::Valid {
             text: file(matches, FORMULA.id),

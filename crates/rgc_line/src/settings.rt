@@ -8,7 +8,7 @@ ghost use Rattle.rgc_line.specs.Line.{HasFormat, HasSettings, IsUnknownFormat};
 ghost use Rattle.rgc_line.specs.declared.fields.FieldFault.TheVariants.{UnknownFormat};
 
 use crate::command::{Format, Settings};
-use crate::commands::{EXPLAINED, FORMAT, OUTPUT, SEED, THREADS, WARNINGS};
+use crate::commands::{ERASE, EXPLAINED, FORMAT, KEEP_AUX, OUTPUT, SEED, THREADS, WARNINGS};
 use crate::fields::{FieldFault, is_given, number_or_none, option};
 use clap::ArgMatches;
 
@@ -42,5 +42,7 @@ pub fn settings_of<'a>(matches: &ArgMatches<'a>) -> Result<Settings<'a>, FieldFa
         threads: number_or_none(matches, THREADS.id),
         warnings: option(matches, WARNINGS.id),
         seed: option(matches, SEED.id),
+        erase: option(matches, ERASE.id),
+        keeps_aux: is_given(matches, KEEP_AUX.id),
     })
 }

@@ -2,6 +2,7 @@
 #![tactic(auto)]
 
 mod contents;
+mod largest;
 mod memory;
 mod paint;
 mod pieces;
@@ -12,6 +13,7 @@ ghost use Rattle.rg_words.specs.Written.{CanCount};
 
 use clap::error::ErrorKind;
 use contents::{Contents, lent, reads_input_twice};
+use largest::{Kind, largest_told};
 use memory::Memory;
 use paint::painted;
 use pieces::{PieceNames, cut_at, cut_proofs};
@@ -22,8 +24,8 @@ use rg_outline_reports::{
 use rg_words::limits::MOST_TEXT_BYTES;
 use rg_words::{Buffered, Device, Out, write_all};
 use rgc_commands::{Context, Expanded, Files, Sides, perform};
-use rgc_line::{Command, Format, Line, LineFault};
-use std::alloc::AllocError;
+use rgc_line::{Command, Format, Line, LineFault, PLAIN};
+use std::alloc::{AllocError, Global};
 use std::env::VarError;
 use std::io::IsTerminal;
 use std::process::ExitCode;
@@ -137,6 +139,7 @@ fn way_of(rt: &HostRuntime, line: &Line<'_>) -> Way {
         Command::Prove { .. } if !rt.stdout().is_terminal() => Way::Whole,
         Command::Verify { .. } if is_coloured(rt) || is_strict(line) => Way::Whole,
         Command::Find { .. }
+        | Command::EmitOutline { .. }
         | Command::Prove { .. }
         | Command::Run { .. }
         | Command::RunOutline { .. }
@@ -209,21 +212,16 @@ pub(crate) fn reported(rt: &HostRuntime, bytes: &[u8]) {
 
 /// Writes what a command has printed to where it goes; the status. What `prove` tells of conditions without a proof goes to standard error
 /// too, or there alone where the output is a file's; the answer of `find` goes to standard output alone.
-fn written<R>(
+fn written<R: Threads + Wait + Sync>(
     means: &Means<'_, '_, '_, R>,
     line: &Line<'_>,
+    files: &Files<'_>,
     bytes: &[u8],
     status: u8,
 ) -> Result<u8, AllocError> {
     let rt = means.rt;
     match (line.settings.output, line.command) {
-        (Some(_), Command::Prove { .. }) if status == 0 => {
-            let pieces = cut_proofs(rt.alloc(), bytes)?;
-            if !can_hold(rt, means.outputs, &pieces, "output") {
-                return Ok(1);
-            }
-            write_pieces(rt, means.outputs, &pieces, "output")
-        }
+        (Some(_), Command::Prove { .. }) if status == 0 => write_proofs(means, line, files, bytes),
         (Some(name), _) if status == 0 => write_whole(rt, name, bytes, "output"),
         (Some(_), Command::Find { .. }) => Ok(shown(rt, bytes, status)),
         (Some(_), _) => {
@@ -244,6 +242,52 @@ fn written<R>(
     }
 }
 
+/// The names of the conditions of a program's derivation, a row each as `conditions` prints them; nothing where they can't be had.
+fn condition_names<R: Threads + Wait + Sync>(
+    means: &Means<'_, '_, '_, R>,
+    line: &Line<'_>,
+    files: &Files<'_>,
+) -> Result<Vec<u8>, AllocError> {
+    let alloc = means.rt.alloc();
+    let mut names = Memory::new(alloc);
+    let mut faults = Memory::new(alloc);
+    if let Command::Prove {
+        text,
+        derivation,
+        ..
+    } = line.command
+    {
+        let asked = Line {
+            command: Command::Conditions {
+                text,
+                derivation,
+                has_formulas: false,
+            },
+            settings: PLAIN,
+        };
+        let mut sides = Sides::new(alloc);
+        let _ = performed(means, &asked, files, &mut names, &mut faults, &mut sides);
+    }
+    Vec::from_slice(alloc, names.bytes())
+}
+
+/// Writes proofs to the files that the output goes to, where these can hold them; the status.
+fn write_proofs<R: Threads + Wait + Sync>(
+    means: &Means<'_, '_, '_, R>,
+    line: &Line<'_>,
+    files: &Files<'_>,
+    proofs: &[u8],
+) -> Result<u8, AllocError> {
+    let rt = means.rt;
+    let pieces = cut_proofs(rt.alloc(), proofs)?;
+    if can_hold(rt, means.outputs, &pieces, "output") {
+        return write_pieces(rt, means.outputs, &pieces, "output");
+    }
+    let names = condition_names(means, line, files)?;
+    reported(rt, &largest_told(rt.alloc(), Kind::Proofs, proofs, &names)?);
+    Ok(1)
+}
+
 /// Does the command with its output and its faults in memory, and writes these; the status. Of an outline that is verified the faults are its warnings.
 fn whole<R: Threads + Wait + Sync>(
     means: &Means<'_, '_, '_, R>,
@@ -258,7 +302,7 @@ fn whole<R: Threads + Wait + Sync>(
     if out.is_refused() || faults.is_refused() {
         return Err(AllocError);
     }
-    let status = written(means, line, out.bytes(), status)?;
+    let status = written(means, line, files, out.bytes(), status)?;
     reported(rt, faults.bytes());
     if status == 0 && is_strict(line) && !faults.bytes().is_empty() {
         return Ok(1);
@@ -351,7 +395,16 @@ fn cuts_of<'a>(files: &Files<'a>, derivation: &[u8]) -> &'a [usize] {
     }
 }
 
-/// Writes the derivation and the proofs that an outline stands for to the files that are named for them, where these can hold them; the status.
+/// The map of an outline that was worked out; nothing where there is none.
+fn map_of(alloc: Global, files: &Files<'_>) -> Result<Vec<u8>, AllocError> {
+    match files.outline {
+        Some(Ok(outlined)) => outlined.map(),
+        _ => Ok(Vec::new(alloc)),
+    }
+}
+
+/// Writes the derivation and the proofs that an outline stands for to the files that are named for them, where these can hold them; the status. Where
+/// they can't, it is reported what takes the most bytes.
 fn write_certificates<R>(
     means: &Means<'_, '_, '_, R>,
     files: &Files<'_>,
@@ -364,11 +417,19 @@ fn write_certificates<R>(
     let holds_derivation = means.derivation.is_empty()
         || can_hold(rt, means.derivation, &derivation, "derivation");
     let holds_proofs = means.proofs.is_empty() || can_hold(rt, means.proofs, &proofs, "proofs");
-    if !holds_derivation || !holds_proofs {
-        return Ok(1);
+    if holds_derivation && holds_proofs {
+        let status = write_pieces(rt, means.derivation, &derivation, "derivation")?;
+        return Ok(status.max(write_pieces(rt, means.proofs, &proofs, "proofs")?));
     }
-    let status = write_pieces(rt, means.derivation, &derivation, "derivation")?;
-    Ok(status.max(write_pieces(rt, means.proofs, &proofs, "proofs")?))
+    let map = map_of(alloc, files)?;
+    if !holds_derivation {
+        reported(rt, &largest_told(alloc, Kind::Derivation, whole, &map)?);
+    }
+    if !holds_proofs {
+        let proofs = sides.outline.proofs.as_slice();
+        reported(rt, &largest_told(alloc, Kind::Proofs, proofs, &map)?);
+    }
+    Ok(1)
 }
 
 /// Writes the files that the command names beside its output; the status.
@@ -462,6 +523,7 @@ fn outline_of<'a>(line: &Line<'a>) -> Option<&'a str> {
     match line.command {
         Command::Verify { outlines, .. } => Some(outlines.outline),
         Command::Outline { outline, .. }
+        | Command::EmitOutline { outline }
         | Command::RunOutline { outline, .. }
         | Command::Challenge { outline, .. } => Some(outline),
         _ => None,
@@ -589,12 +651,23 @@ fn run_from<R: Threads + Wait + Sync>(
     write_sides(means, &line.command, &files, &sides)
 }
 
+/// Whether the line asks to keep the auxiliary words of what is no outline.
+fn keeps_aux_of_text(line: &Line<'_>) -> bool {
+    match line.command {
+        Command::EmitOutline { .. } => false,
+        _ => line.settings.keeps_aux,
+    }
+}
+
 /// What in the words of a line doesn't fit, before any file is read; nothing where all does.
 fn misfit_of(line: &Line<'_>, names: &PieceNames<'_>) -> Option<&'static str> {
+    if keeps_aux_of_text(line) {
+        return Some("--keep-aux goes with --outline");
+    }
     if let (Command::RunOutline { .. }, Format::Json) = (line.command, line.settings.format) {
         return Some("--outline and --format json don't go together");
     }
-    if let Command::RunOutline { .. } = line.command {
+    if let Command::RunOutline { .. } | Command::EmitOutline { .. } = line.command {
         if !names.derivation.is_empty() {
             return Some("--outline and --derivation don't go together");
         }

@@ -4,6 +4,9 @@ use rg_words::limits::MOST_PROOF_BYTES;
 use rgc_line::{Command, Line};
 use std::alloc::{AllocError, Global};
 
+/// How the head of a section of proofs begins.
+pub const SECTION: &[u8] = b"section ";
+
 /// The files of a derivation and of proofs, in their order: those that a command reads, or, of an outline, writes; and those that proofs are written to.
 #[derive(Drop)]
 pub struct PieceNames<'a> {
@@ -80,10 +83,10 @@ pub fn cut_at<'a>(
     Ok(pieces)
 }
 
-/// Whether a section begins at this place: its head stands at the beginning of a line.
-fn begins_section(bytes: &[u8], place: usize) -> bool {
+/// Whether a line begins at this place, and with these bytes.
+pub fn begins_line(bytes: &[u8], place: usize, head: &[u8]) -> bool {
     let (before, rest) = bytes.split_at(place.min(bytes.len()));
-    rest.starts_with(b"section ") && before.ends_with(b"\n")
+    rest.starts_with(head) && (before.is_empty() || before.ends_with(b"\n"))
 }
 
 /// The last place, up to the limit of a file, at which a section begins; none where there is none after the first byte.
@@ -91,7 +94,7 @@ fn last_section(bytes: &[u8]) -> Option<usize> {
     let most = MOST_PROOF_BYTES.min(bytes.len());
     for back in 0..most {
         let place = most - back;
-        if begins_section(bytes, place) {
+        if begins_line(bytes, place, SECTION) {
             return Some(place);
         }
     }

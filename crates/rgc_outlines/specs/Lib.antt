@@ -10,6 +10,7 @@ pub mod Changed
 pub mod Challenged
 pub mod ChallengeUnproved
 pub mod Outlined
+pub mod Built
 pub mod Written
 pub mod Stopped
 pub mod RunStopped

@@ -4,6 +4,7 @@
 
 mod answers;
 mod asked;
+mod built;
 mod candidates;
 mod challenge_json;
 mod challenges;
@@ -21,6 +22,7 @@ mod write;
 
 pub use answers::{Answer, Answered};
 pub use asked::is_proved;
+pub use built::build_outline;
 pub use challenges::{Options, challenge};
 pub use claims::confirmed;
 pub use failures::conditions_reported;

@@ -96,7 +96,7 @@ fn run_emitted<R: Threads + Wait + Sync, W: Out, F: Out, P>(
 }
 
 /// The code of a program, all of whose conditions these pieces of proofs prove.
-fn emitted_by<R: Threads + Wait + Sync, P>(
+pub(crate) fn emitted_by<R: Threads + Wait + Sync, P>(
     context: &Context<'_, R, P>,
     derived: Derived,
     proofs: &[&[u8]],

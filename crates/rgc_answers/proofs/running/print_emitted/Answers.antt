@@ -1,6 +1,6 @@
 use Rattle.std.proofs.lemmas.Result.{err_from_is_err_and, on_ok_weaker}
 use Rattle.rg_words.proofs.Written.{appends_both}
-use Rattle.rg_accept.specs.Stages.{emitted_program}
+use Rattle.rg_tree.specs.ProgramTrees.{program}
 use Rattle.rgc_answers.specs.Refused.{IsUnbegun}
 use Rattle.rgc_answers.proofs.Stops.{failure_of_run}
 use Rattle.rgc_answers.proofs.running.print_emitted.Goals as goal
@@ -22,4 +22,4 @@ returns-in_err-closed-clause-stopped g c =
 
 pub returns-clause-stopped : goal.returns-clause-stopped
 returns-clause-stopped g c =
-    failure_of_run (IsUnbegun (emitted_program c.args.emitted.now) c.args.files.start c.args.files.moves c.args.files.limit) _ _ _ _ _ c.end_run.result c.in_ok-closed.ensures.failures c.end_run.ensures.stopped
+    failure_of_run (IsUnbegun (program (g.E.Checked.program_of c.args.emitted.now)) c.args.files.start c.args.files.moves c.args.files.limit) _ _ _ _ _ c.end_run.result c.in_ok-closed.ensures.failures c.end_run.ensures.stopped

@@ -4,7 +4,7 @@ use Rattle.rgc_commands.proofs.PerformStopping.{over_texts, texts_stop}
 use Rattle.rgc_commands.proofs.dispatch.carry_out_line.Goals as goal
 
 pub carry_out-requires-clause-command : goal.carry_out-requires-clause-command
-carry_out-requires-clause-command g c = λ _ _. over_texts c.args.line.now.command c.in_default.not-RunOutline c.in_default.not-Outline c.in_default.not-Challenge c.in_default.not-Verify
+carry_out-requires-clause-command g c = λ _ _. over_texts c.args.line.now.command c.in_default.not-RunOutline c.in_default.not-Outline c.in_default.not-Challenge c.in_default.not-Verify c.requires.command
 
 pub returns-in-RunOutline-clause-done : goal.returns-in-RunOutline-clause-done
 returns-in-RunOutline-clause-done g c =

@@ -1,0 +1,8 @@
+use Rattle.std.proofs.Common.{◌≡◌, ◌++◌, ◌-◌, length}
+use Rattle.std.specs.String.{string_bytes}
+use Rattle.rg_c.specs.Headers.{fields_text}
+use Rattle.rg_c.proofs.header.push_fields.Given as goal
+
+abbrev pub invariant-loop-word : goal.invariant-loop-word
+invariant-loop-word l =
+    string_bytes l.text ++ fields_text l.layout l.kinds l.word (length l.layout - l.word) ≡ string_bytes l.initial.text ++ fields_text l.layout l.kinds 0 (length l.layout)

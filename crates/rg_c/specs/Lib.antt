@@ -1,0 +1,13 @@
+pub mod Actions
+pub mod Steps
+pub mod Laws
+pub mod Lines
+pub mod Fitting
+pub mod Source
+pub mod Texts
+pub mod Reads
+pub mod StepTexts
+pub mod Bodies
+pub mod Pages
+pub mod Heads
+pub mod Headers

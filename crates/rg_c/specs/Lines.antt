@@ -1,0 +1,135 @@
+-- The lines of which functions of C are made, from their texts.
+use Rattle.std.specs.Prelude.{ℕ, List, [], ◌∷◌, codes}
+use Rattle.std.specs.List.{flat_map}
+
+-- texts, one after another
+abbrev pub joined : List (List ℕ) → List ℕ
+joined texts = flat_map (λ t. t) texts
+
+-- the indent of what stands inside
+unfoldable pub inner : List ℕ → List ℕ
+inner indent = joined (indent ∷ codes "    " ∷ [])
+
+-- an atomic load of a word into a local
+unfoldable pub load_line : List ℕ → List ℕ → List ℕ → List ℕ
+load_line indent kind name = joined (indent ∷ codes "const " ∷ kind ∷ codes " " ∷ name ∷ codes "_ = RGC_LOAD(&w->" ∷ name ∷ codes ");\n" ∷ [])
+
+-- an atomic load of a word that is to be exchanged, and its local
+unfoldable pub begin_lines : List ℕ → List ℕ → List ℕ → List ℕ
+begin_lines indent kind name = joined (indent ∷ kind ∷ codes " rgc_old = RGC_LOAD(&w->" ∷ name ∷ codes ");\n" ∷ indent ∷ kind ∷ codes " " ∷ name ∷ codes "_ = rgc_old;\n" ∷ [])
+
+-- a local with the value of a word
+unfoldable pub copy_line : List ℕ → List ℕ → List ℕ → List ℕ
+copy_line indent kind name = joined (indent ∷ kind ∷ codes " " ∷ name ∷ codes "_ = w->" ∷ name ∷ codes ";\n" ∷ [])
+
+-- another value for a local
+unfoldable pub change_line : List ℕ → List ℕ → List ℕ → List ℕ
+change_line indent name value = joined (indent ∷ name ∷ codes "_ = " ∷ value ∷ codes ";\n" ∷ [])
+
+-- a plain write
+unfoldable pub write_line : List ℕ → List ℕ → List ℕ → List ℕ
+write_line indent name value = joined (indent ∷ codes "w->" ∷ name ∷ codes " = " ∷ value ∷ codes ";\n" ∷ [])
+
+-- an atomic store
+unfoldable pub store_line : List ℕ → List ℕ → List ℕ → List ℕ
+store_line indent name value = joined (indent ∷ codes "RGC_STORE(&w->" ∷ name ∷ codes ", " ∷ value ∷ codes ");\n" ∷ [])
+
+-- a compare-and-exchange of a word for its local
+unfoldable pub exchange_line : List ℕ → List ℕ → List ℕ
+exchange_line indent name = joined (indent ∷ codes "rgc_done = RGC_CAS(&w->" ∷ name ∷ codes ", rgc_old, " ∷ name ∷ codes "_);\n" ∷ [])
+
+-- a plain write of a local to its word
+unfoldable pub return_line : List ℕ → List ℕ → List ℕ
+return_line indent name = joined (indent ∷ codes "w->" ∷ name ∷ codes " = " ∷ name ∷ codes "_;\n" ∷ [])
+
+-- a loop that waits until a test is true, with what stands before the test
+unfoldable pub wait_loop : List ℕ → List ℕ → List ℕ → List ℕ
+wait_loop indent prefix test = joined (indent ∷ codes "while (" ∷ prefix ∷ codes "!(" ∷ test ∷ codes ")) {\n" ∷ indent ∷ codes "    RGC_WAIT(w);\n" ∷ indent ∷ codes "}\n" ∷ [])
+
+-- the beginning of a block
+unfoldable pub block_open : List ℕ → List ℕ
+block_open indent = joined (indent ∷ codes "{\n" ∷ [])
+
+-- the end of a block
+unfoldable pub block_close : List ℕ → List ℕ
+block_close indent = joined (indent ∷ codes "}\n" ∷ [])
+
+-- the beginning of a loop that goes on until the step is made
+unfoldable pub attempt_open : List ℕ → List ℕ
+attempt_open indent = joined (indent ∷ codes "for (bool rgc_done = false; !rgc_done;) {\n" ∷ [])
+
+-- whether the step is made, and the beginning of what is done then
+unfoldable pub held_test : List ℕ → List ℕ → List ℕ
+held_test indent test = joined (indent ∷ codes "rgc_done = " ∷ test ∷ codes ";\n" ∷ indent ∷ codes "if (rgc_done) {\n" ∷ [])
+
+-- waiting where the step wasn't made
+unfoldable pub retry : List ℕ → List ℕ
+retry indent = joined (indent ∷ codes "if (!rgc_done) {\n" ∷ indent ∷ codes "    RGC_WAIT(w);\n" ∷ indent ∷ codes "}\n" ∷ [])
+
+-- the beginning of what is done where a test is true
+unfoldable pub if_open : List ℕ → List ℕ → List ℕ
+if_open indent test = joined (indent ∷ codes "if (" ∷ test ∷ codes ") {\n" ∷ [])
+
+-- the end of that, and the beginning of what is done else
+unfoldable pub else_line : List ℕ → List ℕ
+else_line indent = joined (indent ∷ codes "} else {\n" ∷ [])
+
+-- the end of that, and waiting else
+unfoldable pub else_wait : List ℕ → List ℕ
+else_wait indent = joined (indent ∷ codes "} else {\n" ∷ indent ∷ codes "    RGC_WAIT(w);\n" ∷ indent ∷ codes "}\n" ∷ [])
+
+-- the beginning of what is done where the exchange was made
+unfoldable pub done_open : List ℕ → List ℕ
+done_open indent = joined (indent ∷ codes "if (rgc_done) {\n" ∷ [])
+
+-- the beginning of a loop, with what stands before its test
+unfoldable pub while_open : List ℕ → List ℕ → List ℕ → List ℕ
+while_open indent prefix test = joined (indent ∷ codes "while (" ∷ prefix ∷ test ∷ codes ") {\n" ∷ [])
+
+-- the beginning of a loop without an end
+unfoldable pub forever_open : List ℕ → List ℕ
+forever_open indent = joined (indent ∷ codes "for (;;) {\n" ∷ [])
+
+-- the entry of a section
+unfoldable pub enter_line : List ℕ → List ℕ
+enter_line indent = joined (indent ∷ codes "RGC_ENTER(w);\n" ∷ [])
+
+-- the exit of a section
+unfoldable pub leave_line : List ℕ → List ℕ
+leave_line indent = joined (indent ∷ codes "RGC_LEAVE(w);\n" ∷ [])
+
+-- a local for a test, and the beginning of the block that works it out
+unfoldable pub go_open : List ℕ → List ℕ → List ℕ
+go_open indent place = joined (indent ∷ codes "bool rgc_go" ∷ place ∷ codes ";\n" ∷ indent ∷ codes "{\n" ∷ [])
+
+-- the test's value
+unfoldable pub go_line : List ℕ → List ℕ → List ℕ → List ℕ
+go_line indent place test = joined (indent ∷ codes "rgc_go" ∷ place ∷ codes " = " ∷ test ∷ codes ";\n" ∷ [])
+
+-- the end of a loop where the test was false
+unfoldable pub go_leave : List ℕ → List ℕ → List ℕ
+go_leave indent place = joined (indent ∷ codes "if (!rgc_go" ∷ place ∷ codes ") {\n" ∷ indent ∷ codes "    break;\n" ∷ indent ∷ codes "}\n" ∷ [])
+
+-- the beginning of what is done where the test was true
+unfoldable pub go_if : List ℕ → List ℕ → List ℕ
+go_if indent place = joined (indent ∷ codes "if (rgc_go" ∷ place ∷ codes ") {\n" ∷ [])
+
+-- the mark of a step
+unfoldable pub mark_line : List ℕ → List ℕ → List ℕ
+mark_line indent mark = joined (indent ∷ mark ∷ codes ";\n" ∷ [])
+
+-- the mark of a step: its part and its place in the listing of the code, each from 0
+unfoldable pub mark_call : List ℕ → List ℕ → List ℕ
+mark_call part place = joined (codes "RGC_AT(" ∷ part ∷ codes ", " ∷ place ∷ codes ")" ∷ [])
+
+-- a step in the program's own words, with its line
+unfoldable pub comment_line : List ℕ → List ℕ → List ℕ → List ℕ
+comment_line indent line statement = joined (indent ∷ codes "/* " ∷ line ∷ codes ": " ∷ statement ∷ codes " */\n" ∷ [])
+
+-- a hook for a step that changes nothing
+unfoldable pub skip_line : List ℕ → List ℕ → List ℕ
+skip_line indent line = joined (indent ∷ codes "RGC_SKIP(" ∷ line ∷ codes ");\n" ∷ [])
+
+-- a hook for waiting
+unfoldable pub wait_line : List ℕ → List ℕ
+wait_line indent = joined (indent ∷ codes "RGC_WAIT(w);\n" ∷ [])

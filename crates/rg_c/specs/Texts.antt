@@ -1,0 +1,35 @@
+-- The text of actions.
+use Rattle.std.specs.Prelude.{ℕ, List, [], codes, slice_index, slice_index_or, nat_le, if◌then◌else◌}
+use Rattle.std.specs.List.{flat_map}
+use Rattle.rg_words.specs.Layout.{Word, names_of, widths_of}
+use Rattle.rg_c_values.specs.declared.print.Read.{Read}
+use Rattle.rg_c_values.specs.CNames.{c_name}
+use Rattle.rg_c_values.specs.Printed.{value_text}
+use Rattle.rg_c.specs.Actions.{Action, loads, begins, copies, changes, writes, stores, exchanges, returns}
+use Rattle.rg_c.specs.Lines.{load_line, begin_lines, copy_line, change_line, write_line, store_line, exchange_line, return_line}
+
+-- the name of the k-th word in C
+unfoldable pub name_of : List Word → ℕ → List ℕ
+name_of words k = c_name (slice_index_or (names_of words) k [])
+
+-- the unsigned type of a word of w bits, and of the k-th word
+unfoldable pub type_text : ℕ → List ℕ
+type_text w = if nat_le w 8 then codes "uint8_t" else if nat_le w 16 then codes "uint16_t" else if nat_le w 32 then codes "uint32_t" else codes "uint64_t"
+
+abbrev pub type_of : List Word → ℕ → List ℕ
+type_of words k = type_text (slice_index (widths_of words) k)
+
+-- an action, after this indent, words read so
+abbrev pub action_text : List Word → List Read → List ℕ → Action → List ℕ
+action_text words reads i (loads k) = load_line i (type_of words k) (name_of words k)
+action_text words reads i (begins k) = begin_lines i (type_of words k) (name_of words k)
+action_text words reads i (copies k) = copy_line i (type_of words k) (name_of words k)
+action_text words reads i (changes k v) = change_line i (name_of words k) (value_text words reads v)
+action_text words reads i (writes k v) = write_line i (name_of words k) (value_text words reads v)
+action_text words reads i (stores k v) = store_line i (name_of words k) (value_text words reads v)
+action_text words reads i (exchanges k) = exchange_line i (name_of words k)
+action_text words reads i (returns k) = return_line i (name_of words k)
+
+-- actions, one after another
+abbrev pub actions_text : List Word → List Read → List ℕ → List Action → List ℕ
+actions_text words reads i actions = flat_map (action_text words reads i) actions

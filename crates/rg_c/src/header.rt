@@ -1,0 +1,415 @@
+//! A program as one header of C11.
+
+ghost use Rattle.std.specs.Prelude.{◌≡◌, ◌++◌, ◌+◌, ◌<◌, ◌^◌, [], codes, length, map, string_bytes, IfOk, OnOk};
+ghost use Rattle.std.specs.List.{list_any};
+ghost use Rattle.rg_tree.specs.Fits.{FormulaFits};
+ghost use Rattle.rg_tree.specs.View.{formula};
+ghost use Rattle.rg_tree.specs.ProgramView.{statement, specification, part as part_tree};
+ghost use Rattle.rg_tree.specs.ProgramTrees.{program as program_tree};
+ghost use Rattle.rg_code.specs.Code.{count_of};
+ghost use Rattle.rg_c_plan.specs.Ways.{kind_at, is_guarded};
+ghost use Rattle.rg_c.specs.Headers.{kind_before, kind_after, kind_what, field_text, fields_text, struct_text, kind_reads, promise_text, top_text, macros_text, asserted, run_text, one_round, all_rounds, round_text, is_always, body_text, part_text, parts_text, header_text};
+ghost use Rattle.rg_c.specs.Fitting.{StatementFits, SpecificationFits, PartsFit};
+ghost use Rattle.rg_c.specs.Pages.{page as page_tree};
+
+use crate::actions::{name_of, type_of};
+use crate::heads::{
+    push_assertion_text, push_atomics_text, push_field_line, push_guard_close, push_guard_open,
+    push_hooks_text, push_part_close, push_part_open, push_promise_line, push_rests_text,
+    push_round_call, push_round_open, push_sections_text, push_struct_close, push_struct_open,
+    push_top_open,
+};
+use crate::lines::push_block_close;
+use crate::page::{Page, digits};
+use crate::statements::{push_loop, push_statement};
+use crate::steps::test_text;
+use rg_c_plan::kind::Kind;
+use rg_c_values::print::Read;
+use rg_c_values::translate::test_in_c;
+use rg_tree::part::{Part, Spec};
+use rg_tree::print::print;
+use rg_tree::program::Program;
+use rg_tree::statement::Stmt;
+use rg_tree::tree::Formula;
+use rg_words::Layout;
+use std::alloc::{AllocError, Global};
+
+/// How a header is made.
+#[derive(Clone, Copy)]
+pub struct Options<'a> {
+    /// The name of the struct, and what the functions' names begin with.
+    pub name: &'a str,
+    /// Before each step stands `RGC_AT(part, block)`: the part's place and the block's in the listing of the code, each from 0. The
+    /// device has to define it.
+    pub is_traced: bool,
+}
+
+/// The kind of a word; one without a kind is plain.
+fn kind_at(kinds: &[Kind], word: usize) -> Kind
+    ensures { result ≡ kind_at kinds.now word }
+{
+    match kinds.get(word) {
+        Some(kind) => *kind,
+        None => Kind::Own,
+    }
+}
+
+fn kind_before(kind: Kind) -> &'static str
+    ensures { result.now ≡ kind_before kind }
+{
+    match kind {
+        Kind::Fixed => "const ",
+        Kind::Atomic => "RGC_ATOMIC(",
+        Kind::Own | Kind::Guarded => "",
+    }
+}
+
+fn kind_after(kind: Kind) -> &'static str
+    ensures { result.now ≡ kind_after kind }
+{
+    match kind {
+        Kind::Atomic => ")",
+        Kind::Fixed | Kind::Own | Kind::Guarded => "",
+    }
+}
+
+fn kind_what(kind: Kind) -> &'static str
+    ensures { result.now ≡ kind_what kind }
+{
+    match kind {
+        Kind::Fixed => "fixed",
+        Kind::Own => "no two meet at it",
+        Kind::Atomic => "atomic",
+        Kind::Guarded => "in critical sections alone",
+    }
+}
+
+/// Adds a word as a field.
+#[tactic(auto, unfolding(crate::specs::Headers::field_text))]
+fn push_field(
+    alloc: Global,
+    text: &mut String,
+    layout: &Layout,
+    kinds: &[Kind],
+    word: usize,
+) -> Result<(), AllocError>
+    requires { word < length layout.now }
+    ensures { OnOk result (string_bytes text.new ≡ string_bytes text.old ++ field_text layout.now kinds.now word) }
+{
+    let kind = kind_at(kinds, word);
+    let name = name_of(alloc, layout, word)?;
+    let width = digits(alloc, u64::from(layout.width(word)))?;
+    push_field_line(
+        text,
+        kind_before(kind),
+        type_of(layout, word),
+        kind_after(kind),
+        &name,
+        &width,
+        kind_what(kind),
+    )
+}
+
+/// Adds the struct of the words.
+#[tactic(auto, unfolding(crate::specs::Headers::struct_text))]
+fn push_struct(
+    alloc: Global,
+    text: &mut String,
+    name: &str,
+    layout: &Layout,
+    kinds: &[Kind],
+) -> Result<(), AllocError>
+    ensures { OnOk result (string_bytes text.new ≡ string_bytes text.old ++ struct_text name.now layout.now kinds.now) }
+{
+    push_struct_open(text, name)?;
+    push_fields(alloc, text, layout, kinds)?;
+    push_struct_close(text)
+}
+
+/// Adds the words as fields.
+fn push_fields(
+    alloc: Global,
+    text: &mut String,
+    layout: &Layout,
+    kinds: &[Kind],
+) -> Result<(), AllocError>
+    ensures { OnOk result (string_bytes text.new ≡ string_bytes text.old ++ fields_text layout.now kinds.now 0 (length layout.now)) }
+{
+    for word in 0..layout.len() {
+        push_field(alloc, text, layout, kinds, word)?;
+    }
+    Ok(())
+}
+
+/// How words are read outside of steps.
+fn kind_reads(alloc: Global, kinds: &[Kind]) -> Result<Vec<Read>, AllocError>
+    ensures { IfOk result (λ reads. reads.items ≡ kind_reads kinds.now) }
+{
+    let mut reads = Vec::new(alloc);
+    for kind in kinds {
+        reads.push(match kind {
+            Kind::Atomic => Read::Load,
+            Kind::Fixed | Kind::Own | Kind::Guarded => Read::Plain,
+        })?;
+    }
+    Ok(reads)
+}
+
+/// Adds a formula that is promised.
+#[tactic(auto, unfolding(crate::specs::Headers::promise_text))]
+fn push_promise(
+    alloc: Global,
+    text: &mut String,
+    layout: &Layout,
+    what: &str,
+    f: &Formula,
+) -> Result<(), AllocError>
+    requires { FormulaFits (formula f.now) (length layout.now) }
+    ensures { OnOk result (string_bytes text.new ≡ string_bytes text.old ++ promise_text layout.now what.now (formula f.now)) }
+{
+    let promised = print(alloc, layout, f)?;
+    push_promise_line(text, what, &promised)
+}
+
+/// Adds the comment at the top.
+#[tactic(auto, unfolding(crate::specs::Headers::top_text))]
+fn push_top(
+    alloc: Global,
+    text: &mut String,
+    name: &str,
+    layout: &Layout,
+    spec: &Spec,
+) -> Result<(), AllocError>
+    requires { SpecificationFits (length layout.now) (specification spec.now) }
+    ensures { OnOk result (string_bytes text.new ≡ string_bytes text.old ++ top_text name.now layout.now (specification spec.now)) }
+{
+    push_top_open(text, name)?;
+    push_promise(alloc, text, layout, "pre", &spec.pre)?;
+    push_promise(alloc, text, layout, "rely", &spec.rely)?;
+    push_promise(alloc, text, layout, "guar", &spec.guar)?;
+    push_promise(alloc, text, layout, "post", &spec.post)?;
+    push_rests_text(text)
+}
+
+/// Whether a word is touched in sections.
+fn is_guarded(kinds: &[Kind]) -> bool
+    ensures { result ≡ list_any is_guarded kinds.now }
+{
+    kinds.iter().any(|kind| matches!(kind, Kind::Guarded))
+}
+
+/// Adds what stands before the struct.
+#[tactic(auto, unfolding(crate::specs::Headers::macros_text))]
+fn push_macros(text: &mut String, name: &str, kinds: &[Kind]) -> Result<(), AllocError>
+    ensures { OnOk result (string_bytes text.new ≡ string_bytes text.old ++ macros_text name.now kinds.now) }
+{
+    push_guard_open(text, name)?;
+    push_atomics_text(text)?;
+    push_hooks_text(text)?;
+    if is_guarded(kinds) {
+        push_sections_text(text)?;
+    }
+    Ok(())
+}
+
+/// Adds a function that tells whether a formula holds.
+#[tactic(auto, unfolding(crate::specs::Headers::asserted))]
+fn push_asserted(
+    page: &Page<'_>,
+    text: &mut String,
+    name: &str,
+    what: &str,
+    f: &Formula,
+) -> Result<(), AllocError>
+    requires { FormulaFits (formula f.now) (length page.now.layout.now) }
+    ensures { OnOk result (string_bytes text.new ≡ string_bytes text.old ++ asserted name.now what.now page.now.layout.now page.now.kinds.now (formula f.now)) }
+{
+    let reads = kind_reads(page.alloc, page.kinds)?;
+    let t = test_in_c(page.alloc, page.layout, f)?;
+    let asked = test_text(page.alloc, page.layout, &reads, &t)?;
+    push_assertion_text(text, name, what, &asked)
+}
+
+/// What the functions of a part are named after.
+#[derive(Clone, Copy)]
+struct Titles<'a> {
+    name: &'a str,
+    part: &'a str,
+}
+
+/// Adds a part from its beginning to its end.
+#[tactic(auto, unfolding(crate::specs::Headers::run_text))]
+fn push_run(
+    page: &Page<'_>,
+    text: &mut String,
+    titles: &Titles<'_>,
+    body: &Stmt,
+) -> Result<(), AllocError>
+    requires fits { StatementFits (length page.now.layout.now) (statement body.now) }
+    requires room { count_of (statement body.now) < 2 ^ 64 }
+    ensures { OnOk result (string_bytes text.new ≡ string_bytes text.old ++ run_text titles.now.name.now titles.now.part.now (page_tree page.now) (statement body.now)) }
+{
+    push_part_open(text, titles.name, titles.part)?;
+    push_statement(page, text, "    ", 0, body)?;
+    push_part_close(text)
+}
+
+/// Adds one round of a part that goes round without an end.
+#[tactic(auto, unfolding(crate::specs::Headers::one_round))]
+fn push_one_round(
+    page: &Page<'_>,
+    text: &mut String,
+    titles: &Titles<'_>,
+    body: &Stmt,
+) -> Result<(), AllocError>
+    requires fits { StatementFits (length page.now.layout.now) (statement body.now) }
+    requires room { 1 + count_of (statement body.now) < 2 ^ 64 }
+    ensures { OnOk result (string_bytes text.new ≡ string_bytes text.old ++ one_round titles.now.name.now titles.now.part.now (page_tree page.now) (statement body.now)) }
+{
+    push_round_open(text, titles.name, titles.part)?;
+    push_statement(page, text, "    ", 1, body)?;
+    push_part_close(text)
+}
+
+/// Adds such a part, which calls its round again and again.
+#[tactic(auto, unfolding(crate::specs::Headers::all_rounds))]
+fn push_all_rounds(
+    page: &Page<'_>,
+    text: &mut String,
+    titles: &Titles<'_>,
+    line: u32,
+    f: &Formula,
+) -> Result<(), AllocError>
+    requires { FormulaFits (formula f.now) (length page.now.layout.now) }
+    ensures { OnOk result (string_bytes text.new ≡ string_bytes text.old ++ all_rounds titles.now.name.now titles.now.part.now (page_tree page.now) line (formula f.now)) }
+{
+    push_part_open(text, titles.name, titles.part)?;
+    push_loop(page, text, "    ", 0, line, f)?;
+    push_round_call(text, titles.name, titles.part)?;
+    push_block_close(text, "    ")?;
+    push_part_close(text)
+}
+
+/// Adds one round of a part that goes round without an end, and the part.
+#[tactic(auto, unfolding(crate::specs::Headers::round_text))]
+fn push_round(
+    page: &Page<'_>,
+    text: &mut String,
+    titles: &Titles<'_>,
+    line: u32,
+    f: &Formula,
+    body: &Stmt,
+) -> Result<(), AllocError>
+    requires guard { FormulaFits (formula f.now) (length page.now.layout.now) }
+    requires fits { StatementFits (length page.now.layout.now) (statement body.now) }
+    requires room { 1 + count_of (statement body.now) < 2 ^ 64 }
+    ensures { OnOk result (string_bytes text.new ≡ string_bytes text.old ++ round_text titles.now.name.now titles.now.part.now (page_tree page.now) line (formula f.now) (statement body.now)) }
+{
+    push_one_round(page, text, titles, body)?;
+    push_all_rounds(page, text, titles, line, f)
+}
+
+/// Whether a formula is the constant true.
+fn is_always(f: &Formula) -> bool
+    ensures { result ≡ is_always (formula f.now) }
+{
+    match f {
+        Formula::Truth(b) => *b,
+        _ => false,
+    }
+}
+
+/// Adds the functions of a part with this body.
+fn push_body(
+    page: &Page<'_>,
+    text: &mut String,
+    titles: &Titles<'_>,
+    body: &Stmt,
+) -> Result<(), AllocError>
+    requires fits { StatementFits (length page.now.layout.now) (statement body.now) }
+    requires room { count_of (statement body.now) < 2 ^ 64 }
+    ensures { OnOk result (string_bytes text.new ≡ string_bytes text.old ++ body_text titles.now.name.now titles.now.part.now (page_tree page.now) (statement body.now)) }
+{
+    match body {
+        Stmt::While(line, f, inside) => {
+            if is_always(f) {
+                push_round(page, text, titles, *line, f, inside)
+            } else {
+                push_run(page, text, titles, body)
+            }
+        }
+        _ => push_run(page, text, titles, body),
+    }
+}
+
+/// Adds a part.
+#[tactic(auto, unfolding(crate::specs::Headers::part_text))]
+fn push_part(page: &Page<'_>, text: &mut String, name: &str, part: &Part) -> Result<(), AllocError>
+    requires fits { StatementFits (length page.now.layout.now) (statement part.now.body) }
+    requires room { count_of (statement part.now.body) < 2 ^ 64 }
+    ensures { OnOk result (string_bytes text.new ≡ string_bytes text.old ++ part_text name.now (page_tree page.now) (part_tree part.now)) }
+{
+    let titles = Titles {
+        name,
+        part: part.name.as_str(),
+    };
+    push_body(page, text, &titles, &part.body)
+}
+
+/// Adds parts.
+fn push_parts(
+    alloc: Global,
+    text: &mut String,
+    layout: &Layout,
+    kinds: &[Kind],
+    options: &Options<'_>,
+    parts: &[Part],
+) -> Result<(), AllocError>
+    requires { PartsFit (length layout.now) (map part_tree parts.now) }
+    ensures { OnOk result (string_bytes text.new ≡ string_bytes text.old ++ parts_text options.now.name.now layout.now kinds.now options.now.is_traced 0 (map part_tree parts.now)) }
+{
+    let mut place = 0;
+    for part in parts {
+        let page = Page {
+            alloc,
+            layout,
+            kinds,
+            part: place,
+            is_traced: options.is_traced,
+        };
+        push_part(&page, text, options.name, part)?;
+        place += 1;
+    }
+    Ok(())
+}
+
+/// A program as one header of C11, with these kinds of words.
+///
+/// An error comes only where memory was refused.
+pub fn header(
+    alloc: Global,
+    program: &Program,
+    kinds: &[Kind],
+    options: &Options<'_>,
+) -> Result<String, AllocError>
+    ensures { IfOk result (λ text. string_bytes text ≡ header_text options.now.name.now options.now.is_traced kinds.now (program_tree program.now)) }
+{
+    let layout = &program.layout;
+    layout.facts();
+    let mut text = String::new(alloc);
+    let page = Page {
+        alloc,
+        layout,
+        kinds,
+        part: 0,
+        is_traced: options.is_traced,
+    };
+    push_top(alloc, &mut text, options.name, layout, &program.spec)?;
+    push_macros(&mut text, options.name, kinds)?;
+    push_struct(alloc, &mut text, options.name, layout, kinds)?;
+    push_asserted(&page, &mut text, options.name, "pre", &program.spec.pre)?;
+    push_asserted(&page, &mut text, options.name, "post", &program.spec.post)?;
+    push_parts(alloc, &mut text, layout, kinds, options, &program.parts)?;
+    push_guard_close(&mut text)?;
+    Ok(text)
+}

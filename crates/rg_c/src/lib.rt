@@ -1,0 +1,15 @@
+//! A program as one C11 header.
+#![tactic(auto)]
+
+mod actions;
+pub mod header;
+mod heads;
+pub mod laws;
+mod lines;
+mod moves;
+mod page;
+mod reads;
+mod source;
+mod statements;
+mod steps;
+mod tests;

@@ -1,0 +1,428 @@
+//! The lines of which functions of C are made.
+
+ghost use Rattle.std.specs.Prelude.{◌≡◌, ◌++◌, string_bytes, IfOk, OnOk};
+ghost use Rattle.std.specs.List.{flat_map};
+ghost use Rattle.rg_c.specs.Lines.{inner, load_line, begin_lines, copy_line, change_line, write_line, store_line, exchange_line, return_line, wait_loop, block_open, block_close, attempt_open, held_test, retry, if_open, else_line, else_wait, done_open, while_open, forever_open, enter_line, leave_line, go_open, go_line, go_leave, go_if, mark_line, mark_call, comment_line, skip_line, wait_line};
+
+use std::alloc::{AllocError, Global};
+
+/// Adds texts, one after another.
+pub(crate) fn push_all(text: &mut String, pieces: &[&str]) -> Result<(), AllocError>
+    ensures { OnOk result (string_bytes text.new ≡ string_bytes text.old ++ flat_map (λ t. t.now) pieces.now) }
+{
+    for piece in pieces {
+        text.push_str(piece)?;
+    }
+    Ok(())
+}
+
+/// The indent of what stands inside.
+#[tactic(auto, unfolding(crate::specs::Lines::inner))]
+pub(crate) fn inner(alloc: Global, indent: &str) -> Result<String, AllocError>
+    ensures { IfOk result (λ text. string_bytes text ≡ inner indent.now) }
+{
+    let mut text = String::from_str(alloc, indent)?;
+    text.push_str("    ")?;
+    Ok(text)
+}
+
+/// Adds an atomic load of a word into a local.
+#[tactic(auto, unfolding(crate::specs::Lines::load_line))]
+pub(crate) fn push_load_line(
+    text: &mut String,
+    indent: &str,
+    kind: &str,
+    name: &str,
+) -> Result<(), AllocError>
+    ensures { OnOk result (string_bytes text.new ≡ string_bytes text.old ++ load_line indent.now kind.now name.now) }
+{
+    push_all(
+        text,
+        &[
+            indent,
+            "const ",
+            kind,
+            " ",
+            name,
+            "_ = RGC_LOAD(&w->",
+            name,
+            ");\n",
+        ],
+    )
+}
+
+/// Adds an atomic load of a word that is to be exchanged, and its local.
+#[tactic(auto, unfolding(crate::specs::Lines::begin_lines))]
+pub(crate) fn push_begin_lines(
+    text: &mut String,
+    indent: &str,
+    kind: &str,
+    name: &str,
+) -> Result<(), AllocError>
+    ensures { OnOk result (string_bytes text.new ≡ string_bytes text.old ++ begin_lines indent.now kind.now name.now) }
+{
+    push_all(
+        text,
+        &[
+            indent,
+            kind,
+            " rgc_old = RGC_LOAD(&w->",
+            name,
+            ");\n",
+            indent,
+            kind,
+            " ",
+            name,
+            "_ = rgc_old;\n",
+        ],
+    )
+}
+
+/// Adds a local with the value of a word.
+#[tactic(auto, unfolding(crate::specs::Lines::copy_line))]
+pub(crate) fn push_copy_line(
+    text: &mut String,
+    indent: &str,
+    kind: &str,
+    name: &str,
+) -> Result<(), AllocError>
+    ensures { OnOk result (string_bytes text.new ≡ string_bytes text.old ++ copy_line indent.now kind.now name.now) }
+{
+    push_all(text, &[indent, kind, " ", name, "_ = w->", name, ";\n"])
+}
+
+/// Adds another value for a local.
+#[tactic(auto, unfolding(crate::specs::Lines::change_line))]
+pub(crate) fn push_change_line(
+    text: &mut String,
+    indent: &str,
+    name: &str,
+    value: &str,
+) -> Result<(), AllocError>
+    ensures { OnOk result (string_bytes text.new ≡ string_bytes text.old ++ change_line indent.now name.now value.now) }
+{
+    push_all(text, &[indent, name, "_ = ", value, ";\n"])
+}
+
+/// Adds a plain write.
+#[tactic(auto, unfolding(crate::specs::Lines::write_line))]
+pub(crate) fn push_write_line(
+    text: &mut String,
+    indent: &str,
+    name: &str,
+    value: &str,
+) -> Result<(), AllocError>
+    ensures { OnOk result (string_bytes text.new ≡ string_bytes text.old ++ write_line indent.now name.now value.now) }
+{
+    push_all(text, &[indent, "w->", name, " = ", value, ";\n"])
+}
+
+/// Adds an atomic store.
+#[tactic(auto, unfolding(crate::specs::Lines::store_line))]
+pub(crate) fn push_store_line(
+    text: &mut String,
+    indent: &str,
+    name: &str,
+    value: &str,
+) -> Result<(), AllocError>
+    ensures { OnOk result (string_bytes text.new ≡ string_bytes text.old ++ store_line indent.now name.now value.now) }
+{
+    push_all(text, &[indent, "RGC_STORE(&w->", name, ", ", value, ");\n"])
+}
+
+/// Adds a compare-and-exchange of a word for its local.
+#[tactic(auto, unfolding(crate::specs::Lines::exchange_line))]
+pub(crate) fn push_exchange_line(
+    text: &mut String,
+    indent: &str,
+    name: &str,
+) -> Result<(), AllocError>
+    ensures { OnOk result (string_bytes text.new ≡ string_bytes text.old ++ exchange_line indent.now name.now) }
+{
+    push_all(
+        text,
+        &[
+            indent,
+            "rgc_done = RGC_CAS(&w->",
+            name,
+            ", rgc_old, ",
+            name,
+            "_);\n",
+        ],
+    )
+}
+
+/// Adds a plain write of a local to its word.
+#[tactic(auto, unfolding(crate::specs::Lines::return_line))]
+pub(crate) fn push_return_line(
+    text: &mut String,
+    indent: &str,
+    name: &str,
+) -> Result<(), AllocError>
+    ensures { OnOk result (string_bytes text.new ≡ string_bytes text.old ++ return_line indent.now name.now) }
+{
+    push_all(text, &[indent, "w->", name, " = ", name, "_;\n"])
+}
+
+/// Adds a loop that waits until a test is true, with what stands before the test.
+#[tactic(auto, unfolding(crate::specs::Lines::wait_loop))]
+pub(crate) fn push_wait_loop(
+    text: &mut String,
+    indent: &str,
+    prefix: &str,
+    test: &str,
+) -> Result<(), AllocError>
+    ensures { OnOk result (string_bytes text.new ≡ string_bytes text.old ++ wait_loop indent.now prefix.now test.now) }
+{
+    push_all(
+        text,
+        &[
+            indent,
+            "while (",
+            prefix,
+            "!(",
+            test,
+            ")) {\n",
+            indent,
+            "    RGC_WAIT(w);\n",
+            indent,
+            "}\n",
+        ],
+    )
+}
+
+/// Adds the beginning of a block.
+#[tactic(auto, unfolding(crate::specs::Lines::block_open))]
+pub(crate) fn push_block_open(text: &mut String, indent: &str) -> Result<(), AllocError>
+    ensures { OnOk result (string_bytes text.new ≡ string_bytes text.old ++ block_open indent.now) }
+{
+    push_all(text, &[indent, "{\n"])
+}
+
+/// Adds the end of a block.
+#[tactic(auto, unfolding(crate::specs::Lines::block_close))]
+pub(crate) fn push_block_close(text: &mut String, indent: &str) -> Result<(), AllocError>
+    ensures { OnOk result (string_bytes text.new ≡ string_bytes text.old ++ block_close indent.now) }
+{
+    push_all(text, &[indent, "}\n"])
+}
+
+/// Adds the beginning of a loop that goes on until the step is made.
+#[tactic(auto, unfolding(crate::specs::Lines::attempt_open))]
+pub(crate) fn push_attempt_open(text: &mut String, indent: &str) -> Result<(), AllocError>
+    ensures { OnOk result (string_bytes text.new ≡ string_bytes text.old ++ attempt_open indent.now) }
+{
+    push_all(
+        text,
+        &[indent, "for (bool rgc_done = false; !rgc_done;) {\n"],
+    )
+}
+
+/// Adds whether the step is made, and the beginning of what is done then.
+#[tactic(auto, unfolding(crate::specs::Lines::held_test))]
+pub(crate) fn push_held_test(text: &mut String, indent: &str, test: &str) -> Result<(), AllocError>
+    ensures { OnOk result (string_bytes text.new ≡ string_bytes text.old ++ held_test indent.now test.now) }
+{
+    push_all(
+        text,
+        &[
+            indent,
+            "rgc_done = ",
+            test,
+            ";\n",
+            indent,
+            "if (rgc_done) {\n",
+        ],
+    )
+}
+
+/// Adds waiting where the step wasn't made.
+#[tactic(auto, unfolding(crate::specs::Lines::retry))]
+pub(crate) fn push_retry(text: &mut String, indent: &str) -> Result<(), AllocError>
+    ensures { OnOk result (string_bytes text.new ≡ string_bytes text.old ++ retry indent.now) }
+{
+    push_all(
+        text,
+        &[
+            indent,
+            "if (!rgc_done) {\n",
+            indent,
+            "    RGC_WAIT(w);\n",
+            indent,
+            "}\n",
+        ],
+    )
+}
+
+/// Adds the beginning of what is done where a test is true.
+#[tactic(auto, unfolding(crate::specs::Lines::if_open))]
+pub(crate) fn push_if_open(text: &mut String, indent: &str, test: &str) -> Result<(), AllocError>
+    ensures { OnOk result (string_bytes text.new ≡ string_bytes text.old ++ if_open indent.now test.now) }
+{
+    push_all(text, &[indent, "if (", test, ") {\n"])
+}
+
+/// Adds the end of that, and the beginning of what is done else.
+#[tactic(auto, unfolding(crate::specs::Lines::else_line))]
+pub(crate) fn push_else_line(text: &mut String, indent: &str) -> Result<(), AllocError>
+    ensures { OnOk result (string_bytes text.new ≡ string_bytes text.old ++ else_line indent.now) }
+{
+    push_all(text, &[indent, "} else {\n"])
+}
+
+/// Adds the end of that, and waiting else.
+#[tactic(auto, unfolding(crate::specs::Lines::else_wait))]
+pub(crate) fn push_else_wait(text: &mut String, indent: &str) -> Result<(), AllocError>
+    ensures { OnOk result (string_bytes text.new ≡ string_bytes text.old ++ else_wait indent.now) }
+{
+    push_all(
+        text,
+        &[
+            indent,
+            "} else {\n",
+            indent,
+            "    RGC_WAIT(w);\n",
+            indent,
+            "}\n",
+        ],
+    )
+}
+
+/// Adds the beginning of what is done where the exchange was made.
+#[tactic(auto, unfolding(crate::specs::Lines::done_open))]
+pub(crate) fn push_done_open(text: &mut String, indent: &str) -> Result<(), AllocError>
+    ensures { OnOk result (string_bytes text.new ≡ string_bytes text.old ++ done_open indent.now) }
+{
+    push_all(text, &[indent, "if (rgc_done) {\n"])
+}
+
+/// Adds the beginning of a loop, with what stands before its test.
+#[tactic(auto, unfolding(crate::specs::Lines::while_open))]
+pub(crate) fn push_while_open(
+    text: &mut String,
+    indent: &str,
+    prefix: &str,
+    test: &str,
+) -> Result<(), AllocError>
+    ensures { OnOk result (string_bytes text.new ≡ string_bytes text.old ++ while_open indent.now prefix.now test.now) }
+{
+    push_all(text, &[indent, "while (", prefix, test, ") {\n"])
+}
+
+/// Adds the beginning of a loop without an end.
+#[tactic(auto, unfolding(crate::specs::Lines::forever_open))]
+pub(crate) fn push_forever_open(text: &mut String, indent: &str) -> Result<(), AllocError>
+    ensures { OnOk result (string_bytes text.new ≡ string_bytes text.old ++ forever_open indent.now) }
+{
+    push_all(text, &[indent, "for (;;) {\n"])
+}
+
+/// Adds the entry of a section.
+#[tactic(auto, unfolding(crate::specs::Lines::enter_line))]
+pub(crate) fn push_enter_line(text: &mut String, indent: &str) -> Result<(), AllocError>
+    ensures { OnOk result (string_bytes text.new ≡ string_bytes text.old ++ enter_line indent.now) }
+{
+    push_all(text, &[indent, "RGC_ENTER(w);\n"])
+}
+
+/// Adds the exit of a section.
+#[tactic(auto, unfolding(crate::specs::Lines::leave_line))]
+pub(crate) fn push_leave_line(text: &mut String, indent: &str) -> Result<(), AllocError>
+    ensures { OnOk result (string_bytes text.new ≡ string_bytes text.old ++ leave_line indent.now) }
+{
+    push_all(text, &[indent, "RGC_LEAVE(w);\n"])
+}
+
+/// Adds a local for a test, and the beginning of the block that works it out.
+#[tactic(auto, unfolding(crate::specs::Lines::go_open))]
+pub(crate) fn push_go_open(text: &mut String, indent: &str, place: &str) -> Result<(), AllocError>
+    ensures { OnOk result (string_bytes text.new ≡ string_bytes text.old ++ go_open indent.now place.now) }
+{
+    push_all(text, &[indent, "bool rgc_go", place, ";\n", indent, "{\n"])
+}
+
+/// Adds the test's value.
+#[tactic(auto, unfolding(crate::specs::Lines::go_line))]
+pub(crate) fn push_go_line(
+    text: &mut String,
+    indent: &str,
+    place: &str,
+    test: &str,
+) -> Result<(), AllocError>
+    ensures { OnOk result (string_bytes text.new ≡ string_bytes text.old ++ go_line indent.now place.now test.now) }
+{
+    push_all(text, &[indent, "rgc_go", place, " = ", test, ";\n"])
+}
+
+/// Adds the end of a loop where the test was false.
+#[tactic(auto, unfolding(crate::specs::Lines::go_leave))]
+pub(crate) fn push_go_leave(text: &mut String, indent: &str, place: &str) -> Result<(), AllocError>
+    ensures { OnOk result (string_bytes text.new ≡ string_bytes text.old ++ go_leave indent.now place.now) }
+{
+    push_all(
+        text,
+        &[
+            indent,
+            "if (!rgc_go",
+            place,
+            ") {\n",
+            indent,
+            "    break;\n",
+            indent,
+            "}\n",
+        ],
+    )
+}
+
+/// Adds the beginning of what is done where the test was true.
+#[tactic(auto, unfolding(crate::specs::Lines::go_if))]
+pub(crate) fn push_go_if(text: &mut String, indent: &str, place: &str) -> Result<(), AllocError>
+    ensures { OnOk result (string_bytes text.new ≡ string_bytes text.old ++ go_if indent.now place.now) }
+{
+    push_all(text, &[indent, "if (rgc_go", place, ") {\n"])
+}
+
+/// Adds the mark of a step.
+#[tactic(auto, unfolding(crate::specs::Lines::mark_line))]
+pub(crate) fn push_mark_line(text: &mut String, indent: &str, mark: &str) -> Result<(), AllocError>
+    ensures { OnOk result (string_bytes text.new ≡ string_bytes text.old ++ mark_line indent.now mark.now) }
+{
+    push_all(text, &[indent, mark, ";\n"])
+}
+
+/// Adds the mark of a step: its part and its place in the listing of the code, each from 0.
+#[tactic(auto, unfolding(crate::specs::Lines::mark_call))]
+pub(crate) fn push_mark_call(text: &mut String, part: &str, place: &str) -> Result<(), AllocError>
+    ensures { OnOk result (string_bytes text.new ≡ string_bytes text.old ++ mark_call part.now place.now) }
+{
+    push_all(text, &["RGC_AT(", part, ", ", place, ")"])
+}
+
+/// Adds a step in the program's own words, with its line.
+#[tactic(auto, unfolding(crate::specs::Lines::comment_line))]
+pub(crate) fn push_comment_line(
+    text: &mut String,
+    indent: &str,
+    line: &str,
+    statement: &str,
+) -> Result<(), AllocError>
+    ensures { OnOk result (string_bytes text.new ≡ string_bytes text.old ++ comment_line indent.now line.now statement.now) }
+{
+    push_all(text, &[indent, "/* ", line, ": ", statement, " */\n"])
+}
+
+/// Adds a hook for a step that changes nothing.
+#[tactic(auto, unfolding(crate::specs::Lines::skip_line))]
+pub(crate) fn push_skip_line(text: &mut String, indent: &str, line: &str) -> Result<(), AllocError>
+    ensures { OnOk result (string_bytes text.new ≡ string_bytes text.old ++ skip_line indent.now line.now) }
+{
+    push_all(text, &[indent, "RGC_SKIP(", line, ");\n"])
+}
+
+/// Adds a hook for waiting.
+#[tactic(auto, unfolding(crate::specs::Lines::wait_line))]
+pub(crate) fn push_wait_line(text: &mut String, indent: &str) -> Result<(), AllocError>
+    ensures { OnOk result (string_bytes text.new ≡ string_bytes text.old ++ wait_line indent.now) }
+{
+    push_all(text, &[indent, "RGC_WAIT(w);\n"])
+}

@@ -1,0 +1,132 @@
+//! What a step assigns, and the words that it keeps in locals.
+
+ghost use Rattle.std.specs.Prelude.{◌≡◌, ◌∷◌, ◌++◌, [], length, map, slice_set, IfOk};
+ghost use Rattle.std.specs.Option.{option_map_or};
+ghost use Rattle.rg_words.specs.Layout.{widths_of};
+ghost use Rattle.rg_tree.specs.Fits.{FormulaFits};
+ghost use Rattle.rg_tree.specs.View.{expression, formula};
+ghost use Rattle.rg_tree.specs.ConditionTrees.{assignment};
+ghost use Rattle.rg_c_plan.specs.View.{guard_tree};
+ghost use Rattle.rg_c_values.specs.View.{test};
+ghost use Rattle.rg_c_values.specs.declared.print.Read.TheVariants.{Local};
+ghost use Rattle.rg_c.specs.Steps.{is_word, is_in, moving, targets_beside, test_of};
+ghost use Rattle.rg_c.specs.StepTexts.{local_reads};
+ghost use Rattle.rg_c.specs.Fitting.{GuardFits};
+
+use rg_c_values::print::Read;
+use rg_c_values::translate::test_in_c;
+use rg_c_values::tree::Test;
+use rg_tree::condition::Assign;
+use rg_tree::copy::copy_expr;
+use rg_tree::tree::{Expr, Formula};
+use rg_words::Layout;
+use std::alloc::{AllocError, Global};
+
+/// Whether an expression is this word itself.
+fn is_word(word: usize, e: &Expr) -> bool
+    ensures { result ≡ is_word word (expression e.now) }
+{
+    match e {
+        Expr::Word(k) => word == *k,
+        _ => false,
+    }
+}
+
+/// An equal assignment.
+fn copy_assignment(alloc: Global, a: &Assign) -> Result<Assign, AllocError>
+    ensures { IfOk result (λ b. assignment b ≡ assignment a.now) }
+{
+    let value = copy_expr(alloc, &a.value)?;
+    Ok(Assign {
+        word: a.word,
+        value,
+    })
+}
+
+/// The assignments without those of a word to itself.
+pub(crate) fn moving(alloc: Global, act: &[Assign]) -> Result<Vec<Assign>, AllocError>
+    ensures { IfOk result (λ list. map assignment list.items ≡ moving (map assignment act.now)) }
+{
+    let mut list = Vec::new(alloc);
+    for a in act {
+        if !is_word(a.word, &a.value) {
+            list.push(copy_assignment(alloc, a)?)?;
+        }
+    }
+    Ok(list)
+}
+
+/// Whether a number is in a list.
+fn is_in(k: usize, list: &[usize]) -> bool
+    ensures { result ≡ is_in k list.now }
+{
+    for x in list {
+        if k == *x {
+            return true;
+        }
+    }
+    false
+}
+
+/// The targets beside this word, each once.
+pub(crate) fn targets_beside(
+    alloc: Global,
+    word: usize,
+    act: &[Assign],
+) -> Result<Vec<usize>, AllocError>
+    ensures { IfOk result (λ list. list.items ≡ targets_beside (word ∷ []) (map assignment act.now)) }
+{
+    let mut known = Vec::new(alloc);
+    known.push(word)?;
+    let mut list = Vec::new(alloc);
+    for a in act {
+        if !is_in(a.word, &known) {
+            known.insert(0, a.word)?;
+            list.push(a.word)?;
+        }
+    }
+    Ok(list)
+}
+
+/// How words are read where the first word, if there is one, and the others have locals.
+pub(crate) fn local_reads(
+    alloc: Global,
+    layout: &Layout,
+    first: Option<usize>,
+    others: &[usize],
+) -> Result<Vec<Read>, AllocError>
+    ensures { IfOk result (λ reads. reads.items ≡ local_reads layout.now (option_map_or (λ k. k ∷ []) first [] ++ others.now)) }
+{
+    let mut reads = vec![in alloc; Read::Plain; layout.len()]?;
+    if let Some(word) = first {
+        set_local(&mut reads, word);
+    }
+    for word in others {
+        set_local(&mut reads, *word);
+    }
+    Ok(reads)
+}
+
+/// A word is read from its local.
+fn set_local(reads: &mut [Read], word: usize)
+    ensures { reads.new ≡ slice_set reads.old word Local }
+{
+    if word < reads.len() {
+        reads[word] = Read::Local;
+    }
+}
+
+/// The test of a guard; true where there is none.
+pub(crate) fn test_of(
+    alloc: Global,
+    layout: &Layout,
+    guard: Option<&Formula>,
+) -> Result<Test, AllocError>
+    requires { GuardFits (length layout.now) (guard_tree guard) }
+    ensures { IfOk result (λ t. test t ≡ test_of (widths_of layout.now) (guard_tree guard.entry)) }
+{
+    match guard {
+        None => Ok(Test::Truth(true)),
+        Some(f) => test_in_c(alloc, layout, f),
+    }
+}

@@ -1,0 +1,367 @@
+//! The text of steps.
+
+ghost use Rattle.std.specs.Prelude.{◌≡◌, ◌++◌, [], ◌∷◌, length, map, string_bytes, IfOk, OnOk};
+ghost use Rattle.rg_words.specs.Layout.{widths_of};
+ghost use Rattle.rg_tree.specs.ConditionTrees.{assignment};
+ghost use Rattle.rg_c_values.specs.View.{test};
+ghost use Rattle.rg_c_values.specs.Printed.{test_text};
+ghost use Rattle.rg_c_plan.specs.declared.way.Way.TheVariants.{Exchange};
+ghost use Rattle.rg_c.specs.Actions.{begins, copies, returns, exchanges};
+ghost use Rattle.rg_c.specs.Steps.{written, written_or_stored, changed, exchange_step};
+ghost use Rattle.rg_c.specs.Fitting.{AssignmentsFit};
+ghost use Rattle.rg_c.specs.StepTexts.{is_true, marked, mark_prefix, waits, enter_text, leave_text, held_free, held_begins, held_ends, held_tested, held_text, loaded_wait, loaded_text, after_text, changed_text, tried_text, before_text, exchange_text, done_text};
+
+use crate::actions::{
+    push_begin, push_changes, push_copies, push_exchange, push_load, push_returns, push_writes,
+    push_writes_or_stores,
+};
+use crate::lines::{
+    inner, push_attempt_open, push_block_close, push_block_open, push_done_open, push_else_wait,
+    push_enter_line, push_held_test, push_if_open, push_leave_line, push_mark_line, push_retry,
+    push_wait_loop,
+};
+use crate::moves::{local_reads, targets_beside};
+use crate::reads::{is_one_load, load_reads};
+use rg_c_plan::way::Way;
+use rg_c_values::print::{Read, print_test};
+use rg_c_values::tree::Test;
+use rg_tree::condition::Assign;
+use rg_words::Layout;
+use std::alloc::{AllocError, Global};
+
+/// A step to be written: its indent, its mark or an empty text, its test, and its assignments.
+#[derive(Clone, Copy)]
+pub(crate) struct Doing<'a> {
+    pub(crate) alloc: Global,
+    pub(crate) layout: &'a Layout,
+    pub(crate) indent: &'a str,
+    pub(crate) mark: &'a str,
+    pub(crate) test: &'a Test,
+    pub(crate) act: &'a [Assign],
+}
+
+/// Whether a test is always true.
+pub(crate) fn is_true(t: &Test) -> bool
+    ensures { result ≡ is_true (test t.now) }
+{
+    match t {
+        Test::Truth(b) => *b,
+        Test::Not(_) | Test::Joined(_, _, _) | Test::Compared(_, _, _) => false,
+    }
+}
+
+/// The text of a test.
+pub(crate) fn test_text(
+    alloc: Global,
+    layout: &Layout,
+    reads: &[Read],
+    t: &Test,
+) -> Result<String, AllocError>
+    ensures { IfOk result (λ text. string_bytes text ≡ test_text layout.now reads.now (test t.now)) }
+{
+    let mut text = String::new(alloc);
+    print_test(&mut text, layout, reads, t)?;
+    Ok(text)
+}
+
+/// Adds the mark of a step, if it has one.
+#[tactic(auto, unfolding(crate::specs::StepTexts::marked))]
+pub(crate) fn push_marked(text: &mut String, indent: &str, mark: &str) -> Result<(), AllocError>
+    ensures { OnOk result (string_bytes text.new ≡ string_bytes text.old ++ marked indent.now mark.now) }
+{
+    if mark.len() == 0 {
+        return Ok(());
+    }
+    push_mark_line(text, indent, mark)
+}
+
+/// What stands before a test for the mark of its step.
+#[tactic(auto, unfolding(crate::specs::StepTexts::mark_prefix))]
+pub(crate) fn mark_prefix(alloc: Global, mark: &str) -> Result<String, AllocError>
+    ensures { IfOk result (λ text. string_bytes text ≡ mark_prefix mark.now) }
+{
+    let mut text = String::new(alloc);
+    if mark.len() == 0 {
+        return Ok(text);
+    }
+    text.push_str(mark)?;
+    text.push_str(", ")?;
+    Ok(text)
+}
+
+/// Adds waiting until a test that reads plain words is true.
+#[tactic(auto, unfolding(crate::specs::StepTexts::waits))]
+fn push_waits(d: &Doing<'_>, text: &mut String) -> Result<(), AllocError>
+    ensures { OnOk result (string_bytes text.new ≡ string_bytes text.old ++ waits d.now.layout.now d.now.indent.now d.now.mark.now (test d.now.test.now)) }
+{
+    if is_true(d.test) {
+        return push_marked(text, d.indent, d.mark);
+    }
+    let prefix = mark_prefix(d.alloc, d.mark)?;
+    let t = test_text(d.alloc, d.layout, &[], d.test)?;
+    push_wait_loop(text, d.indent, &prefix, &t)
+}
+
+/// Adds what a step begins with that is done in a section or over a local.
+#[tactic(auto, unfolding(crate::specs::StepTexts::enter_text))]
+pub(crate) fn push_enter(
+    alloc: Global,
+    text: &mut String,
+    layout: &Layout,
+    indent: &str,
+    way: Way,
+) -> Result<(), AllocError>
+    ensures { OnOk result (string_bytes text.new ≡ string_bytes text.old ++ enter_text layout.now indent.now way) }
+{
+    match way {
+        Way::Load(word) => push_load(alloc, text, layout, indent, word),
+        Way::Section => push_enter_line(text, indent),
+        Way::Direct | Way::Store(_) | Way::Exchange(_) => Ok(()),
+    }
+}
+
+/// Adds what it ends with.
+#[tactic(auto, unfolding(crate::specs::StepTexts::leave_text))]
+pub(crate) fn push_leave(text: &mut String, indent: &str, way: Way) -> Result<(), AllocError>
+    ensures { OnOk result (string_bytes text.new ≡ string_bytes text.old ++ leave_text indent.now way) }
+{
+    match way {
+        Way::Section => push_leave_line(text, indent),
+        Way::Direct | Way::Load(_) | Way::Store(_) | Way::Exchange(_) => Ok(()),
+    }
+}
+
+/// Adds such a step without a test.
+#[tactic(auto, unfolding(crate::specs::StepTexts::held_free))]
+fn push_held_free(
+    d: &Doing<'_>,
+    text: &mut String,
+    reads: &[Read],
+    way: Way,
+) -> Result<(), AllocError>
+    requires { AssignmentsFit (length d.now.layout.now) (map assignment d.now.act.now) }
+    ensures { OnOk result (string_bytes text.new ≡ string_bytes text.old ++ held_free d.now.layout.now reads.now d.now.indent.now d.now.mark.now way (map (written (widths_of d.now.layout.now)) (map assignment d.now.act.now))) }
+{
+    let inside = inner(d.alloc, d.indent)?;
+    push_block_open(text, d.indent)?;
+    push_marked(text, &inside, d.mark)?;
+    push_enter(d.alloc, text, d.layout, &inside, way)?;
+    push_writes(d.alloc, text, d.layout, reads, &inside, d.act)?;
+    push_leave(text, &inside, way)?;
+    push_block_close(text, d.indent)
+}
+
+/// Adds the beginning of such a step with its test.
+#[tactic(auto, unfolding(crate::specs::StepTexts::held_begins))]
+fn push_held_begins(
+    d: &Doing<'_>,
+    text: &mut String,
+    reads: &[Read],
+    way: Way,
+) -> Result<(), AllocError>
+    ensures { OnOk result (string_bytes text.new ≡ string_bytes text.old ++ held_begins d.now.layout.now reads.now d.now.indent.now d.now.mark.now way (test d.now.test.now)) }
+{
+    let inside = inner(d.alloc, d.indent)?;
+    let t = test_text(d.alloc, d.layout, reads, d.test)?;
+    push_attempt_open(text, d.indent)?;
+    push_marked(text, &inside, d.mark)?;
+    push_enter(d.alloc, text, d.layout, &inside, way)?;
+    push_held_test(text, &inside, &t)
+}
+
+/// Adds its end.
+#[tactic(auto, unfolding(crate::specs::StepTexts::held_ends))]
+fn push_held_ends(d: &Doing<'_>, text: &mut String, way: Way) -> Result<(), AllocError>
+    ensures { OnOk result (string_bytes text.new ≡ string_bytes text.old ++ held_ends d.now.indent.now way) }
+{
+    let inside = inner(d.alloc, d.indent)?;
+    push_block_close(text, &inside)?;
+    push_leave(text, &inside, way)?;
+    push_retry(text, &inside)?;
+    push_block_close(text, d.indent)
+}
+
+/// Adds such a step with its test.
+#[tactic(auto, unfolding(crate::specs::StepTexts::held_tested))]
+fn push_held_tested(
+    d: &Doing<'_>,
+    text: &mut String,
+    reads: &[Read],
+    way: Way,
+) -> Result<(), AllocError>
+    requires { AssignmentsFit (length d.now.layout.now) (map assignment d.now.act.now) }
+    ensures { OnOk result (string_bytes text.new ≡ string_bytes text.old ++ held_tested d.now.layout.now reads.now d.now.indent.now d.now.mark.now way (test d.now.test.now) (map (written (widths_of d.now.layout.now)) (map assignment d.now.act.now))) }
+{
+    let inside = inner(d.alloc, d.indent)?;
+    let deep = inner(d.alloc, &inside)?;
+    push_held_begins(d, text, reads, way)?;
+    push_writes(d.alloc, text, d.layout, reads, &deep, d.act)?;
+    push_held_ends(d, text, way)
+}
+
+/// Adds a step that is done in a section or over a local.
+#[tactic(auto, unfolding(crate::specs::StepTexts::held_text))]
+fn push_held(d: &Doing<'_>, text: &mut String, reads: &[Read], way: Way) -> Result<(), AllocError>
+    requires { AssignmentsFit (length d.now.layout.now) (map assignment d.now.act.now) }
+    ensures { OnOk result (string_bytes text.new ≡ string_bytes text.old ++ held_text d.now.layout.now reads.now d.now.indent.now d.now.mark.now way (test d.now.test.now) (map (written (widths_of d.now.layout.now)) (map assignment d.now.act.now))) }
+{
+    if is_true(d.test) {
+        push_held_free(d, text, reads, way)
+    } else {
+        push_held_tested(d, text, reads, way)
+    }
+}
+
+/// Adds waiting until a test that loads this word once is true.
+#[tactic(auto, unfolding(crate::specs::StepTexts::loaded_wait))]
+fn push_loaded_wait(d: &Doing<'_>, text: &mut String, word: usize) -> Result<(), AllocError>
+    ensures { OnOk result (string_bytes text.new ≡ string_bytes text.old ++ loaded_wait d.now.layout.now d.now.indent.now d.now.mark.now word (test d.now.test.now)) }
+{
+    let reads = load_reads(d.alloc, d.layout, word)?;
+    let prefix = mark_prefix(d.alloc, d.mark)?;
+    let t = test_text(d.alloc, d.layout, &reads, d.test)?;
+    push_wait_loop(text, d.indent, &prefix, &t)
+}
+
+/// Adds a step that loads this word.
+#[tactic(auto, unfolding(crate::specs::StepTexts::loaded_text))]
+fn push_loaded(d: &Doing<'_>, text: &mut String, word: usize) -> Result<(), AllocError>
+    requires { AssignmentsFit (length d.now.layout.now) (map assignment d.now.act.now) }
+    ensures { OnOk result (string_bytes text.new ≡ string_bytes text.old ++ loaded_text d.now.layout.now d.now.indent.now d.now.mark.now word (test d.now.test.now) (map (written (widths_of d.now.layout.now)) (map assignment d.now.act.now))) }
+{
+    if d.act.len() == 0 && is_one_load(word, d.test) {
+        return push_loaded_wait(d, text, word);
+    }
+    let reads = local_reads(d.alloc, d.layout, Some(word), &[])?;
+    push_held(d, text, &reads, Way::Load(word))
+}
+
+/// Adds what comes after an exchange that was made.
+#[tactic(auto, unfolding(crate::specs::StepTexts::after_text))]
+fn push_after(
+    d: &Doing<'_>,
+    text: &mut String,
+    indent: &str,
+    others: &[usize],
+) -> Result<(), AllocError>
+    ensures { OnOk result (string_bytes text.new ≡ string_bytes text.old ++ after_text d.now.layout.now indent.now (map returns others.now)) }
+{
+    if others.len() == 0 {
+        return Ok(());
+    }
+    let inside = inner(d.alloc, indent)?;
+    push_done_open(text, indent)?;
+    push_returns(d.alloc, text, d.layout, &inside, others)?;
+    push_block_close(text, indent)
+}
+
+/// Adds changes of locals, an exchange, and what comes after it. The words are the one that is exchanged, and then the others.
+#[tactic(auto, using(crate::proofs::TextParts::actions_end), unfolding(crate::specs::StepTexts::changed_text))]
+fn push_changed(
+    d: &Doing<'_>,
+    text: &mut String,
+    reads: &[Read],
+    indent: &str,
+    word: usize,
+    others: &[usize],
+) -> Result<(), AllocError>
+    requires { AssignmentsFit (length d.now.layout.now) (map assignment d.now.act.now) }
+    ensures { OnOk result (string_bytes text.new ≡ string_bytes text.old ++ changed_text d.now.layout.now reads.now indent.now (map (changed (widths_of d.now.layout.now)) (map assignment d.now.act.now) ++ exchanges word ∷ []) (map returns others.now)) }
+{
+    push_changes(d.alloc, text, d.layout, reads, indent, d.act)?;
+    push_exchange(d.alloc, text, d.layout, indent, word)?;
+    push_after(d, text, indent, others)
+}
+
+/// Adds the same, where there is a test inside its `if`.
+#[tactic(auto, unfolding(crate::specs::StepTexts::tried_text))]
+fn push_tried(
+    d: &Doing<'_>,
+    text: &mut String,
+    reads: &[Read],
+    indent: &str,
+    word: usize,
+    others: &[usize],
+) -> Result<(), AllocError>
+    requires { AssignmentsFit (length d.now.layout.now) (map assignment d.now.act.now) }
+    ensures { OnOk result (string_bytes text.new ≡ string_bytes text.old ++ tried_text d.now.layout.now reads.now indent.now (test d.now.test.now) (map (changed (widths_of d.now.layout.now)) (map assignment d.now.act.now) ++ exchanges word ∷ []) (map returns others.now)) }
+{
+    if is_true(d.test) {
+        return push_changed(d, text, reads, indent, word, others);
+    }
+    let inside = inner(d.alloc, indent)?;
+    let t = test_text(d.alloc, d.layout, reads, d.test)?;
+    push_if_open(text, indent, &t)?;
+    push_changed(d, text, reads, &inside, word, others)?;
+    push_else_wait(text, indent)
+}
+
+/// Adds the locals of an exchange.
+#[tactic(auto, unfolding(crate::specs::StepTexts::before_text))]
+fn push_before(
+    d: &Doing<'_>,
+    text: &mut String,
+    indent: &str,
+    word: usize,
+    others: &[usize],
+) -> Result<(), AllocError>
+    ensures { OnOk result (string_bytes text.new ≡ string_bytes text.old ++ before_text d.now.layout.now indent.now (begins word ∷ map copies others.now)) }
+{
+    push_begin(d.alloc, text, d.layout, indent, word)?;
+    push_copies(d.alloc, text, d.layout, indent, others)
+}
+
+/// Adds a step that is done by an exchange of this word, with these other words in locals.
+#[tactic(auto, unfolding(crate::specs::StepTexts::exchange_text))]
+fn push_attempts(
+    d: &Doing<'_>,
+    text: &mut String,
+    reads: &[Read],
+    word: usize,
+    others: &[usize],
+) -> Result<(), AllocError>
+    requires { AssignmentsFit (length d.now.layout.now) (map assignment d.now.act.now) }
+    ensures { OnOk result (string_bytes text.new ≡ string_bytes text.old ++ exchange_text d.now.layout.now reads.now d.now.indent.now d.now.mark.now (exchange_step (widths_of d.now.layout.now) word others.now (test d.now.test.now) (map assignment d.now.act.now))) }
+{
+    let inside = inner(d.alloc, d.indent)?;
+    push_attempt_open(text, d.indent)?;
+    push_marked(text, &inside, d.mark)?;
+    push_before(d, text, &inside, word, others)?;
+    push_tried(d, text, reads, &inside, word, others)?;
+    push_block_close(text, d.indent)
+}
+
+/// Adds a step that is done by an exchange of this word.
+#[tactic(auto, unfolding(crate::specs::StepTexts::done_text))]
+fn push_exchanged(d: &Doing<'_>, text: &mut String, word: usize) -> Result<(), AllocError>
+    requires { AssignmentsFit (length d.now.layout.now) (map assignment d.now.act.now) }
+    ensures { OnOk result (string_bytes text.new ≡ string_bytes text.old ++ done_text d.now.layout.now d.now.indent.now d.now.mark.now (Exchange word) (test d.now.test.now) (map assignment d.now.act.now)) }
+{
+    let others = targets_beside(d.alloc, word, d.act)?;
+    let reads = local_reads(d.alloc, d.layout, Some(word), &others)?;
+    push_attempts(d, text, &reads, word, &others)
+}
+
+/// Adds a step that is done in this way.
+#[tactic(auto, unfolding(crate::specs::StepTexts::done_text))]
+pub(crate) fn push_done(d: &Doing<'_>, text: &mut String, way: Way) -> Result<(), AllocError>
+    requires { AssignmentsFit (length d.now.layout.now) (map assignment d.now.act.now) }
+    ensures { OnOk result (string_bytes text.new ≡ string_bytes text.old ++ done_text d.now.layout.now d.now.indent.now d.now.mark.now way (test d.now.test.now) (map assignment d.now.act.now)) }
+{
+    match way {
+        Way::Direct => {
+            push_waits(d, text)?;
+            push_writes(d.alloc, text, d.layout, &[], d.indent, d.act)
+        }
+        Way::Store(word) => {
+            push_waits(d, text)?;
+            push_writes_or_stores(d.alloc, text, d.layout, d.indent, word, d.act)
+        }
+        Way::Load(word) => push_loaded(d, text, word),
+        Way::Section => {
+            let reads = local_reads(d.alloc, d.layout, None, &[])?;
+            push_held(d, text, &reads, way)
+        }
+        Way::Exchange(word) => push_exchanged(d, text, word),
+    }
+}

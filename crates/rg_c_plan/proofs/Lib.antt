@@ -1,0 +1,6 @@
+mod Places
+mod Lists
+mod Checked
+mod Chosen
+mod Written
+mod Meeting

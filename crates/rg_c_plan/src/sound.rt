@@ -1,0 +1,106 @@
+//! The check that kinds of words are sound.
+
+ghost use Rattle.std.specs.Prelude.{◌≡◌, ◌<◌, length, map, IfOk};
+ghost use Rattle.std.specs.Bool.{Decides};
+ghost use Rattle.std.specs.List.{list_all};
+ghost use Rattle.rg_tree.specs.ProgramTrees.{program as program_tree};
+ghost use Rattle.rg_c_plan.specs.View.{step};
+ghost use Rattle.rg_c_plan.specs.Sound.{IsSound};
+ghost use Rattle.rg_c_plan.specs.Inner.Tests.{meets_no_other, is_step_sound, is_word_sound, are_words_sound};
+
+use crate::access::{accesses, is_touched, some_meet, world_access};
+use crate::kind::Kind;
+use crate::step::{Step, steps_of_parts};
+use crate::way::{first_atomic, kind_at, touches_met};
+use rg_tree::program::Program;
+use std::alloc::{AllocError, Global};
+
+/// Whether a step touches no atomic or guarded word besides this one.
+#[tactic(auto, using(crate::proofs::Places::range_more, crate::proofs::Places::range_over))]
+fn meets_no_other(kinds: &[Kind], s: &Step<'_>, word: usize) -> bool
+    ensures { result ≡ meets_no_other kinds.now (step s.now) word }
+{
+    for other in 0..kinds.len() {
+        if other != word && touches_met(kinds, s.guard, s.act, other) {
+            return false;
+        }
+    }
+    true
+}
+
+/// Whether a step touches no atomic word, or one alone and no guarded one.
+fn is_step_sound(kinds: &[Kind], s: &Step<'_>) -> bool
+    ensures { result ≡ is_step_sound kinds.now (step s.now) }
+{
+    match first_atomic(kinds, s.guard, s.act) {
+        Some(word) => meets_no_other(kinds, s, word),
+        None => true,
+    }
+}
+
+/// Whether each of these steps is sound.
+fn are_steps_sound(kinds: &[Kind], steps: &[Step<'_>]) -> bool
+    ensures { result ≡ list_all (is_step_sound kinds.now) (map step steps.now) }
+{
+    for s in steps {
+        if !is_step_sound(kinds, s) {
+            return false;
+        }
+    }
+    true
+}
+
+/// Whether a word of this kind is sound.
+fn is_word_sound(
+    alloc: Global,
+    program: &Program,
+    kind: Kind,
+    word: usize,
+) -> Result<bool, AllocError>
+    requires { word < length program.now.layout }
+    ensures { IfOk result (λ r. r ≡ is_word_sound (program_tree program.now) kind word) }
+{
+    let fixed = program.layout.is_fixed(word);
+    match kind {
+        Kind::Fixed => Ok(fixed),
+        Kind::Own => {
+            let list = accesses(alloc, program, word)?;
+            Ok(!fixed && !some_meet(&list))
+        }
+        Kind::Atomic => Ok(!fixed),
+        Kind::Guarded => {
+            let access = world_access(word, &program.layout, &program.spec.rely);
+            Ok(!fixed && !is_touched(access))
+        }
+    }
+}
+
+/// Whether each word is sound.
+#[tactic(auto, using(crate::proofs::Places::range_more, crate::proofs::Places::range_over))]
+fn are_words_sound(alloc: Global, kinds: &[Kind], program: &Program) -> Result<bool, AllocError>
+    requires { length kinds.now ≡ length program.now.layout }
+    ensures { IfOk result (λ r. r ≡ are_words_sound (program_tree program.now) kinds.now) }
+{
+    for word in 0..kinds.len() {
+        if !is_word_sound(alloc, program, kind_at(kinds, word), word)? {
+            return Ok(false);
+        }
+    }
+    Ok(true)
+}
+
+/// Whether kinds of words are sound for a program, whoever chose them.
+///
+/// An error comes only where memory was refused.
+pub fn is_sound(alloc: Global, kinds: &[Kind], program: &Program) -> Result<bool, AllocError>
+    ensures { IfOk result (λ r. Decides r (IsSound kinds.now (program_tree program.now))) }
+{
+    if kinds.len() != program.layout.len() {
+        return Ok(false);
+    }
+    if !are_words_sound(alloc, kinds, program)? {
+        return Ok(false);
+    }
+    let steps = steps_of_parts(alloc, &program.parts)?;
+    Ok(are_steps_sound(kinds, &steps))
+}

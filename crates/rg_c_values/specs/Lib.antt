@@ -1,0 +1,9 @@
+pub mod CTrees
+pub mod View
+pub mod Arithmetic
+pub mod WellFormed
+pub mod Simplified
+pub mod Translation
+pub mod CNames
+pub mod Printed
+pub mod Laws

@@ -1,0 +1,138 @@
+-- The texts of expressions of C.
+use Rattle.std.specs.Prelude.{ℕ, Bool, true, false, List, [], ◌++◌, slice_index_or, codes}
+use Rattle.std.specs.Fmt.{decimal}
+use Rattle.rg_words.specs.declared.operators.Operator.{Operator}
+use Rattle.rg_words.specs.declared.operators.Operator.TheVariants.{Add, Subtract, BitAnd, BitOr, BitXor}
+use Rattle.rg_words.specs.declared.operators.Shift.{Shift}
+use Rattle.rg_words.specs.declared.operators.Shift.TheVariants.{Left, Right}
+use Rattle.rg_words.specs.declared.operators.Comparison.{Comparison}
+use Rattle.rg_words.specs.declared.operators.Comparison.TheVariants.{Equal, NotEqual, Less, LessOrEqual, Greater, GreaterOrEqual}
+use Rattle.rg_words.specs.Layout.{Word, names_of}
+use Rattle.rg_c_values.specs.declared.tree.Joint.{Joint}
+use Rattle.rg_c_values.specs.declared.tree.Joint.TheVariants.{And, Or, Same}
+use Rattle.rg_c_values.specs.declared.print.Read.{Read}
+use Rattle.rg_c_values.specs.declared.print.Read.TheVariants.{Plain, Load, Local}
+use Rattle.rg_c_values.specs.CNames.{c_name}
+use Rattle.rg_c_values.specs.CTrees.{CValue, CTest, c_literal, c_word, c_cast, c_inverse, c_binary, c_shifted, c_choice, c_truth, c_not, c_joined, c_compared}
+
+-- how an operation is written
+abbrev pub operator_text : Operator → List ℕ
+operator_text Add = codes " + "
+operator_text Subtract = codes " - "
+operator_text BitAnd = codes " & "
+operator_text BitOr = codes " | "
+operator_text BitXor = codes " ^ "
+
+-- how a shift is written
+abbrev pub shift_text : Shift → List ℕ
+shift_text Left = codes " << "
+shift_text Right = codes " >> "
+
+-- how a comparison is written
+abbrev pub comparison_text : Comparison → List ℕ
+comparison_text Equal = codes " == "
+comparison_text NotEqual = codes " != "
+comparison_text Less = codes " < "
+comparison_text LessOrEqual = codes " <= "
+comparison_text Greater = codes " > "
+comparison_text GreaterOrEqual = codes " >= "
+
+-- how two tests are joined
+abbrev pub joint_text : Joint → List ℕ
+joint_text And = codes " && "
+joint_text Or = codes " || "
+joint_text Same = codes " == "
+
+-- how a truth is written
+abbrev pub truth_text : Bool → List ℕ
+truth_text true = codes "true"
+truth_text false = codes "false"
+
+-- a number
+abbrev pub number_text : ℕ → List ℕ
+number_text n = decimal n ++ codes "u"
+
+-- a cast to the unsigned type of n bits
+abbrev pub cast_text : ℕ → List ℕ
+cast_text n = codes "(uint" ++ (decimal n ++ codes "_t)")
+
+-- a word of this name in C, as it is read: from the struct, by a load, or from a local
+abbrev pub read_text : Read → List ℕ → List ℕ
+read_text Plain name = codes "w->" ++ name
+read_text Load name = codes "RGC_LOAD(&w->" ++ (name ++ codes ")")
+read_text Local name = name ++ codes "_"
+
+-- the k-th word, read as is told for it
+abbrev pub word_text : List Word → List Read → ℕ → List ℕ
+word_text words reads k = read_text (slice_index_or reads k Plain) (c_name (slice_index_or (names_of words) k []))
+
+-- parentheses, unless the text stands bare
+abbrev pub opening : Bool → List ℕ
+opening true = []
+opening false = codes "("
+
+abbrev pub closing : Bool → List ℕ
+closing true = []
+closing false = codes ")"
+
+abbrev pub enclosed : Bool → List ℕ → List ℕ
+enclosed bare text = opening bare ++ (text ++ closing bare)
+
+-- literals, words and casts stand bare
+abbrev pub is_bare : CValue → Bool
+is_bare (c_literal n) = true
+is_bare (c_word c k) = true
+is_bare (c_cast n v) = true
+is_bare (c_inverse g v) = false
+is_bare (c_binary o g a b) = false
+is_bare (c_shifted d g v k) = false
+is_bare (c_choice t a b) = false
+
+-- truths stand bare
+abbrev pub is_bare_test : CTest → Bool
+is_bare_test (c_truth b) = true
+is_bare_test (c_not t) = false
+is_bare_test (c_joined j t u) = false
+is_bare_test (c_compared c a b) = false
+
+-- a chain of `&&`, or one of `||`, goes on
+abbrev pub is_chain : Joint → Joint → Bool
+is_chain And And = true
+is_chain And Or = false
+is_chain And Same = false
+is_chain Or And = false
+is_chain Or Or = true
+is_chain Or Same = false
+is_chain Same And = false
+is_chain Same Or = false
+is_chain Same Same = false
+
+-- as first of two that are joined, a chain of the same joint stands bare too
+abbrev pub is_bare_first : Joint → CTest → Bool
+is_bare_first j (c_truth b) = true
+is_bare_first j (c_not t) = false
+is_bare_first j (c_joined i t u) = is_chain j i
+is_bare_first j (c_compared c a b) = false
+
+abbrev mutual
+  -- a value
+  pub value_text : List Word → List Read → CValue → List ℕ
+  value_text words reads (c_literal n) = number_text n
+  value_text words reads (c_word c k) = word_text words reads k
+  value_text words reads (c_cast n v) = cast_text n ++ enclosed (is_bare v) (value_text words reads v)
+  value_text words reads (c_inverse g v) = codes "~" ++ enclosed (is_bare v) (value_text words reads v)
+  value_text words reads (c_binary o g a b) =
+      enclosed (is_bare a) (value_text words reads a) ++ (operator_text o ++ enclosed (is_bare b) (value_text words reads b))
+  value_text words reads (c_shifted d g v k) =
+      enclosed (is_bare v) (value_text words reads v) ++ (shift_text d ++ number_text k)
+  value_text words reads (c_choice t a b) =
+      enclosed (is_bare_test t) (test_text words reads t) ++ (codes " ? " ++ (enclosed (is_bare a) (value_text words reads a) ++ (codes " : " ++ enclosed (is_bare b) (value_text words reads b))))
+
+  -- a test
+  pub test_text : List Word → List Read → CTest → List ℕ
+  test_text words reads (c_truth b) = truth_text b
+  test_text words reads (c_not t) = codes "!" ++ enclosed (is_bare_test t) (test_text words reads t)
+  test_text words reads (c_joined j t u) =
+      enclosed (is_bare_first j t) (test_text words reads t) ++ (joint_text j ++ enclosed (is_bare_test u) (test_text words reads u))
+  test_text words reads (c_compared c a b) =
+      enclosed (is_bare a) (value_text words reads a) ++ (comparison_text c ++ enclosed (is_bare b) (value_text words reads b))

@@ -1,0 +1,304 @@
+//! Expressions of C as text.
+
+ghost use Rattle.std.specs.Prelude.{◌≡◌, ◌++◌, decimal, string_bytes, slice_index_or, OnOk};
+ghost use Rattle.rg_c_values.specs.CNames.{c_name};
+ghost use Rattle.rg_c_values.specs.Printed.{operator_text, shift_text, comparison_text, joint_text, truth_text, number_text, cast_text, read_text, word_text, opening, closing, is_bare, is_bare_test, is_chain, is_bare_first, value_text, test_text};
+ghost use Rattle.rg_c_values.specs.View.{value, test};
+
+use crate::names::push_c_name;
+use crate::tree::{Joint, Test, Value};
+use itoa::Buffer;
+use rg_words::Layout;
+use rg_words::operators::{Comparison, Operator, Shift};
+use std::alloc::AllocError;
+
+/// How a word is read.
+#[derive(Clone, Copy, Debug, PartialEq, Eq)]
+pub enum Read {
+    /// From the struct of the words: `w->name`.
+    Plain,
+    /// By an atomic load: `RGC_LOAD(&w->name)`.
+    Load,
+    /// From a local variable that has its value: `name_`.
+    Local,
+}
+
+/// Adds the text of a value, each word read as `reads` tells at its place; a word beyond it is read from the struct.
+///
+/// An error comes only where memory was refused.
+#[cycle(print)]
+pub fn print_value(
+    text: &mut String,
+    layout: &Layout,
+    reads: &[Read],
+    v: &Value,
+) -> Result<(), AllocError>
+    ensures { OnOk result (string_bytes text.new ≡ string_bytes text.old ++ value_text layout.now reads.now (value v.now)) }
+{
+    match v {
+        Value::Literal(n) => push_number(text, *n),
+        Value::Word(_, k) => push_word(text, layout, reads, *k),
+        Value::Cast(bits, v) => {
+            push_cast(text, *bits)?;
+            push_opening(text, is_bare(v))?;
+            print_value(text, layout, reads, v)?;
+            push_closing(text, is_bare(v))
+        }
+        Value::Inverse(_, v) => {
+            text.push_str("~")?;
+            push_opening(text, is_bare(v))?;
+            print_value(text, layout, reads, v)?;
+            push_closing(text, is_bare(v))
+        }
+        Value::Binary(operator, _, a, b) => {
+            push_opening(text, is_bare(a))?;
+            print_value(text, layout, reads, a)?;
+            push_closing(text, is_bare(a))?;
+            text.push_str(operator_text(*operator))?;
+            push_opening(text, is_bare(b))?;
+            print_value(text, layout, reads, b)?;
+            push_closing(text, is_bare(b))
+        }
+        Value::Shifted(shift, _, v, count) => {
+            push_opening(text, is_bare(v))?;
+            print_value(text, layout, reads, v)?;
+            push_closing(text, is_bare(v))?;
+            text.push_str(shift_text(*shift))?;
+            push_number(text, u64::from(*count))
+        }
+        Value::Choice(t, a, b) => {
+            let bare_test = is_bare_test(t);
+            let bare_first = is_bare(a);
+            let bare_second = is_bare(b);
+            push_opening(text, bare_test)?;
+            print_test(text, layout, reads, t)?;
+            push_closing(text, bare_test)?;
+            text.push_str(" ? ")?;
+            push_opening(text, bare_first)?;
+            print_value(text, layout, reads, a)?;
+            push_closing(text, bare_first)?;
+            text.push_str(" : ")?;
+            push_opening(text, bare_second)?;
+            print_value(text, layout, reads, b)?;
+            push_closing(text, bare_second)?;
+            Ok(())
+        }
+    }
+}
+
+/// Adds the text of a test, with the words read as by `print_value`.
+///
+/// An error comes only where memory was refused.
+#[cycle(print)]
+pub fn print_test(
+    text: &mut String,
+    layout: &Layout,
+    reads: &[Read],
+    t: &Test,
+) -> Result<(), AllocError>
+    ensures { OnOk result (string_bytes text.new ≡ string_bytes text.old ++ test_text layout.now reads.now (test t.now)) }
+{
+    match t {
+        Test::Truth(b) => {
+            text.push_str(if *b { "true" } else { "false" })?;
+            Ok(())
+        }
+        Test::Not(t) => {
+            text.push_str("!")?;
+            push_opening(text, is_bare_test(t))?;
+            print_test(text, layout, reads, t)?;
+            push_closing(text, is_bare_test(t))
+        }
+        Test::Joined(joint, t, u) => {
+            push_opening(text, is_bare_first(*joint, t))?;
+            print_test(text, layout, reads, t)?;
+            push_closing(text, is_bare_first(*joint, t))?;
+            text.push_str(joint_text(*joint))?;
+            push_opening(text, is_bare_test(u))?;
+            print_test(text, layout, reads, u)?;
+            push_closing(text, is_bare_test(u))
+        }
+        Test::Compared(comparison, a, b) => {
+            push_opening(text, is_bare(a))?;
+            print_value(text, layout, reads, a)?;
+            push_closing(text, is_bare(a))?;
+            text.push_str(comparison_text(*comparison))?;
+            push_opening(text, is_bare(b))?;
+            print_value(text, layout, reads, b)?;
+            push_closing(text, is_bare(b))
+        }
+    }
+}
+
+/// Adds a parenthesis that opens, unless the text behind it stands bare.
+fn push_opening(text: &mut String, bare: bool) -> Result<(), AllocError>
+    ensures { OnOk result (string_bytes text.new ≡ string_bytes text.old ++ opening bare) }
+{
+    text.push_str(if bare { "" } else { "(" })?;
+    Ok(())
+}
+
+/// Adds a parenthesis that closes, unless the text before it stands bare.
+fn push_closing(text: &mut String, bare: bool) -> Result<(), AllocError>
+    ensures { OnOk result (string_bytes text.new ≡ string_bytes text.old ++ closing bare) }
+{
+    text.push_str(if bare { "" } else { ")" })?;
+    Ok(())
+}
+
+/// Adds the digits of a number.
+fn push_digits(text: &mut String, n: u64) -> Result<(), AllocError>
+    ensures { OnOk result (string_bytes text.new ≡ string_bytes text.old ++ decimal n) }
+{
+    let mut digits = Buffer::new();
+    text.push_str(digits.format(n))?;
+    Ok(())
+}
+
+/// Adds an unsigned number.
+fn push_number(text: &mut String, n: u64) -> Result<(), AllocError>
+    ensures { OnOk result (string_bytes text.new ≡ string_bytes text.old ++ number_text n) }
+{
+    push_digits(text, n)?;
+    text.push_str("u")?;
+    Ok(())
+}
+
+/// Adds a cast to the unsigned type of so many bits.
+fn push_cast(text: &mut String, bits: u32) -> Result<(), AllocError>
+    ensures { OnOk result (string_bytes text.new ≡ string_bytes text.old ++ cast_text bits) }
+{
+    text.push_str("(uint")?;
+    push_digits(text, u64::from(bits))?;
+    text.push_str("_t)")?;
+    Ok(())
+}
+
+/// Adds a word, read as is told for it.
+fn push_word(
+    text: &mut String,
+    layout: &Layout,
+    reads: &[Read],
+    word: usize,
+) -> Result<(), AllocError>
+    ensures { OnOk result (string_bytes text.new ≡ string_bytes text.old ++ word_text layout.now reads.now word) }
+{
+    let read = match reads.get(word) {
+        Some(read) => *read,
+        None => Read::Plain,
+    };
+    let name = if word < layout.len() {
+        layout.name(word)
+    } else {
+        ""
+    };
+    push_read(text, read, name)
+}
+
+/// Adds a word of this name, read in this way.
+fn push_read(text: &mut String, read: Read, name: &str) -> Result<(), AllocError>
+    ensures { OnOk result (string_bytes text.new ≡ string_bytes text.old ++ read_text read (c_name name.now)) }
+{
+    match read {
+        Read::Plain => {
+            text.push_str("w->")?;
+            push_c_name(text, name)
+        }
+        Read::Load => {
+            text.push_str("RGC_LOAD(&w->")?;
+            push_c_name(text, name)?;
+            text.push_str(")")?;
+            Ok(())
+        }
+        Read::Local => {
+            push_c_name(text, name)?;
+            text.push_str("_")?;
+            Ok(())
+        }
+    }
+}
+
+/// Whether a value stands without parentheses.
+fn is_bare(v: &Value) -> bool
+    ensures { result ≡ is_bare (value v.now) }
+{
+    match v {
+        Value::Literal(_) | Value::Word(_, _) | Value::Cast(_, _) => true,
+        _ => false,
+    }
+}
+
+/// Whether a test stands without parentheses.
+fn is_bare_test(t: &Test) -> bool
+    ensures { result ≡ is_bare_test (test t.now) }
+{
+    match t {
+        Test::Truth(_) => true,
+        _ => false,
+    }
+}
+
+/// Whether a test stands without parentheses as the first of two that are joined.
+fn is_bare_first(joint: Joint, t: &Test) -> bool
+    ensures { result ≡ is_bare_first joint (test t.now) }
+{
+    match t {
+        Test::Truth(_) => true,
+        Test::Joined(inner, _, _) => is_chain(joint, *inner),
+        _ => false,
+    }
+}
+
+/// Whether tests joined in both ways are one chain.
+fn is_chain(first: Joint, second: Joint) -> bool
+    ensures { result ≡ is_chain first second }
+{
+    match (first, second) {
+        (Joint::And, Joint::And) | (Joint::Or, Joint::Or) => true,
+        _ => false,
+    }
+}
+
+fn operator_text(operator: Operator) -> &'static str
+    ensures { result.now ≡ operator_text operator }
+{
+    match operator {
+        Operator::Add => " + ",
+        Operator::Subtract => " - ",
+        Operator::BitAnd => " & ",
+        Operator::BitOr => " | ",
+        Operator::BitXor => " ^ ",
+    }
+}
+
+fn shift_text(shift: Shift) -> &'static str
+    ensures { result.now ≡ shift_text shift }
+{
+    match shift {
+        Shift::Left => " << ",
+        Shift::Right => " >> ",
+    }
+}
+
+fn comparison_text(comparison: Comparison) -> &'static str
+    ensures { result.now ≡ comparison_text comparison }
+{
+    match comparison {
+        Comparison::Equal => " == ",
+        Comparison::NotEqual => " != ",
+        Comparison::Less => " < ",
+        Comparison::LessOrEqual => " <= ",
+        Comparison::Greater => " > ",
+        Comparison::GreaterOrEqual => " >= ",
+    }
+}
+
+fn joint_text(joint: Joint) -> &'static str
+    ensures { result.now ≡ joint_text joint }
+{
+    match joint {
+        Joint::And => " && ",
+        Joint::Or => " || ",
+        Joint::Same => " == ",
+    }
+}

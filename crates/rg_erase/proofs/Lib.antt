@@ -1,0 +1,10 @@
+mod States
+mod Mentions
+mod Loops
+mod Conjunctions
+mod Defined
+mod Typed
+mod Left
+mod Blocks
+mod Lifts
+mod ShadowRuns

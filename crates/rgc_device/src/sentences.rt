@@ -1,0 +1,98 @@
+//! Why words can't be erased, and what is lost where they are.
+
+ghost use Rattle.std.specs.Prelude.{length};
+ghost use Rattle.rg_tree.specs.View.{formula};
+ghost use Rattle.rg_tree.specs.Fits.{FormulaFits};
+
+use rg_erase::{Fault, lost};
+use rg_tree::print::print;
+use rg_tree::tree::Formula;
+use rg_words::Layout;
+use std::alloc::{AllocError, Global};
+
+/// A name that is no word's.
+pub(crate) fn unknown_line(alloc: Global, name: &[u8]) -> Result<Vec<u8>, AllocError> {
+    let mut line = Vec::new(alloc);
+    line.extend_from_slice(b"error: --erase names ")?;
+    line.extend_from_slice(name)?;
+    line.extend_from_slice(b", which is no word of the program\n")?;
+    Ok(line)
+}
+
+/// The name of a word; nothing where there is none at the place.
+fn name_of(layout: &Layout, word: usize) -> &str {
+    if word < layout.len() {
+        layout.name(word)
+    } else {
+        ""
+    }
+}
+
+/// Why words can't be erased.
+pub(crate) fn fault_line(
+    alloc: Global,
+    layout: &Layout,
+    fault: Fault,
+) -> Result<String, AllocError> {
+    match fault {
+        Fault::NothingLeft => {
+            String::from_str(alloc, "error: no word is left that a step may change\n")
+        }
+        Fault::Pre(word) => {
+            let name = name_of(layout, word);
+            format!(in alloc;
+                "error: {} can't be erased: the pre says something else of it than its value, once, as `{} = 0` does\n",
+                name, name
+            )
+        }
+        Fault::Rely(word) => {
+            let name = name_of(layout, word);
+            format!(in alloc;
+                "error: {} can't be erased: the rely says something else of it than its value after a step, once, as `{}' = {}` does\n",
+                name, name, name
+            )
+        }
+        Fault::Read(line, word) => format!(in alloc;
+            "error: line {}: {} can't be erased: what stays reads it\n",
+            line,
+            name_of(layout, word)
+        ),
+    }
+}
+
+/// Whether a formula says nothing.
+fn is_true(f: &Formula) -> bool {
+    match f {
+        Formula::Truth(b) => *b,
+        _ => false,
+    }
+}
+
+/// Adds a warning for each conjunct of a formula of the program that is lost, and another one where nothing is left of it.
+pub(crate) fn push_lost(
+    layout: &Layout,
+    what: &str,
+    f: &Formula,
+    left: &Formula,
+    erased: &[bool],
+    lines: &mut Vec<u8>,
+) -> Result<(), AllocError>
+    requires { FormulaFits (formula f.now) (length layout.now) }
+{
+    let alloc = *lines.allocator();
+    let conjuncts = lost(alloc, erased, f)?;
+    for conjunct in &conjuncts {
+        let text = print(alloc, layout, conjunct)?;
+        lines.extend_from_slice(b"warning: of what is left the ")?;
+        lines.extend_from_slice(what.as_bytes())?;
+        lines.extend_from_slice(b" doesn't say ")?;
+        lines.extend_from_slice(text.as_bytes())?;
+        lines.extend_from_slice(b"\n")?;
+    }
+    if !conjuncts.is_empty() && is_true(left) {
+        lines.extend_from_slice(b"warning: nothing is left of the ")?;
+        lines.extend_from_slice(what.as_bytes())?;
+        lines.extend_from_slice(b"\n")?;
+    }
+    Ok(())
+}

@@ -1,0 +1,39 @@
+/* The ring of interrupt_ring.rgo on a device: the interrupt of a timer puts values in, the main loop takes them out and prints them. */
+#include "board.h"
+#include "interrupt_ring.h"
+
+#include "values.h"
+
+enum { COUNT = sizeof values / sizeof *values, CYCLES = 20, STARTED_OUTSIDE = 1 };
+
+static struct interrupt_ring words = INTERRUPT_RING_START;
+
+/* One round of the part `handler`. The device, which is no part, sets its word before: it has the next value once the last one was put in. */
+void board_tick(void)
+{
+    static uint32_t given;
+    if (given < COUNT) {
+        const uint8_t before = words.head;
+        RGC_STORE(&words.device, values[given]);
+        interrupt_ring_round_handler(&words);
+        given += words.head != before;
+    }
+}
+
+/* Rounds of the part `main`, until all values were taken. */
+int main(void)
+{
+    if (!interrupt_ring_pre(&words)) {
+        return STARTED_OUTSIDE;
+    }
+    board_start_timer(CYCLES);
+    for (uint32_t taken = 0; taken < COUNT;) {
+        const uint8_t before = words.tail;
+        interrupt_ring_round_main(&words);
+        if (words.tail != before) {
+            board_print(words.got);
+            taken++;
+        }
+    }
+    return 0;
+}

@@ -1,0 +1,118 @@
+"""A C header that `rgc emit --format c` prints, as far as scripts need it: its words, what its comment counts, and its functions.
+
+    header = headers.read(printed, "rg", code)
+
+The code is the listing of the same program, as `rgc emit` prints it."""
+import dataclasses
+import re
+
+# What the comment at the head counts, with the words around the number.
+COUNTS = {
+    "steps": r"Steps: (\d+)",
+    "alone": r"(\d+) meets? no other part",
+    "loads": r"(\d+) (?:is |are )?one load",
+    "stores": r"(\d+) (?:is |are )?one store",
+    "exchanges": r"(\d+) (?:is |are )?one compare-and-exchange",
+    "sections": r"(\d+) (?:is |are )?a critical section",
+}
+TRACE = re.compile(r"\n *RGC_AT\(\d+, \d+\);|RGC_AT\(\d+, \d+\), ")
+
+
+class Fault(Exception):
+    """What is wrong with a header."""
+
+
+def demand(holds, what):
+    if not holds:
+        raise Fault(what)
+
+
+@dataclasses.dataclass(frozen=True)
+class Header:
+    """A header. `members` are those of its struct, by the words' numbers in the listing; a word without one is left out. `kinds` are those of `declared`."""
+
+    text: str
+    members: dict
+    kinds: dict
+    counts: dict
+    rounds: tuple
+    start: dict
+
+
+def without_trace(text):
+    return TRACE.sub("", text)
+
+
+def declared(text, name):
+    """The members of the struct in order: the name, and `const`, `atomic` or `plain`, or `world` for an atomic one that others than parts write."""
+    found = re.search(rf"^struct {name} \{{\n(.*?)^\}};", text, re.M | re.S)
+    demand(found, f"there is no struct {name}")
+    members = re.findall(r"^ +([^/*\n][^;\n]*?)\b(\w+);(?: */\*(.*?)\*/)?", found[1], re.M | re.S)
+    kind = lambda it, comment: "const" if it.startswith("const ") else "plain" if "RGC_ATOMIC(" not in it else "world" if "outside" in comment else "atomic"
+    return [(member, kind(it, comment)) for it, member, comment in members]
+
+
+def numbered(members, words):
+    """The members by the numbers of their words, which stand in the order of the words; each is called as its word, or has `w_` before it."""
+    found, number = {}, 0
+    for member, kind in members:
+        while number < len(words) and member not in (words[number][0], f"w_{words[number][0]}"):
+            number += 1
+        demand(number < len(words), f"{member} isn't the name of a word, or stands before another one")
+        found[number] = (member, kind)
+        number += 1
+    return found
+
+
+def counts_of(text):
+    """What the comment at the head counts."""
+    comment = re.sub(r"\s+", " ", re.sub(r"^ \*", "", text.partition("*/")[0], flags=re.M))
+    found = {name: re.search(form, comment) for name, form in COUNTS.items()}
+    demand(all(found.values()), f"its comment doesn't count {', '.join(name for name, it in found.items() if not it)}")
+    counts = {name: int(it[1]) for name, it in found.items()}
+    demand(counts["steps"] == sum(counts.values()) - counts["steps"], "what its comment counts doesn't add up")
+    entered = len(re.findall(r"^ +RGC_ENTER\(w\);$", text, re.M))
+    demand(counts["sections"] == entered, f"its comment counts {counts['sections']} sections, and {entered} are entered")
+    return counts
+
+
+def start_of(text, name, members):
+    """The values that NAME_START gives, 0 for the others, by the words' numbers; or None where there is no such macro."""
+    found = re.search(rf"^#define {name.upper()}_START \{{ (.*) \}}$", text, re.M)
+    if not found:
+        return None
+    values = {member: int(value) for member, value in re.findall(r"\.(\w+) = (?:UINT64_C\()?(\d+)", found[1])}
+    return {number: values.get(member, 0) for number, (member, _) in members.items()}
+
+
+def accesses_of(text, name):
+    """The accesses that stand in the functions of the parts, in order: the part, the member, whether it is assigned, and whether that is in a section."""
+    found, part, inside = [], None, False
+    for line in re.sub(r"/\*.*?\*/", "", text, flags=re.S).split("\n"):
+        head = re.match(rf"static inline \w+ {name}_(?:(?:run|round)_)?(\w+)\(", line)
+        part = head[1] if head and " void " in line else None if head else part
+        inside = (inside or "RGC_ENTER(w)" in line) and "RGC_LEAVE(w)" not in line
+        if part:
+            assigned = re.match(r" *(?:w->|RGC_STORE\(&w->)(\w+)(?: = |,)", line)
+            found += [(part, it[1], bool(assigned) and it.end() == assigned.end(1), inside) for it in re.finditer(r"w->(\w+)", line)]
+    return found
+
+
+def check_accesses(header, name):
+    """Sees that of the members that two parts access and one assigns an atomic one is accessed outside of sections alone, and a plain one inside."""
+    parts, assigned, places = {}, set(), {}
+    for part, member, is_assigned, inside in accesses_of(header.text, name):
+        parts.setdefault(member, set()).add(part)
+        places.setdefault(member, set()).add(inside)
+        assigned |= {member} if is_assigned else set()
+    for member in sorted(it for it in assigned if len(parts[it]) > 1 and header.kinds[it] != "world"):
+        kind, wanted = header.kinds[member], header.kinds[member] == "plain"
+        demand(places[member] == {wanted}, f"{member} is {kind}, and not accessed {'inside' if wanted else 'outside'} of sections alone")
+
+
+def read(text, name, code):
+    """The header, of which a name is the prefix."""
+    members = numbered(declared(text, name), code["words"])
+    names = {number: member for number, (member, _) in members.items()}
+    rounds = tuple(re.findall(rf"^static inline void {name}_round_(\w+)\(", text, re.M))
+    return Header(text, names, dict(members.values()), counts_of(text), rounds, start_of(text, name, members))
