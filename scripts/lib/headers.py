@@ -40,7 +40,8 @@ class Header:
 
 
 def without_trace(text):
-    return TRACE.sub("", text)
+    """The text of a header without its marks. A loop without an end has no place for one, so where there are marks it has a test."""
+    return TRACE.sub("", text).replace("while (true) {", "for (;;) {")
 
 
 def declared(text, name):

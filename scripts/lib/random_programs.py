@@ -153,7 +153,9 @@ class AllOperators(Generated):
         if self.random.random() < 0.2:
             kept.remove(self.random.choice(kept))
         kept = " and ".join(f"({it}' = {it})" for it in kept)
-        return self.random.choice(["true", self.guard()]), self.random.choice([f"({kept})" if " and " in kept else kept, "false"])
+        # (where the rely is false, each word counts as one that the world outside may change, and few steps can be done in C)
+        kept = "false" if self.random.random() < 0.1 else f"({kept})" if " and " in kept else kept
+        return self.random.choice(["true", self.guard()]), kept
 
     def part_names(self):
         return self.random.sample(self.PARTS, self.random.choice([1, 2, 2, 2, 3]))

@@ -3,5 +3,7 @@ pub mod Targets
 pub mod StepsRight
 pub mod TextParts
 pub mod Fields
+pub mod Starts
+pub mod Places
 pub mod Fits
 pub mod MovingFits

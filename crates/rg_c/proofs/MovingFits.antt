@@ -1,7 +1,7 @@
 -- The assignments that change something fit where all do.
 use Rattle.std.proofs.Common.{ℕ, Bool, true, false, not, cond, List, [], ◌∷◌}
 use Rattle.rg_tree.specs.Trees.{Assignment}
-use Rattle.rg_c.specs.Steps.{is_word, moving}
+use Rattle.rg_c_report.specs.Moving.{is_word, moving}
 use Rattle.rg_c.specs.Fitting.{AssignmentsFit}
 
 pub moving_fits : (n : ℕ) (act : List Assignment) → AssignmentsFit n act → AssignmentsFit n (moving act)

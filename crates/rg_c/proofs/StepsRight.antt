@@ -22,7 +22,8 @@ use Rattle.rg_c_plan.specs.declared.way.Way.TheVariants.{Direct, Load, Store, Ex
 use Rattle.rg_c_plan.specs.Accesses.{reads, writes, places}
 use Rattle.rg_c_plan.specs.Ways.{times_assigned, way_at, way_of, touches_guarded, touches_atomic}
 use Rattle.rg_c.specs.Actions.{Action, loads, begins, copies, writes as writing, stores, exchanges, returns, Machine, sees, local_set, word_set, acted, all_acted, begun, done}
-use Rattle.rg_c.specs.Steps.{is_in, moving, targets_beside, value_for, written, written_or_stored, changed, step_by, test_of}
+use Rattle.rg_c_report.specs.Moving.{moving}
+use Rattle.rg_c.specs.Steps.{is_in, targets_beside, value_for, written, written_or_stored, changed, step_by, test_of}
 use Rattle.rg_c.specs.Laws.{is_open, IsTypedGuard, StepsAreRight}
 use Rattle.rg_c.proofs.Locals.{seen_none, seen_set, seen_back, seen_written, no_locals, no_local, set_same, length_set}
 use Rattle.rg_c.proofs.Targets.{eq_self, AgreeBeside, agree_taken, agree_all, not_assigned, untouched, moving_assigned, moving_typed}

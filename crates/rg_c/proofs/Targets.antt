@@ -7,7 +7,8 @@ use Rattle.rg_tree.specs.Trees.{Expression, Assignment, number, word, next_word,
 use Rattle.rg_tree.specs.Meaning.{value_of}
 use Rattle.rg_tree.specs.ConditionTrees.{assigned, AssignmentsTyped}
 use Rattle.rg_c_plan.specs.Accesses.{writes}
-use Rattle.rg_c.specs.Steps.{is_in, is_word, moving, targets_beside}
+use Rattle.rg_c_report.specs.Moving.{is_word, moving}
+use Rattle.rg_c.specs.Steps.{is_in, targets_beside}
 use Rattle.rg_c.proofs.Locals.{set_same}
 
 pub eq_self : (n : ℕ) → nat_eq n n ≡ true

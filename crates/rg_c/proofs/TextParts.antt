@@ -12,3 +12,7 @@ actions_end words reads i [] a = append-nil (action_text words reads i a)
 actions_end words reads i (b ∷ actions) a =
     ap (λ t. action_text words reads i b ++ t) (actions_end words reads i actions a)
     ∙ sym (append_assoc (action_text words reads i b) (actions_text words reads i actions) (action_text words reads i a))
+
+-- two texts, of which the second may be all that follows
+pub pushed_then : (old first second between after : List ℕ) → between ≡ old ++ first → after ≡ between ++ second → after ≡ old ++ (first ++ second)
+pushed_then old first second between after e f = f ∙ ap (λ (t : List ℕ). t ++ second) e ∙ append_assoc old first second

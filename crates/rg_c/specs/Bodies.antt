@@ -18,7 +18,8 @@ use Rattle.rg_c_values.specs.Printed.{test_text}
 use Rattle.rg_c.specs.Lines.{inner, mark_call, comment_line, skip_line, wait_line, if_open, else_line, block_close, while_open, forever_open, go_open, go_line, go_leave, go_if}
 use Rattle.rg_c.specs.Source.{assignment_source, assignments_source}
 use Rattle.rg_c.specs.Reads.{is_one_load, load_reads}
-use Rattle.rg_c.specs.StepTexts.{is_true, marked, mark_prefix, local_reads, enter_text, leave_text, step_text}
+use Rattle.rg_c.specs.Used.{is_used}
+use Rattle.rg_c.specs.StepTexts.{is_true, marked, mark_prefix, local_reads, enter_text, leave_text, section_note, step_text}
 
 -- what the text of a part depends on: the words and their kinds, the part's place, from 0, and whether steps are marked
 pub record PageTree : Type 0 where
@@ -50,7 +51,7 @@ go_reads words Section = local_reads words []
 -- a test that is worked out before, in a block of its own
 unfoldable pub go_text : PageTree → List ℕ → ℕ → Way → CTest → List ℕ
 go_text p i place way t =
-    go_open i (decimal place) ++ (marked (inner i) (mark_of p place) ++ (enter_text p.words (inner i) way
+    go_open i (decimal place) ++ (marked (inner i) (mark_of p place) ++ (enter_text p.words (inner i) (is_used way t []) way
     ++ (go_line (inner i) (decimal place) (test_text p.words (go_reads p.words way) t) ++ (leave_text (inner i) way ++ block_close i))))
 
 -- how an `if` begins, and a loop
@@ -95,11 +96,13 @@ await_text p i place row f act =
 -- the head of an `if` and of a loop, under its comment
 unfoldable pub if_text : PageTree → List ℕ → ℕ → ℕ → Proposition → List ℕ
 if_text p i place row f =
-    comment_line i (decimal row) (asked p.words (codes "if ") f) ++ if_begins p i place (way_of p.kinds (Some f) []) (test_in_c (widths_of p.words) f)
+    comment_line i (decimal row) (asked p.words (codes "if ") f) ++ (section_note p.words p.kinds i (Some f) []
+    ++ if_begins p i place (way_of p.kinds (Some f) []) (test_in_c (widths_of p.words) f))
 
 unfoldable pub loop_text : PageTree → List ℕ → ℕ → ℕ → Proposition → List ℕ
 loop_text p i place row f =
-    comment_line i (decimal row) (asked p.words (codes "while ") f) ++ loop_begins p i place (way_of p.kinds (Some f) []) (test_in_c (widths_of p.words) f)
+    comment_line i (decimal row) (asked p.words (codes "while ") f) ++ (section_note p.words p.kinds i (Some f) []
+    ++ loop_begins p i place (way_of p.kinds (Some f) []) (test_in_c (widths_of p.words) f))
 
 -- the line of a `skip`; nothing for another statement
 abbrev pub idle_line : Statement → Option ℕ

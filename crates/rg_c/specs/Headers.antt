@@ -1,22 +1,28 @@
 -- The text of a header.
-use Rattle.std.specs.Prelude.{ℕ, zero, suc, ◌+◌, Bool, false, List, [], ◌∷◌, ◌++◌, codes, map, length, slice_index, if◌then◌else◌}
+use Rattle.std.specs.Prelude.{ℕ, zero, suc, ◌+◌, nat_eq, Bool, false, ◌&&◌, List, [], ◌∷◌, ◌++◌, codes, map, length, slice_index, if◌then◌else◌}
 use Rattle.std.specs.List.{list_any}
 use Rattle.std.specs.Fmt.{decimal}
 use Rattle.rg_words.specs.Layout.{Word, widths_of}
+use Rattle.rg_words.specs.declared.operators.Connective.TheVariants.{And, Or, Implies, Iff}
 use Rattle.rg_tree.specs.Trees.{Proposition, truth, negation, connected, compared}
 use Rattle.rg_tree.specs.Printed.{formula_text}
 use Rattle.rg_tree.specs.Statements.{Statement, skip, assign, await, sequence, branch, loop, Specification, PartTree, ProgramTree}
 use Rattle.rg_c_plan.specs.declared.kind.Kind.{Kind}
 use Rattle.rg_c_plan.specs.declared.kind.Kind.TheVariants.{Fixed, Own, Atomic, Guarded}
+use Rattle.rg_c_plan.specs.Accesses.{places}
 use Rattle.rg_c_plan.specs.Ways.{kind_at, is_atomic, is_guarded}
 use Rattle.rg_c_values.specs.declared.print.Read.{Read}
 use Rattle.rg_c_values.specs.declared.print.Read.TheVariants.{Plain, Load}
-use Rattle.rg_c_values.specs.Translation.{test_in_c}
+use Rattle.rg_c_values.specs.Translation.{container, test_in_c}
 use Rattle.rg_c_values.specs.Printed.{test_text}
+use Rattle.rg_c_report.specs.declared.counts.Counts.{Counts}
+use Rattle.rg_c_report.specs.Counts.{counts_first, counts_second, counts_of}
+use Rattle.rg_c_report.specs.Parties.{parties_text}
 use Rattle.rg_c.specs.Texts.{name_of, type_of}
 use Rattle.rg_c.specs.Lines.{block_close}
 use Rattle.rg_c.specs.Bodies.{PageTree, statement_text, loop_text}
-use Rattle.rg_c.specs.Heads.{top_open, promise_line, rests_text, guard_open, atomics_text, hooks_text, sections_text, struct_open, field_line, struct_close, assertion_text, part_open, round_open, round_call, part_close, guard_close}
+use Rattle.rg_c.specs.Starts.{start_text}
+use Rattle.rg_c.specs.Heads.{top_open, promise_head, promise_line, rests_text, guard_open, atomics_open, lock_free_line, atomics_close, hooks_text, sections_text, struct_open, field_line, struct_close, assertion_text, part_open, round_open, round_call, part_close, guard_close}
 
 -- how a word of this kind is declared, and what is said of it
 abbrev pub kind_before : Kind → List ℕ
@@ -33,40 +39,84 @@ kind_after Guarded = []
 
 abbrev pub kind_what : Kind → List ℕ
 kind_what Fixed = codes "fixed"
-kind_what Own = codes "no two meet at it"
+kind_what Own = codes "plain"
 kind_what Atomic = codes "atomic"
-kind_what Guarded = codes "in critical sections alone"
+kind_what Guarded = codes "in critical sections"
+
+-- so many bits
+unfoldable pub bits_text : ℕ → List ℕ
+bits_text w = decimal w ++ (if nat_eq w 1 then codes " bit" else codes " bits")
+
+-- what is said of the k-th word: its bits, its kind, and who reads and who writes it
+unfoldable pub note_text : ProgramTree → List Kind → ℕ → List ℕ
+note_text p kinds k = bits_text (slice_index (widths_of p.words) k) ++ (codes ", " ++ (kind_what (kind_at kinds k) ++ (codes "; " ++ parties_text p k)))
 
 -- the k-th word as a field
-unfoldable pub field_text : List Word → List Kind → ℕ → List ℕ
-field_text words kinds k =
-    field_line (kind_before (kind_at kinds k)) (type_of words k) (kind_after (kind_at kinds k)) (name_of words k) (decimal (slice_index (widths_of words) k)) (kind_what (kind_at kinds k))
+unfoldable pub field_text : ProgramTree → List Kind → ℕ → List ℕ
+field_text p kinds k =
+    field_line (kind_before (kind_at kinds k)) (type_of p.words k) (kind_after (kind_at kinds k)) (name_of p.words k) (note_text p kinds k)
 
 -- n fields, from the k-th one on
-abbrev pub fields_text : List Word → List Kind → ℕ → ℕ → List ℕ
-fields_text words kinds k zero = []
-fields_text words kinds k (suc n) = field_text words kinds k ++ fields_text words kinds (k + 1) n
+abbrev pub fields_text : ProgramTree → List Kind → ℕ → ℕ → List ℕ
+fields_text p kinds k zero = []
+fields_text p kinds k (suc n) = field_text p kinds k ++ fields_text p kinds (k + 1) n
 
-unfoldable pub struct_text : List ℕ → List Word → List Kind → List ℕ
-struct_text name words kinds = struct_open name ++ (fields_text words kinds 0 (length words) ++ struct_close)
+unfoldable pub struct_text : List ℕ → ProgramTree → List Kind → List ℕ
+struct_text name p kinds = struct_open name ++ (fields_text p kinds 0 (length p.words) ++ struct_close)
 
 -- atomic words are read by loads, and all others plainly
 abbrev pub kind_reads : List Kind → List Read
 kind_reads kinds = map (λ kind. if is_atomic kind then Load else Plain) kinds
 
--- the formulas that are promised
+-- the conjuncts of a formula, each on a line, after what stands before the first
+abbrev pub conjunct_lines : List Word → List ℕ → Proposition → List ℕ
+conjunct_lines words before (truth b) = promise_line before (formula_text words (truth b) [])
+conjunct_lines words before (negation f) = promise_line before (formula_text words (negation f) [])
+conjunct_lines words before (compared c a b) = promise_line before (formula_text words (compared c a b) [])
+conjunct_lines words before (connected And f g) = conjunct_lines words before f ++ conjunct_lines words (codes " *     and ") g
+conjunct_lines words before (connected Or f g) = promise_line before (formula_text words (connected Or f g) [])
+conjunct_lines words before (connected Implies f g) = promise_line before (formula_text words (connected Implies f g) [])
+conjunct_lines words before (connected Iff f g) = promise_line before (formula_text words (connected Iff f g) [])
+
+-- a formula that is promised
 unfoldable pub promise_text : List Word → List ℕ → Proposition → List ℕ
-promise_text words what f = promise_line what (formula_text words f [])
+promise_text words what f = conjunct_lines words (promise_head what) f
+
+-- how many steps are done in each way
+unfoldable pub counts_text : Counts → List ℕ
+counts_text counts = codes " *\n * " ++ (counts_first counts ++ (codes "\n * " ++ (counts_second counts ++ codes "\n")))
+
+-- the four formulas
+unfoldable pub promises_text : List Word → Specification → List ℕ
+promises_text words spec =
+    promise_text words (codes "pre") spec.pre ++ (promise_text words (codes "rely") spec.rely
+    ++ (promise_text words (codes "guar") spec.guar ++ promise_text words (codes "post") spec.post))
 
 -- the comment at the top
-unfoldable pub top_text : List ℕ → List Word → Specification → List ℕ
-top_text name words spec =
-    top_open name ++ (promise_text words (codes "pre") spec.pre ++ (promise_text words (codes "rely") spec.rely
-    ++ (promise_text words (codes "guar") spec.guar ++ (promise_text words (codes "post") spec.post ++ rests_text))))
+unfoldable pub top_text : List ℕ → List Kind → ProgramTree → List ℕ
+top_text name kinds p = top_open name ++ (promises_text p.words p.spec ++ (counts_text (counts_of kinds p.parts) ++ rests_text))
+
+-- some atomic word has a type of so many bits
+abbrev pub has_atomic : List Word → List Kind → ℕ → Bool
+has_atomic words kinds n = list_any (λ k. is_atomic (kind_at kinds k) && nat_eq (container (slice_index (widths_of words) k)) n) (places words)
+
+-- that such a type has to be accessed without a lock
+unfoldable pub lock_free_text : List Word → List Kind → ℕ → List ℕ → List ℕ
+lock_free_text words kinds n test = if has_atomic words kinds n then lock_free_line test (decimal n) else []
+
+-- and all types of atomic words
+unfoldable pub lock_free_texts : List Word → List Kind → List ℕ
+lock_free_texts words kinds =
+    lock_free_text words kinds 8 (codes "ATOMIC_CHAR_LOCK_FREE == 2") ++ (lock_free_text words kinds 16 (codes "ATOMIC_SHORT_LOCK_FREE == 2")
+    ++ (lock_free_text words kinds 32 (codes "ATOMIC_INT_LOCK_FREE == 2 && ATOMIC_LONG_LOCK_FREE == 2") ++ lock_free_text words kinds 64 (codes "ATOMIC_LLONG_LOCK_FREE == 2")))
+
+-- how atomic words are accessed, unless the device says so
+unfoldable pub atomics_text : List Word → List Kind → List ℕ
+atomics_text words kinds = atomics_open ++ (lock_free_texts words kinds ++ atomics_close)
 
 -- what stands before the struct: where a word is touched in sections, the device has to say what these are
-unfoldable pub macros_text : List ℕ → List Kind → List ℕ
-macros_text name kinds = guard_open name ++ (atomics_text ++ (hooks_text ++ (if list_any is_guarded kinds then sections_text else [])))
+unfoldable pub macros_text : List ℕ → List Word → List Kind → List ℕ
+macros_text name words kinds = guard_open name ++ (atomics_text words kinds ++ (hooks_text ++ (if list_any is_guarded kinds then sections_text else [])))
 
 -- a function that tells whether a formula holds
 unfoldable pub asserted : List ℕ → List ℕ → List Word → List Kind → Proposition → List ℕ
@@ -115,6 +165,6 @@ parts_text name words kinds traced i (part ∷ parts) =
 -- a program under this name, with these kinds of words, its steps marked or not
 abbrev pub header_text : List ℕ → Bool → List Kind → ProgramTree → List ℕ
 header_text name traced kinds program =
-    top_text name program.words program.spec ++ (macros_text name kinds ++ (struct_text name program.words kinds
-    ++ (asserted name (codes "pre") program.words kinds program.spec.pre ++ (asserted name (codes "post") program.words kinds program.spec.post
-    ++ (parts_text name program.words kinds traced 0 program.parts ++ guard_close)))))
+    top_text name kinds program ++ (macros_text name program.words kinds ++ (struct_text name program kinds
+    ++ (start_text name program ++ (asserted name (codes "pre") program.words kinds program.spec.pre ++ (asserted name (codes "post") program.words kinds program.spec.post
+    ++ (parts_text name program.words kinds traced 0 program.parts ++ guard_close))))))

@@ -14,14 +14,13 @@ top_open name = joined (
     ∷ codes " * then each step of a part is inside guar, and where all parts have ended, post holds. A step is\n"
     ∷ codes " * one statement, or one test, under its comment. A name with ' is its value after the step.\n" ∷ [])
 
--- a formula of the specification
+-- what stands before a formula of the specification
+unfoldable pub promise_head : List ℕ → List ℕ
+promise_head what = joined (codes " *   " ∷ what ∷ codes ": " ∷ [])
+
+-- a formula of the specification, or a conjunct of one, after what stands before it
 unfoldable pub promise_line : List ℕ → List ℕ → List ℕ
-promise_line what formula = joined (
-    codes " *   "
-    ∷ what
-    ∷ codes ": "
-    ∷ formula
-    ∷ codes "\n" ∷ [])
+promise_line before formula = joined (before ∷ formula ∷ codes "\n" ∷ [])
 
 -- what the promise rests on
 unfoldable pub rests_text : List ℕ
@@ -42,11 +41,23 @@ guard_open name = joined (
     ∷ codes "\n\n#include <stdbool.h>\n#include <stdint.h>\n\n" ∷ [])
 
 -- how atomic words are accessed, unless the device says so
-unfoldable pub atomics_text : List ℕ
-atomics_text = joined (
+unfoldable pub atomics_open : List ℕ
+atomics_open = joined (
     codes "#ifndef RGC_LOAD\n"
-    ∷ codes "#include <stdatomic.h>\n"
-    ∷ codes "#define RGC_ATOMIC(type) _Atomic type\n"
+    ∷ codes "#include <stdatomic.h>\n" ∷ [])
+
+-- that a type of so many bits has to be accessed without a lock
+unfoldable pub lock_free_line : List ℕ → List ℕ → List ℕ
+lock_free_line test bits = joined (
+    codes "_Static_assert("
+    ∷ test
+    ∷ codes ", \"no lock-free access of "
+    ∷ bits
+    ∷ codes " bits: define RGC_ATOMIC, RGC_LOAD, RGC_STORE and RGC_CAS\");\n" ∷ [])
+
+unfoldable pub atomics_close : List ℕ
+atomics_close = joined (
+    codes "#define RGC_ATOMIC(type) _Atomic type\n"
     ∷ codes "#define RGC_LOAD(at) atomic_load(at)\n"
     ∷ codes "#define RGC_STORE(at, value) atomic_store((at), (value))\n"
     ∷ codes "#define RGC_CAS(at, old, value) atomic_compare_exchange_strong((at), &(old), (value))\n"
@@ -78,8 +89,8 @@ struct_open name = joined (
     ∷ codes " {\n" ∷ [])
 
 -- a word
-unfoldable pub field_line : List ℕ → List ℕ → List ℕ → List ℕ → List ℕ → List ℕ → List ℕ
-field_line before kind after name width what = joined (
+unfoldable pub field_line : List ℕ → List ℕ → List ℕ → List ℕ → List ℕ → List ℕ
+field_line before kind after name what = joined (
     codes "    "
     ∷ before
     ∷ kind
@@ -87,8 +98,6 @@ field_line before kind after name width what = joined (
     ∷ codes " "
     ∷ name
     ∷ codes "; /* "
-    ∷ width
-    ∷ codes " bits: "
     ∷ what
     ∷ codes " */\n" ∷ [])
 
@@ -96,6 +105,15 @@ field_line before kind after name width what = joined (
 unfoldable pub struct_close : List ℕ
 struct_close = joined (
     codes "};\n" ∷ [])
+
+-- a start of the words, as a macro
+unfoldable pub start_lines : List ℕ → List ℕ → List ℕ
+start_lines name members = joined (
+    codes "\n/* A start inside pre. */\n#define "
+    ∷ name
+    ∷ codes "_START { "
+    ∷ members
+    ∷ codes " }\n" ∷ [])
 
 -- a function that tells whether a formula holds
 unfoldable pub assertion_text : List ℕ → List ℕ → List ℕ → List ℕ

@@ -6,8 +6,10 @@ pub mod Fitting
 pub mod Source
 pub mod Texts
 pub mod Reads
+pub mod Used
 pub mod StepTexts
 pub mod Bodies
 pub mod Pages
 pub mod Heads
+pub mod Starts
 pub mod Headers

@@ -14,6 +14,10 @@ inner indent = joined (indent ∷ codes "    " ∷ [])
 unfoldable pub load_line : List ℕ → List ℕ → List ℕ → List ℕ
 load_line indent kind name = joined (indent ∷ codes "const " ∷ kind ∷ codes " " ∷ name ∷ codes "_ = RGC_LOAD(&w->" ∷ name ∷ codes ");\n" ∷ [])
 
+-- an atomic load of a word whose value isn't read
+unfoldable pub discard_line : List ℕ → List ℕ → List ℕ
+discard_line indent name = joined (indent ∷ codes "(void)RGC_LOAD(&w->" ∷ name ∷ codes ");\n" ∷ [])
+
 -- an atomic load of a word that is to be exchanged, and its local
 unfoldable pub begin_lines : List ℕ → List ℕ → List ℕ → List ℕ
 begin_lines indent kind name = joined (indent ∷ kind ∷ codes " rgc_old = RGC_LOAD(&w->" ∷ name ∷ codes ");\n" ∷ indent ∷ kind ∷ codes " " ∷ name ∷ codes "_ = rgc_old;\n" ∷ [])
@@ -58,9 +62,9 @@ block_close indent = joined (indent ∷ codes "}\n" ∷ [])
 unfoldable pub attempt_open : List ℕ → List ℕ
 attempt_open indent = joined (indent ∷ codes "for (bool rgc_done = false; !rgc_done;) {\n" ∷ [])
 
--- whether the step is made, and the beginning of what is done then
-unfoldable pub held_test : List ℕ → List ℕ → List ℕ
-held_test indent test = joined (indent ∷ codes "rgc_done = " ∷ test ∷ codes ";\n" ∷ indent ∷ codes "if (rgc_done) {\n" ∷ [])
+-- whether the step is made
+unfoldable pub done_line : List ℕ → List ℕ → List ℕ
+done_line indent test = joined (indent ∷ codes "rgc_done = " ∷ test ∷ codes ";\n" ∷ [])
 
 -- waiting where the step wasn't made
 unfoldable pub retry : List ℕ → List ℕ
@@ -78,7 +82,7 @@ else_line indent = joined (indent ∷ codes "} else {\n" ∷ [])
 unfoldable pub else_wait : List ℕ → List ℕ
 else_wait indent = joined (indent ∷ codes "} else {\n" ∷ indent ∷ codes "    RGC_WAIT(w);\n" ∷ indent ∷ codes "}\n" ∷ [])
 
--- the beginning of what is done where the exchange was made
+-- the beginning of what is done where the step is made
 unfoldable pub done_open : List ℕ → List ℕ
 done_open indent = joined (indent ∷ codes "if (rgc_done) {\n" ∷ [])
 
@@ -125,6 +129,10 @@ mark_call part place = joined (codes "RGC_AT(" ∷ part ∷ codes ", " ∷ place
 -- a step in the program's own words, with its line
 unfoldable pub comment_line : List ℕ → List ℕ → List ℕ → List ℕ
 comment_line indent line statement = joined (indent ∷ codes "/* " ∷ line ∷ codes ": " ∷ statement ∷ codes " */\n" ∷ [])
+
+-- that a step is done in a section, for these words
+unfoldable pub note_line : List ℕ → List ℕ → List ℕ
+note_line indent names = joined (indent ∷ codes "/* a critical section, for " ∷ names ∷ codes " */\n" ∷ [])
 
 -- a hook for a step that changes nothing
 unfoldable pub skip_line : List ℕ → List ℕ → List ℕ

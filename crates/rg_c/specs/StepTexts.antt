@@ -5,15 +5,18 @@ use Rattle.rg_tree.specs.Trees.{Proposition, Assignment}
 use Rattle.rg_c_plan.specs.declared.kind.Kind.{Kind}
 use Rattle.rg_c_plan.specs.declared.way.Way.{Way}
 use Rattle.rg_c_plan.specs.declared.way.Way.TheVariants.{Direct, Load, Store, Exchange, Section}
-use Rattle.rg_c_plan.specs.Ways.{way_of}
+use Rattle.rg_c_plan.specs.Ways.{way_of, met_words}
 use Rattle.rg_c_values.specs.declared.print.Read.{Read}
 use Rattle.rg_c_values.specs.declared.print.Read.TheVariants.{Plain, Local}
 use Rattle.rg_c_values.specs.CTrees.{CTest, c_truth, c_not, c_joined, c_compared}
 use Rattle.rg_c_values.specs.Printed.{test_text}
 use Rattle.rg_c.specs.Actions.{Action, CStep}
-use Rattle.rg_c.specs.Steps.{targets_beside, step_by, test_of, moving}
-use Rattle.rg_c.specs.Lines.{joined, inner, mark_line, wait_loop, block_open, block_close, attempt_open, held_test, retry, if_open, else_wait, done_open, enter_line, leave_line, load_line}
+use Rattle.rg_c_report.specs.Moving.{moving}
+use Rattle.rg_c_report.specs.Counts.{is_section}
+use Rattle.rg_c.specs.Steps.{targets_beside, step_by, test_of}
+use Rattle.rg_c.specs.Lines.{joined, inner, mark_line, wait_loop, block_open, block_close, attempt_open, done_line, retry, if_open, else_wait, done_open, enter_line, leave_line, load_line, discard_line, note_line}
 use Rattle.rg_c.specs.Reads.{is_one_load, load_reads}
+use Rattle.rg_c.specs.Used.{is_used}
 use Rattle.rg_c.specs.Texts.{name_of, type_of, actions_text}
 
 -- the test is always true
@@ -43,13 +46,13 @@ local_reads words ks = with_locals (replicate (length words) Plain) ks
 unfoldable pub waits : List Word → List ℕ → List ℕ → CTest → List ℕ
 waits words i mark t = if is_true t then marked i mark else wait_loop i (mark_prefix mark) (test_text words [] t)
 
--- how a step begins and ends that is done in a section, or over a local
-unfoldable pub enter_text : List Word → List ℕ → Way → List ℕ
-enter_text words i Direct = []
-enter_text words i (Load x) = load_line i (type_of words x) (name_of words x)
-enter_text words i (Store x) = []
-enter_text words i (Exchange x) = []
-enter_text words i Section = enter_line i
+-- how a step begins and ends that is done in a section, or over a local; a load has a local only where that is used
+unfoldable pub enter_text : List Word → List ℕ → Bool → Way → List ℕ
+enter_text words i used Direct = []
+enter_text words i used (Load x) = if used then load_line i (type_of words x) (name_of words x) else discard_line i (name_of words x)
+enter_text words i used (Store x) = []
+enter_text words i used (Exchange x) = []
+enter_text words i used Section = enter_line i
 
 unfoldable pub leave_text : List ℕ → Way → List ℕ
 leave_text i Direct = []
@@ -58,23 +61,28 @@ leave_text i (Store x) = []
 leave_text i (Exchange x) = []
 leave_text i Section = leave_line i
 
--- such a step: in a block, or in a loop until its test is true
-unfoldable pub held_free : List Word → List Read → List ℕ → List ℕ → Way → List Action → List ℕ
-held_free words reads i mark way actions =
-    block_open i ++ (marked (inner i) mark ++ (enter_text words (inner i) way ++ (actions_text words reads (inner i) actions ++ (leave_text (inner i) way ++ block_close i))))
+-- what comes after a test, or an exchange, where it was true or made
+unfoldable pub after_text : List Word → List Read → List ℕ → List Action → List ℕ
+after_text words reads i after = if nat_eq (length after) 0 then [] else done_open i ++ (actions_text words reads (inner i) after ++ block_close i)
 
-unfoldable pub held_begins : List Word → List Read → List ℕ → List ℕ → Way → CTest → List ℕ
-held_begins words reads i mark way t = attempt_open i ++ (marked (inner i) mark ++ (enter_text words (inner i) way ++ held_test (inner i) (test_text words reads t)))
+-- such a step: in a block, or in a loop until its test is true
+unfoldable pub held_free : List Word → List Read → List ℕ → List ℕ → Way → CTest → List Action → List ℕ
+held_free words reads i mark way t actions =
+    block_open i ++ (marked (inner i) mark ++ (enter_text words (inner i) (is_used way t actions) way ++ (actions_text words reads (inner i) actions ++ (leave_text (inner i) way ++ block_close i))))
+
+unfoldable pub held_begins : List Word → List Read → List ℕ → List ℕ → Way → CTest → List Action → List ℕ
+held_begins words reads i mark way t actions =
+    attempt_open i ++ (marked (inner i) mark ++ (enter_text words (inner i) (is_used way t actions) way ++ done_line (inner i) (test_text words reads t)))
 
 unfoldable pub held_ends : List ℕ → Way → List ℕ
-held_ends i way = block_close (inner i) ++ (leave_text (inner i) way ++ (retry (inner i) ++ block_close i))
+held_ends i way = leave_text (inner i) way ++ (retry (inner i) ++ block_close i)
 
 unfoldable pub held_tested : List Word → List Read → List ℕ → List ℕ → Way → CTest → List Action → List ℕ
 held_tested words reads i mark way t actions =
-    held_begins words reads i mark way t ++ (actions_text words reads (inner (inner i)) actions ++ held_ends i way)
+    held_begins words reads i mark way t actions ++ (after_text words reads (inner i) actions ++ held_ends i way)
 
 unfoldable pub held_text : List Word → List Read → List ℕ → List ℕ → Way → CTest → List Action → List ℕ
-held_text words reads i mark way t actions = if is_true t then held_free words reads i mark way actions else held_tested words reads i mark way t actions
+held_text words reads i mark way t actions = if is_true t then held_free words reads i mark way t actions else held_tested words reads i mark way t actions
 
 -- a step that loads this word: where it assigns nothing and its test loads the word once, it waits; else it is done over a local
 unfoldable pub loaded_wait : List Word → List ℕ → List ℕ → ℕ → CTest → List ℕ
@@ -84,13 +92,9 @@ unfoldable pub loaded_text : List Word → List ℕ → List ℕ → ℕ → CTe
 loaded_text words i mark x t actions =
     if nat_eq (length actions) 0 && is_one_load x t then loaded_wait words i mark x t else held_text words (local_reads words (x ∷ [])) i mark (Load x) t actions
 
--- what comes after an exchange that was made
-unfoldable pub after_text : List Word → List ℕ → List Action → List ℕ
-after_text words i after = if nat_eq (length after) 0 then [] else done_open i ++ (actions_text words [] (inner i) after ++ block_close i)
-
 -- an exchange, with the changes of locals before it and what comes after it; where there is a test, in its `if`
 unfoldable pub changed_text : List Word → List Read → List ℕ → List Action → List Action → List ℕ
-changed_text words reads i actions after = actions_text words reads i actions ++ after_text words i after
+changed_text words reads i actions after = actions_text words reads i actions ++ after_text words [] i after
 
 unfoldable pub tried_text : List Word → List Read → List ℕ → CTest → List Action → List Action → List ℕ
 tried_text words reads i t actions after =
@@ -116,6 +120,20 @@ done_text words i mark (Load x) t act =
 done_text words i mark Section t act = let c = step_by (widths_of words) Section t act in held_text words (local_reads words []) i mark Section c.test c.actions
 done_text words i mark (Exchange x) t act = exchange_text words (local_reads words (x ∷ targets_beside (x ∷ []) act)) i mark (step_by (widths_of words) (Exchange x) t act)
 
+-- names of words in C, each after a comma, and with commas between them
+abbrev pub more_names : List Word → List ℕ → List ℕ
+more_names words [] = []
+more_names words (k ∷ ks) = codes ", " ++ (name_of words k ++ more_names words ks)
+
+abbrev pub names_text : List Word → List ℕ → List ℕ
+names_text words [] = []
+names_text words (k ∷ ks) = name_of words k ++ more_names words ks
+
+-- of a step in a section, at which words it may meet others; nothing of another step
+unfoldable pub section_note : List Word → List Kind → List ℕ → Option Proposition → List Assignment → List ℕ
+section_note words kinds i guard act = if is_section (way_of kinds guard act) then note_line i (names_text words (met_words kinds guard act)) else []
+
 -- a step of the program, by the kinds of its words
 unfoldable pub step_text : List Word → List Kind → List ℕ → List ℕ → Option Proposition → List Assignment → List ℕ
-step_text words kinds i mark guard act = done_text words i mark (way_of kinds guard (moving act)) (test_of (widths_of words) guard) (moving act)
+step_text words kinds i mark guard act =
+    section_note words kinds i guard (moving act) ++ done_text words i mark (way_of kinds guard (moving act)) (test_of (widths_of words) guard) (moving act)

@@ -1,29 +1,16 @@
 -- The steps of C for the steps of a program, by the way in which they are done.
-use Rattle.std.specs.Prelude.{ℕ, Bool, true, false, not, nat_eq, List, [], ◌∷◌, ◌++◌, map, slice_index, if◌then◌else◌}
-use Rattle.std.specs.List.{filter, list_any}
+use Rattle.std.specs.Prelude.{ℕ, Bool, true, nat_eq, List, [], ◌∷◌, ◌++◌, map, slice_index, if◌then◌else◌}
+use Rattle.std.specs.List.{list_any}
 use Rattle.std.specs.Prelude.{Option, Some, None}
-use Rattle.rg_tree.specs.Trees.{Expression, Proposition, Assignment, number, word, next_word, inverse, binary, shifted, choice}
+use Rattle.rg_tree.specs.Trees.{Proposition, Assignment}
 use Rattle.rg_c_plan.specs.declared.kind.Kind.{Kind}
 use Rattle.rg_c_plan.specs.declared.way.Way.{Way}
 use Rattle.rg_c_plan.specs.declared.way.Way.TheVariants.{Direct, Load, Store, Exchange, Section}
 use Rattle.rg_c_plan.specs.Ways.{way_of}
+use Rattle.rg_c_report.specs.Moving.{moving}
 use Rattle.rg_c_values.specs.CTrees.{CValue, CTest, c_truth}
 use Rattle.rg_c_values.specs.Translation.{test_in_c, stored_in_c}
 use Rattle.rg_c.specs.Actions.{Action, loads, begins, copies, changes, writes, stores, exchanges, returns, CStep}
-
--- the value is the word itself
-abbrev pub is_word : ℕ → Expression → Bool
-is_word k (number w n) = false
-is_word k (word j) = nat_eq k j
-is_word k (next_word j) = false
-is_word k (inverse w a) = false
-is_word k (binary o w a b) = false
-is_word k (shifted d w a n) = false
-is_word k (choice f a b) = false
-
--- the assignments without those of a word to itself, which change nothing
-abbrev pub moving : List Assignment → List Assignment
-moving act = filter (λ a. not (is_word a.target a.value)) act
 
 -- a number is in a list
 abbrev pub is_in : ℕ → List ℕ → Bool

@@ -5,6 +5,7 @@ use Rattle.rg_words.specs.Layout.{Word, names_of, widths_of}
 use Rattle.rg_c_values.specs.declared.print.Read.{Read}
 use Rattle.rg_c_values.specs.CNames.{c_name}
 use Rattle.rg_c_values.specs.Printed.{value_text}
+use Rattle.rg_c.specs.Reads.{is_load_of}
 use Rattle.rg_c.specs.Actions.{Action, loads, begins, copies, changes, writes, stores, exchanges, returns}
 use Rattle.rg_c.specs.Lines.{load_line, begin_lines, copy_line, change_line, write_line, store_line, exchange_line, return_line}
 
@@ -19,13 +20,13 @@ type_text w = if nat_le w 8 then codes "uint8_t" else if nat_le w 16 then codes 
 abbrev pub type_of : List Word → ℕ → List ℕ
 type_of words k = type_text (slice_index (widths_of words) k)
 
--- an action, after this indent, words read so
+-- an action, after this indent, words read so; nothing where a word, or its local, would get the value that it has
 abbrev pub action_text : List Word → List Read → List ℕ → Action → List ℕ
 action_text words reads i (loads k) = load_line i (type_of words k) (name_of words k)
 action_text words reads i (begins k) = begin_lines i (type_of words k) (name_of words k)
 action_text words reads i (copies k) = copy_line i (type_of words k) (name_of words k)
-action_text words reads i (changes k v) = change_line i (name_of words k) (value_text words reads v)
-action_text words reads i (writes k v) = write_line i (name_of words k) (value_text words reads v)
+action_text words reads i (changes k v) = if is_load_of k v then [] else change_line i (name_of words k) (value_text words reads v)
+action_text words reads i (writes k v) = if is_load_of k v then [] else write_line i (name_of words k) (value_text words reads v)
 action_text words reads i (stores k v) = store_line i (name_of words k) (value_text words reads v)
 action_text words reads i (exchanges k) = exchange_line i (name_of words k)
 action_text words reads i (returns k) = return_line i (name_of words k)

@@ -9,16 +9,19 @@ ghost use Rattle.rg_c_values.specs.View.{value};
 ghost use Rattle.rg_c_values.specs.Printed.{value_text};
 ghost use Rattle.rg_c.specs.Actions.{loads, begins, copies, exchanges, returns};
 ghost use Rattle.rg_c.specs.Steps.{written, written_or_stored, changed, value_for};
+ghost use Rattle.rg_c.specs.Lines.{discard_line};
 ghost use Rattle.rg_c.specs.Texts.{name_of, type_text, type_of, action_text, actions_text};
 ghost use Rattle.rg_c.specs.Fitting.{AssignmentsFit};
 
 use crate::lines::{
-    push_begin_lines, push_change_line, push_copy_line, push_exchange_line, push_load_line,
-    push_return_line, push_store_line, push_write_line,
+    push_begin_lines, push_change_line, push_copy_line, push_discard_line, push_exchange_line,
+    push_load_line, push_return_line, push_store_line, push_write_line,
 };
+use crate::reads::is_load_of;
 use rg_c_values::names::push_c_name;
 use rg_c_values::print::{Read, print_value};
 use rg_c_values::translate::stored_in_c;
+use rg_c_values::tree::Value;
 use rg_tree::condition::Assign;
 use rg_words::Layout;
 use std::alloc::{AllocError, Global};
@@ -65,15 +68,10 @@ pub(crate) fn type_of(layout: &Layout, word: usize) -> &'static str
     }
 }
 
-/// The text of what is stored by an assignment.
-fn stored_text(
-    alloc: Global,
-    layout: &Layout,
-    reads: &[Read],
-    a: &Assign,
-) -> Result<String, AllocError>
+/// What is stored by an assignment.
+pub(crate) fn stored_value(alloc: Global, layout: &Layout, a: &Assign) -> Result<Value, AllocError>
     requires { ExpressionFits (expression a.now.value) (length layout.now) }
-    ensures { IfOk result (λ text. string_bytes text ≡ value_text layout.now reads.now (value_for (widths_of layout.now) (assignment a.now))) }
+    ensures { IfOk result (λ v. value v ≡ value_for (widths_of layout.now) (assignment a.now)) }
 {
     let width = if a.word < layout.len() {
         layout.width(a.word)
@@ -81,8 +79,20 @@ fn stored_text(
         0
     };
     let v = stored_in_c(alloc, layout, width, &a.value)?;
+    Ok(v)
+}
+
+/// The text of a value.
+fn value_text(
+    alloc: Global,
+    layout: &Layout,
+    reads: &[Read],
+    v: &Value,
+) -> Result<String, AllocError>
+    ensures { IfOk result (λ text. string_bytes text ≡ value_text layout.now reads.now (value v.now)) }
+{
     let mut text = String::new(alloc);
-    print_value(&mut text, layout, reads, &v)?;
+    print_value(&mut text, layout, reads, v)?;
     Ok(text)
 }
 
@@ -99,6 +109,20 @@ pub(crate) fn push_load(
     let name = name_of(alloc, layout, word)?;
     let kind = type_of(layout, word);
     push_load_line(text, indent, kind, &name)
+}
+
+/// Adds the load of a word whose value isn't read.
+pub(crate) fn push_discard(
+    alloc: Global,
+    text: &mut String,
+    layout: &Layout,
+    indent: &str,
+    word: usize,
+) -> Result<(), AllocError>
+    ensures { OnOk result (string_bytes text.new ≡ string_bytes text.old ++ discard_line indent.now (name_of layout.now word)) }
+{
+    let name = name_of(alloc, layout, word)?;
+    push_discard_line(text, indent, &name)
 }
 
 /// Adds the load of a word that is to be exchanged, and its local.
@@ -203,8 +227,12 @@ fn push_change(
     requires { ExpressionFits (expression a.now.value) (length layout.now) }
     ensures { OnOk result (string_bytes text.new ≡ string_bytes text.old ++ action_text layout.now reads.now indent.now (changed (widths_of layout.now) (assignment a.now))) }
 {
+    let v = stored_value(alloc, layout, a)?;
+    if is_load_of(a.word, &v) {
+        return Ok(());
+    }
     let name = name_of(alloc, layout, a.word)?;
-    let value = stored_text(alloc, layout, reads, a)?;
+    let value = value_text(alloc, layout, reads, &v)?;
     push_change_line(text, indent, &name, &value)
 }
 
@@ -220,8 +248,12 @@ fn push_write(
     requires { ExpressionFits (expression a.now.value) (length layout.now) }
     ensures { OnOk result (string_bytes text.new ≡ string_bytes text.old ++ action_text layout.now reads.now indent.now (written (widths_of layout.now) (assignment a.now))) }
 {
+    let v = stored_value(alloc, layout, a)?;
+    if is_load_of(a.word, &v) {
+        return Ok(());
+    }
     let name = name_of(alloc, layout, a.word)?;
-    let value = stored_text(alloc, layout, reads, a)?;
+    let value = value_text(alloc, layout, reads, &v)?;
     push_write_line(text, indent, &name, &value)
 }
 
@@ -237,13 +269,13 @@ fn push_write_or_store(
     requires { ExpressionFits (expression a.now.value) (length layout.now) }
     ensures { OnOk result (string_bytes text.new ≡ string_bytes text.old ++ action_text layout.now [] indent.now (written_or_stored (widths_of layout.now) stored (assignment a.now))) }
 {
-    let name = name_of(alloc, layout, a.word)?;
-    let value = stored_text(alloc, layout, &[], a)?;
-    if stored == a.word {
-        push_store_line(text, indent, &name, &value)
-    } else {
-        push_write_line(text, indent, &name, &value)
+    if stored != a.word {
+        return push_write(alloc, text, layout, &[], indent, a);
     }
+    let v = stored_value(alloc, layout, a)?;
+    let name = name_of(alloc, layout, a.word)?;
+    let value = value_text(alloc, layout, &[], &v)?;
+    push_store_line(text, indent, &name, &value)
 }
 
 /// Adds assignments to locals.

@@ -8,22 +8,26 @@ ghost use Rattle.rg_tree.specs.ProgramView.{statement, specification, part as pa
 ghost use Rattle.rg_tree.specs.ProgramTrees.{program as program_tree};
 ghost use Rattle.rg_code.specs.Code.{count_of};
 ghost use Rattle.rg_c_plan.specs.Ways.{kind_at, is_guarded};
-ghost use Rattle.rg_c.specs.Headers.{kind_before, kind_after, kind_what, field_text, fields_text, struct_text, kind_reads, promise_text, top_text, macros_text, asserted, run_text, one_round, all_rounds, round_text, is_always, body_text, part_text, parts_text, header_text};
+ghost use Rattle.rg_c.specs.Headers.{kind_before, kind_after, kind_what, bits_text, note_text, field_text, fields_text, struct_text, kind_reads, conjunct_lines, promise_text, promises_text, counts_text, top_text, has_atomic, lock_free_text, lock_free_texts, atomics_text, macros_text, asserted, run_text, one_round, all_rounds, round_text, is_always, body_text, part_text, parts_text, header_text};
 ghost use Rattle.rg_c.specs.Fitting.{StatementFits, SpecificationFits, PartsFit};
 ghost use Rattle.rg_c.specs.Pages.{page as page_tree};
 
 use crate::actions::{name_of, type_of};
 use crate::heads::{
-    push_assertion_text, push_atomics_text, push_field_line, push_guard_close, push_guard_open,
-    push_hooks_text, push_part_close, push_part_open, push_promise_line, push_rests_text,
-    push_round_call, push_round_open, push_sections_text, push_struct_close, push_struct_open,
-    push_top_open,
+    promise_head, push_assertion_text, push_atomics_close, push_atomics_open, push_field_line,
+    push_guard_close, push_guard_open, push_hooks_text, push_lock_free_line, push_part_close,
+    push_part_open, push_promise_line, push_rests_text, push_round_call, push_round_open,
+    push_sections_text, push_struct_close, push_struct_open, push_top_open,
 };
 use crate::lines::push_block_close;
 use crate::page::{Page, digits};
+use crate::start::push_start;
 use crate::statements::{push_loop, push_statement};
 use crate::steps::test_text;
 use rg_c_plan::kind::Kind;
+use rg_c_report::counts::{Counts, counts_of, push_counts_first, push_counts_second};
+use rg_c_report::parties::push_parties;
+use rg_c_values::pieces::container;
 use rg_c_values::print::Read;
 use rg_c_values::translate::test_in_c;
 use rg_tree::part::{Part, Spec};
@@ -32,6 +36,7 @@ use rg_tree::program::Program;
 use rg_tree::statement::Stmt;
 use rg_tree::tree::Formula;
 use rg_words::Layout;
+use rg_words::operators::Connective;
 use std::alloc::{AllocError, Global};
 
 /// How a header is made.
@@ -78,10 +83,39 @@ fn kind_what(kind: Kind) -> &'static str
 {
     match kind {
         Kind::Fixed => "fixed",
-        Kind::Own => "no two meet at it",
+        Kind::Own => "plain",
         Kind::Atomic => "atomic",
-        Kind::Guarded => "in critical sections alone",
+        Kind::Guarded => "in critical sections",
     }
+}
+
+/// So many bits.
+#[tactic(auto, unfolding(crate::specs::Headers::bits_text))]
+fn bits_text(alloc: Global, width: u32) -> Result<String, AllocError>
+    ensures { IfOk result (λ text. string_bytes text ≡ bits_text width) }
+{
+    let mut text = digits(alloc, u64::from(width))?;
+    text.push_str(if width == 1 { " bit" } else { " bits" })?;
+    Ok(text)
+}
+
+/// What is said of a word.
+#[tactic(auto, unfolding(crate::specs::Headers::note_text))]
+fn note_text(
+    alloc: Global,
+    program: &Program,
+    kinds: &[Kind],
+    word: usize,
+) -> Result<String, AllocError>
+    requires { word < length program.now.layout }
+    ensures { IfOk result (λ text. string_bytes text ≡ note_text (program_tree program.now) kinds.now word) }
+{
+    let mut text = bits_text(alloc, program.layout.width(word))?;
+    text.push_str(", ")?;
+    text.push_str(kind_what(kind_at(kinds, word)))?;
+    text.push_str("; ")?;
+    push_parties(alloc, &mut text, program, word)?;
+    Ok(text)
 }
 
 /// Adds a word as a field.
@@ -89,24 +123,23 @@ fn kind_what(kind: Kind) -> &'static str
 fn push_field(
     alloc: Global,
     text: &mut String,
-    layout: &Layout,
+    program: &Program,
     kinds: &[Kind],
     word: usize,
 ) -> Result<(), AllocError>
-    requires { word < length layout.now }
-    ensures { OnOk result (string_bytes text.new ≡ string_bytes text.old ++ field_text layout.now kinds.now word) }
+    requires { word < length program.now.layout }
+    ensures { OnOk result (string_bytes text.new ≡ string_bytes text.old ++ field_text (program_tree program.now) kinds.now word) }
 {
     let kind = kind_at(kinds, word);
-    let name = name_of(alloc, layout, word)?;
-    let width = digits(alloc, u64::from(layout.width(word)))?;
+    let name = name_of(alloc, &program.layout, word)?;
+    let note = note_text(alloc, program, kinds, word)?;
     push_field_line(
         text,
         kind_before(kind),
-        type_of(layout, word),
+        type_of(&program.layout, word),
         kind_after(kind),
         &name,
-        &width,
-        kind_what(kind),
+        &note,
     )
 }
 
@@ -116,13 +149,13 @@ fn push_struct(
     alloc: Global,
     text: &mut String,
     name: &str,
-    layout: &Layout,
+    program: &Program,
     kinds: &[Kind],
 ) -> Result<(), AllocError>
-    ensures { OnOk result (string_bytes text.new ≡ string_bytes text.old ++ struct_text name.now layout.now kinds.now) }
+    ensures { OnOk result (string_bytes text.new ≡ string_bytes text.old ++ struct_text name.now (program_tree program.now) kinds.now) }
 {
     push_struct_open(text, name)?;
-    push_fields(alloc, text, layout, kinds)?;
+    push_fields(alloc, text, program, kinds)?;
     push_struct_close(text)
 }
 
@@ -130,13 +163,13 @@ fn push_struct(
 fn push_fields(
     alloc: Global,
     text: &mut String,
-    layout: &Layout,
+    program: &Program,
     kinds: &[Kind],
 ) -> Result<(), AllocError>
-    ensures { OnOk result (string_bytes text.new ≡ string_bytes text.old ++ fields_text layout.now kinds.now 0 (length layout.now)) }
+    ensures { OnOk result (string_bytes text.new ≡ string_bytes text.old ++ fields_text (program_tree program.now) kinds.now 0 (length program.now.layout)) }
 {
-    for word in 0..layout.len() {
-        push_field(alloc, text, layout, kinds, word)?;
+    for word in 0..program.layout.len() {
+        push_field(alloc, text, program, kinds, word)?;
     }
     Ok(())
 }
@@ -155,6 +188,30 @@ fn kind_reads(alloc: Global, kinds: &[Kind]) -> Result<Vec<Read>, AllocError>
     Ok(reads)
 }
 
+/// Adds the conjuncts of a formula, each on a line, after what stands before the first.
+#[cycle(promises)]
+fn push_conjuncts(
+    alloc: Global,
+    text: &mut String,
+    layout: &Layout,
+    before: &str,
+    f: &Formula,
+) -> Result<(), AllocError>
+    requires { FormulaFits (formula f.now) (length layout.now) }
+    ensures { OnOk result (string_bytes text.new ≡ string_bytes text.old ++ conjunct_lines layout.now before.now (formula f.now)) }
+{
+    match f {
+        Formula::Connect(Connective::And, f, g) => {
+            push_conjuncts(alloc, text, layout, before, f)?;
+            push_conjuncts(alloc, text, layout, " *     and ", g)
+        }
+        _ => {
+            let conjunct = print(alloc, layout, f)?;
+            push_promise_line(text, before, &conjunct)
+        }
+    }
+}
+
 /// Adds a formula that is promised.
 #[tactic(auto, unfolding(crate::specs::Headers::promise_text))]
 fn push_promise(
@@ -167,8 +224,38 @@ fn push_promise(
     requires { FormulaFits (formula f.now) (length layout.now) }
     ensures { OnOk result (string_bytes text.new ≡ string_bytes text.old ++ promise_text layout.now what.now (formula f.now)) }
 {
-    let promised = print(alloc, layout, f)?;
-    push_promise_line(text, what, &promised)
+    let before = promise_head(alloc, what)?;
+    push_conjuncts(alloc, text, layout, &before, f)
+}
+
+/// Adds the four formulas.
+#[tactic(auto, unfolding(crate::specs::Headers::promises_text))]
+fn push_promises(
+    alloc: Global,
+    text: &mut String,
+    layout: &Layout,
+    spec: &Spec,
+) -> Result<(), AllocError>
+    requires { SpecificationFits (length layout.now) (specification spec.now) }
+    ensures { OnOk result (string_bytes text.new ≡ string_bytes text.old ++ promises_text layout.now (specification spec.now)) }
+{
+    push_promise(alloc, text, layout, "pre", &spec.pre)?;
+    push_promise(alloc, text, layout, "rely", &spec.rely)?;
+    push_promise(alloc, text, layout, "guar", &spec.guar)?;
+    push_promise(alloc, text, layout, "post", &spec.post)
+}
+
+/// Adds how many steps are done in each way.
+#[tactic(auto, unfolding(crate::specs::Headers::counts_text))]
+fn push_counts(text: &mut String, counts: &Counts) -> Result<(), AllocError>
+    ensures { OnOk result (string_bytes text.new ≡ string_bytes text.old ++ counts_text counts.now) }
+{
+    text.push_str(" *\n * ")?;
+    push_counts_first(text, counts)?;
+    text.push_str("\n * ")?;
+    push_counts_second(text, counts)?;
+    text.push_str("\n")?;
+    Ok(())
 }
 
 /// Adds the comment at the top.
@@ -177,18 +264,102 @@ fn push_top(
     alloc: Global,
     text: &mut String,
     name: &str,
-    layout: &Layout,
-    spec: &Spec,
+    kinds: &[Kind],
+    program: &Program,
 ) -> Result<(), AllocError>
-    requires { SpecificationFits (length layout.now) (specification spec.now) }
-    ensures { OnOk result (string_bytes text.new ≡ string_bytes text.old ++ top_text name.now layout.now (specification spec.now)) }
+    requires { SpecificationFits (length program.now.layout) (specification program.now.spec) }
+    ensures { OnOk result (string_bytes text.new ≡ string_bytes text.old ++ top_text name.now kinds.now (program_tree program.now)) }
 {
+    let counts = counts_of(alloc, kinds, &program.parts)?;
     push_top_open(text, name)?;
-    push_promise(alloc, text, layout, "pre", &spec.pre)?;
-    push_promise(alloc, text, layout, "rely", &spec.rely)?;
-    push_promise(alloc, text, layout, "guar", &spec.guar)?;
-    push_promise(alloc, text, layout, "post", &spec.post)?;
+    push_promises(alloc, text, &program.layout, &program.spec)?;
+    push_counts(text, &counts)?;
     push_rests_text(text)
+}
+
+/// Whether some atomic word has a type of so many bits.
+#[tactic(auto, using(crate::proofs::Places::range_more, crate::proofs::Places::range_over))]
+fn has_atomic(layout: &Layout, kinds: &[Kind], bits: u32) -> bool
+    ensures { result ≡ has_atomic layout.now kinds.now bits }
+{
+    for word in 0..layout.len() {
+        if matches!(kind_at(kinds, word), Kind::Atomic) && container(layout.width(word)) == bits {
+            return true;
+        }
+    }
+    false
+}
+
+/// Adds that such a type has to be accessed without a lock.
+#[tactic(auto, unfolding(crate::specs::Headers::lock_free_text))]
+fn push_lock_free(
+    alloc: Global,
+    text: &mut String,
+    layout: &Layout,
+    kinds: &[Kind],
+    bits: u32,
+    test: &str,
+) -> Result<(), AllocError>
+    ensures { OnOk result (string_bytes text.new ≡ string_bytes text.old ++ lock_free_text layout.now kinds.now bits test.now) }
+{
+    if !has_atomic(layout, kinds, bits) {
+        return Ok(());
+    }
+    let number = digits(alloc, u64::from(bits))?;
+    push_lock_free_line(text, test, &number)
+}
+
+/// Adds that the types of atomic words have to be accessed without a lock.
+#[tactic(auto, unfolding(crate::specs::Headers::lock_free_texts))]
+fn push_lock_free_types(
+    alloc: Global,
+    text: &mut String,
+    layout: &Layout,
+    kinds: &[Kind],
+) -> Result<(), AllocError>
+    ensures { OnOk result (string_bytes text.new ≡ string_bytes text.old ++ lock_free_texts layout.now kinds.now) }
+{
+    push_lock_free(alloc, text, layout, kinds, 8, "ATOMIC_CHAR_LOCK_FREE == 2")?;
+    push_lock_free(
+        alloc,
+        text,
+        layout,
+        kinds,
+        16,
+        "ATOMIC_SHORT_LOCK_FREE == 2",
+    )?;
+    push_lock_free(
+        alloc,
+        text,
+        layout,
+        kinds,
+        32,
+        "ATOMIC_INT_LOCK_FREE == 2 && ATOMIC_LONG_LOCK_FREE == 2",
+    )?;
+    push_lock_free(
+        alloc,
+        text,
+        layout,
+        kinds,
+        64,
+        "ATOMIC_LLONG_LOCK_FREE == 2",
+    )?;
+    Ok(())
+}
+
+/// Adds how atomic words are accessed, unless the device says so.
+#[tactic(auto, unfolding(crate::specs::Headers::atomics_text))]
+fn push_atomics(
+    alloc: Global,
+    text: &mut String,
+    layout: &Layout,
+    kinds: &[Kind],
+) -> Result<(), AllocError>
+    ensures { OnOk result (string_bytes text.new ≡ string_bytes text.old ++ atomics_text layout.now kinds.now) }
+{
+    push_atomics_open(text)?;
+    push_lock_free_types(alloc, text, layout, kinds)?;
+    push_atomics_close(text)
 }
 
 /// Whether a word is touched in sections.
@@ -200,11 +371,17 @@ fn is_guarded(kinds: &[Kind]) -> bool
 
 /// Adds what stands before the struct.
 #[tactic(auto, unfolding(crate::specs::Headers::macros_text))]
-fn push_macros(text: &mut String, name: &str, kinds: &[Kind]) -> Result<(), AllocError>
-    ensures { OnOk result (string_bytes text.new ≡ string_bytes text.old ++ macros_text name.now kinds.now) }
+fn push_macros(
+    alloc: Global,
+    text: &mut String,
+    name: &str,
+    layout: &Layout,
+    kinds: &[Kind],
+) -> Result<(), AllocError>
+    ensures { OnOk result (string_bytes text.new ≡ string_bytes text.old ++ macros_text name.now layout.now kinds.now) }
 {
     push_guard_open(text, name)?;
-    push_atomics_text(text)?;
+    push_atomics(alloc, text, layout, kinds)?;
     push_hooks_text(text)?;
     if is_guarded(kinds) {
         push_sections_text(text)?;
@@ -404,9 +581,10 @@ pub fn header(
         part: 0,
         is_traced: options.is_traced,
     };
-    push_top(alloc, &mut text, options.name, layout, &program.spec)?;
-    push_macros(&mut text, options.name, kinds)?;
-    push_struct(alloc, &mut text, options.name, layout, kinds)?;
+    push_top(alloc, &mut text, options.name, kinds, program)?;
+    push_macros(alloc, &mut text, options.name, layout, kinds)?;
+    push_struct(alloc, &mut text, options.name, program, kinds)?;
+    push_start(alloc, &mut text, options.name, program)?;
     push_asserted(&page, &mut text, options.name, "pre", &program.spec.pre)?;
     push_asserted(&page, &mut text, options.name, "post", &program.spec.post)?;
     push_parts(alloc, &mut text, layout, kinds, options, &program.parts)?;

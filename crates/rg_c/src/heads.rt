@@ -1,10 +1,10 @@
 //! The pieces of which a header is made.
 
-ghost use Rattle.std.specs.Prelude.{◌≡◌, ◌++◌, string_bytes, OnOk};
-ghost use Rattle.rg_c.specs.Heads.{top_open, promise_line, rests_text, guard_open, atomics_text, hooks_text, sections_text, struct_open, field_line, struct_close, assertion_text, part_open, round_open, round_call, part_close, guard_close};
+ghost use Rattle.std.specs.Prelude.{◌≡◌, ◌++◌, string_bytes, IfOk, OnOk};
+ghost use Rattle.rg_c.specs.Heads.{top_open, promise_head, promise_line, rests_text, guard_open, atomics_open, lock_free_line, atomics_close, hooks_text, sections_text, struct_open, field_line, struct_close, start_lines, assertion_text, part_open, round_open, round_call, part_close, guard_close};
 
 use crate::lines::push_all;
-use std::alloc::AllocError;
+use std::alloc::{AllocError, Global};
 
 /// Adds the beginning of the comment at the top.
 #[tactic(auto, unfolding(crate::specs::Heads::top_open))]
@@ -26,16 +26,26 @@ pub(crate) fn push_top_open(text: &mut String, name: &str) -> Result<(), AllocEr
     )
 }
 
-/// Adds a formula of the specification.
+/// What stands before a formula of the specification.
+#[tactic(auto, unfolding(crate::specs::Heads::promise_head))]
+pub(crate) fn promise_head(alloc: Global, what: &str) -> Result<String, AllocError>
+    ensures { IfOk result (λ text. string_bytes text ≡ promise_head what.now) }
+{
+    let mut text = String::new(alloc);
+    push_all(&mut text, &[" *   ", what, ": "])?;
+    Ok(text)
+}
+
+/// Adds a formula of the specification, or a conjunct of one, after what stands before it.
 #[tactic(auto, unfolding(crate::specs::Heads::promise_line))]
 pub(crate) fn push_promise_line(
     text: &mut String,
-    what: &str,
+    before: &str,
     formula: &str,
 ) -> Result<(), AllocError>
-    ensures { OnOk result (string_bytes text.new ≡ string_bytes text.old ++ promise_line what.now formula.now) }
+    ensures { OnOk result (string_bytes text.new ≡ string_bytes text.old ++ promise_line before.now formula.now) }
 {
-    push_all(text, &[" *   ", what, ": ", formula, "\n"])
+    push_all(text, &[before, formula, "\n"])
 }
 
 /// Adds what the promise rests on.
@@ -72,16 +82,43 @@ pub(crate) fn push_guard_open(text: &mut String, name: &str) -> Result<(), Alloc
     )
 }
 
-/// Adds how atomic words are accessed, unless the device says so.
-#[tactic(auto, unfolding(crate::specs::Heads::atomics_text))]
-pub(crate) fn push_atomics_text(text: &mut String) -> Result<(), AllocError>
-    ensures { OnOk result (string_bytes text.new ≡ string_bytes text.old ++ atomics_text) }
+/// Adds the beginning of how atomic words are accessed, unless the device says so.
+#[tactic(auto, unfolding(crate::specs::Heads::atomics_open))]
+pub(crate) fn push_atomics_open(text: &mut String) -> Result<(), AllocError>
+    ensures { OnOk result (string_bytes text.new ≡ string_bytes text.old ++ atomics_open) }
+{
+    push_all(text, &["#ifndef RGC_LOAD\n", "#include <stdatomic.h>\n"])
+}
+
+/// Adds that a type of so many bits has to be accessed without a lock.
+#[tactic(auto, unfolding(crate::specs::Heads::lock_free_line))]
+pub(crate) fn push_lock_free_line(
+    text: &mut String,
+    test: &str,
+    bits: &str,
+) -> Result<(), AllocError>
+    ensures { OnOk result (string_bytes text.new ≡ string_bytes text.old ++ lock_free_line test.now bits.now) }
 {
     push_all(
         text,
         &[
-            "#ifndef RGC_LOAD\n",
-            "#include <stdatomic.h>\n",
+            "_Static_assert(",
+            test,
+            ", \"no lock-free access of ",
+            bits,
+            " bits: define RGC_ATOMIC, RGC_LOAD, RGC_STORE and RGC_CAS\");\n",
+        ],
+    )
+}
+
+/// Adds the end of how atomic words are accessed.
+#[tactic(auto, unfolding(crate::specs::Heads::atomics_close))]
+pub(crate) fn push_atomics_close(text: &mut String) -> Result<(), AllocError>
+    ensures { OnOk result (string_bytes text.new ≡ string_bytes text.old ++ atomics_close) }
+{
+    push_all(
+        text,
+        &[
             "#define RGC_ATOMIC(type) _Atomic type\n",
             "#define RGC_LOAD(at) atomic_load(at)\n",
             "#define RGC_STORE(at, value) atomic_store((at), (value))\n",
@@ -141,15 +178,14 @@ pub(crate) fn push_field_line(
     kind: &str,
     after: &str,
     name: &str,
-    width: &str,
     what: &str,
 ) -> Result<(), AllocError>
-    ensures { OnOk result (string_bytes text.new ≡ string_bytes text.old ++ field_line before.now kind.now after.now name.now width.now what.now) }
+    ensures { OnOk result (string_bytes text.new ≡ string_bytes text.old ++ field_line before.now kind.now after.now name.now what.now) }
 {
     push_all(
         text,
         &[
-            "    ", before, kind, after, " ", name, "; /* ", width, " bits: ", what, " */\n",
+            "    ", before, kind, after, " ", name, "; /* ", what, " */\n",
         ],
     )
 }
@@ -160,6 +196,27 @@ pub(crate) fn push_struct_close(text: &mut String) -> Result<(), AllocError>
     ensures { OnOk result (string_bytes text.new ≡ string_bytes text.old ++ struct_close) }
 {
     push_all(text, &["};\n"])
+}
+
+/// Adds a start of the words, as a macro.
+#[tactic(auto, unfolding(crate::specs::Heads::start_lines))]
+pub(crate) fn push_start_lines(
+    text: &mut String,
+    name: &str,
+    members: &str,
+) -> Result<(), AllocError>
+    ensures { OnOk result (string_bytes text.new ≡ string_bytes text.old ++ start_lines name.now members.now) }
+{
+    push_all(
+        text,
+        &[
+            "\n/* A start inside pre. */\n#define ",
+            name,
+            "_START { ",
+            members,
+            " }\n",
+        ],
+    )
 }
 
 /// Adds a function that tells whether a formula holds.

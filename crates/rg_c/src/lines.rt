@@ -2,7 +2,7 @@
 
 ghost use Rattle.std.specs.Prelude.{◌≡◌, ◌++◌, string_bytes, IfOk, OnOk};
 ghost use Rattle.std.specs.List.{flat_map};
-ghost use Rattle.rg_c.specs.Lines.{inner, load_line, begin_lines, copy_line, change_line, write_line, store_line, exchange_line, return_line, wait_loop, block_open, block_close, attempt_open, held_test, retry, if_open, else_line, else_wait, done_open, while_open, forever_open, enter_line, leave_line, go_open, go_line, go_leave, go_if, mark_line, mark_call, comment_line, skip_line, wait_line};
+ghost use Rattle.rg_c.specs.Lines.{inner, load_line, discard_line, begin_lines, copy_line, change_line, write_line, store_line, exchange_line, return_line, wait_loop, block_open, block_close, attempt_open, done_line, retry, if_open, else_line, else_wait, done_open, while_open, forever_open, enter_line, leave_line, go_open, go_line, go_leave, go_if, mark_line, mark_call, comment_line, note_line, skip_line, wait_line};
 
 use std::alloc::{AllocError, Global};
 
@@ -49,6 +49,18 @@ pub(crate) fn push_load_line(
             ");\n",
         ],
     )
+}
+
+/// Adds an atomic load of a word whose value isn't read.
+#[tactic(auto, unfolding(crate::specs::Lines::discard_line))]
+pub(crate) fn push_discard_line(
+    text: &mut String,
+    indent: &str,
+    name: &str,
+) -> Result<(), AllocError>
+    ensures { OnOk result (string_bytes text.new ≡ string_bytes text.old ++ discard_line indent.now name.now) }
+{
+    push_all(text, &[indent, "(void)RGC_LOAD(&w->", name, ");\n"])
 }
 
 /// Adds an atomic load of a word that is to be exchanged, and its local.
@@ -218,22 +230,12 @@ pub(crate) fn push_attempt_open(text: &mut String, indent: &str) -> Result<(), A
     )
 }
 
-/// Adds whether the step is made, and the beginning of what is done then.
-#[tactic(auto, unfolding(crate::specs::Lines::held_test))]
-pub(crate) fn push_held_test(text: &mut String, indent: &str, test: &str) -> Result<(), AllocError>
-    ensures { OnOk result (string_bytes text.new ≡ string_bytes text.old ++ held_test indent.now test.now) }
+/// Adds whether the step is made.
+#[tactic(auto, unfolding(crate::specs::Lines::done_line))]
+pub(crate) fn push_done_line(text: &mut String, indent: &str, test: &str) -> Result<(), AllocError>
+    ensures { OnOk result (string_bytes text.new ≡ string_bytes text.old ++ done_line indent.now test.now) }
 {
-    push_all(
-        text,
-        &[
-            indent,
-            "rgc_done = ",
-            test,
-            ";\n",
-            indent,
-            "if (rgc_done) {\n",
-        ],
-    )
+    push_all(text, &[indent, "rgc_done = ", test, ";\n"])
 }
 
 /// Adds waiting where the step wasn't made.
@@ -288,7 +290,7 @@ pub(crate) fn push_else_wait(text: &mut String, indent: &str) -> Result<(), Allo
     )
 }
 
-/// Adds the beginning of what is done where the exchange was made.
+/// Adds the beginning of what is done where the step is made.
 #[tactic(auto, unfolding(crate::specs::Lines::done_open))]
 pub(crate) fn push_done_open(text: &mut String, indent: &str) -> Result<(), AllocError>
     ensures { OnOk result (string_bytes text.new ≡ string_bytes text.old ++ done_open indent.now) }
@@ -409,6 +411,17 @@ pub(crate) fn push_comment_line(
     ensures { OnOk result (string_bytes text.new ≡ string_bytes text.old ++ comment_line indent.now line.now statement.now) }
 {
     push_all(text, &[indent, "/* ", line, ": ", statement, " */\n"])
+}
+
+/// Adds that a step is done in a section, for these words.
+#[tactic(auto, unfolding(crate::specs::Lines::note_line))]
+pub(crate) fn push_note_line(text: &mut String, indent: &str, names: &str) -> Result<(), AllocError>
+    ensures { OnOk result (string_bytes text.new ≡ string_bytes text.old ++ note_line indent.now names.now) }
+{
+    push_all(
+        text,
+        &[indent, "/* a critical section, for ", names, " */\n"],
+    )
 }
 
 /// Adds a hook for a step that changes nothing.

@@ -1,15 +1,15 @@
-//! What a step assigns, and the words that it keeps in locals.
+//! The words that a step keeps in locals, and its test.
 
 ghost use Rattle.std.specs.Prelude.{◌≡◌, ◌∷◌, ◌++◌, [], length, map, slice_set, IfOk};
 ghost use Rattle.std.specs.Option.{option_map_or};
 ghost use Rattle.rg_words.specs.Layout.{widths_of};
 ghost use Rattle.rg_tree.specs.Fits.{FormulaFits};
-ghost use Rattle.rg_tree.specs.View.{expression, formula};
+ghost use Rattle.rg_tree.specs.View.{formula};
 ghost use Rattle.rg_tree.specs.ConditionTrees.{assignment};
 ghost use Rattle.rg_c_plan.specs.View.{guard_tree};
 ghost use Rattle.rg_c_values.specs.View.{test};
 ghost use Rattle.rg_c_values.specs.declared.print.Read.TheVariants.{Local};
-ghost use Rattle.rg_c.specs.Steps.{is_word, is_in, moving, targets_beside, test_of};
+ghost use Rattle.rg_c.specs.Steps.{is_in, targets_beside, test_of};
 ghost use Rattle.rg_c.specs.StepTexts.{local_reads};
 ghost use Rattle.rg_c.specs.Fitting.{GuardFits};
 
@@ -17,44 +17,9 @@ use rg_c_values::print::Read;
 use rg_c_values::translate::test_in_c;
 use rg_c_values::tree::Test;
 use rg_tree::condition::Assign;
-use rg_tree::copy::copy_expr;
-use rg_tree::tree::{Expr, Formula};
+use rg_tree::tree::Formula;
 use rg_words::Layout;
 use std::alloc::{AllocError, Global};
-
-/// Whether an expression is this word itself.
-fn is_word(word: usize, e: &Expr) -> bool
-    ensures { result ≡ is_word word (expression e.now) }
-{
-    match e {
-        Expr::Word(k) => word == *k,
-        _ => false,
-    }
-}
-
-/// An equal assignment.
-fn copy_assignment(alloc: Global, a: &Assign) -> Result<Assign, AllocError>
-    ensures { IfOk result (λ b. assignment b ≡ assignment a.now) }
-{
-    let value = copy_expr(alloc, &a.value)?;
-    Ok(Assign {
-        word: a.word,
-        value,
-    })
-}
-
-/// The assignments without those of a word to itself.
-pub(crate) fn moving(alloc: Global, act: &[Assign]) -> Result<Vec<Assign>, AllocError>
-    ensures { IfOk result (λ list. map assignment list.items ≡ moving (map assignment act.now)) }
-{
-    let mut list = Vec::new(alloc);
-    for a in act {
-        if !is_word(a.word, &a.value) {
-            list.push(copy_assignment(alloc, a)?)?;
-        }
-    }
-    Ok(list)
-}
 
 /// Whether a number is in a list.
 fn is_in(k: usize, list: &[usize]) -> bool

@@ -6,16 +6,18 @@ ghost use Rattle.rg_tree.specs.View.{formula};
 ghost use Rattle.rg_tree.specs.ConditionTrees.{assignment};
 ghost use Rattle.rg_c_plan.specs.View.{guard_tree};
 ghost use Rattle.rg_c.specs.Bodies.{mark_of};
-ghost use Rattle.rg_c.specs.StepTexts.{step_text};
+ghost use Rattle.rg_c.specs.StepTexts.{section_note, step_text};
 ghost use Rattle.rg_c.specs.Fitting.{AssignmentsFit, GuardFits};
 ghost use Rattle.rg_c.specs.Pages.{page as page_tree};
 
-use crate::lines::push_mark_call;
-use crate::moves::{moving, test_of};
+use crate::lines::{push_mark_call, push_note_line};
+use crate::moves::test_of;
+use crate::notes::{is_section, names_text};
 use crate::steps::{Doing, push_done};
 use itoa::Buffer;
 use rg_c_plan::kind::Kind;
-use rg_c_plan::way::way_of;
+use rg_c_plan::way::{met_words, way_of};
+use rg_c_report::moves::moving;
 use rg_tree::condition::Assign;
 use rg_tree::tree::Formula;
 use rg_words::Layout;
@@ -56,6 +58,25 @@ pub(crate) fn mark_of(page: &Page<'_>, place: usize) -> Result<String, AllocErro
     Ok(text)
 }
 
+/// Adds at which words a step in a section may meet others.
+#[tactic(auto, unfolding(crate::specs::StepTexts::section_note))]
+pub(crate) fn push_note(
+    page: &Page<'_>,
+    text: &mut String,
+    indent: &str,
+    guard: Option<&Formula>,
+    act: &[Assign],
+) -> Result<(), AllocError>
+    ensures { OnOk result (string_bytes text.new ≡ string_bytes text.old ++ section_note page.now.layout.now page.now.kinds.now indent.now (guard_tree guard.entry) (map assignment act.now)) }
+{
+    if !is_section(way_of(page.kinds, guard, act)) {
+        return Ok(());
+    }
+    let words = met_words(page.alloc, page.kinds, guard, act)?;
+    let names = names_text(page.alloc, page.layout, &words)?;
+    push_note_line(text, indent, &names)
+}
+
 /// Adds a step, by the kinds of its words.
 #[tactic(auto, unfolding(crate::specs::StepTexts::step_text))]
 pub(crate) fn push_step(
@@ -74,6 +95,7 @@ pub(crate) fn push_step(
     let moves = moving(page.alloc, act)?;
     let way = way_of(page.kinds, guard, &moves);
     let test = test_of(page.alloc, page.layout, guard)?;
+    push_note(page, text, indent, guard, &moves)?;
     let doing = Doing {
         alloc: page.alloc,
         layout: page.layout,

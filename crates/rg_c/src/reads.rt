@@ -10,7 +10,7 @@ use rg_words::Layout;
 use std::alloc::{AllocError, Global};
 
 /// Whether a value is this word.
-fn is_load_of(word: usize, v: &Value) -> bool
+pub(crate) fn is_load_of(word: usize, v: &Value) -> bool
     ensures { result ≡ is_load_of word (value v.now) }
 {
     match v {

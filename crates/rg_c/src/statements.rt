@@ -14,7 +14,7 @@ ghost use Rattle.rg_c.specs.Pages.{page as page_tree};
 use crate::lines::{
     inner, push_block_close, push_comment_line, push_else_line, push_skip_line, push_wait_line,
 };
-use crate::page::{Page, digits, mark_of, push_step};
+use crate::page::{Page, digits, mark_of, push_note, push_step};
 use crate::source::{push_assignments, push_formula};
 use crate::steps::push_marked;
 use crate::tests::{push_if_begins, push_loop_begins};
@@ -160,6 +160,7 @@ fn push_if(
     let way = way_of(page.kinds, Some(f), &[]);
     let t = test_in_c(page.alloc, page.layout, f)?;
     push_comment_line(text, indent, &row, &source)?;
+    push_note(page, text, indent, Some(f), &[])?;
     push_if_begins(page, text, indent, place, way, &t)
 }
 
@@ -181,6 +182,7 @@ pub(crate) fn push_loop(
     let way = way_of(page.kinds, Some(f), &[]);
     let t = test_in_c(page.alloc, page.layout, f)?;
     push_comment_line(text, indent, &row, &source)?;
+    push_note(page, text, indent, Some(f), &[])?;
     push_loop_begins(page, text, indent, place, way, &t)
 }
 

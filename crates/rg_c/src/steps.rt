@@ -12,16 +12,17 @@ ghost use Rattle.rg_c.specs.Fitting.{AssignmentsFit};
 ghost use Rattle.rg_c.specs.StepTexts.{is_true, marked, mark_prefix, waits, enter_text, leave_text, held_free, held_begins, held_ends, held_tested, held_text, loaded_wait, loaded_text, after_text, changed_text, tried_text, before_text, exchange_text, done_text};
 
 use crate::actions::{
-    push_begin, push_changes, push_copies, push_exchange, push_load, push_returns, push_writes,
-    push_writes_or_stores,
+    push_begin, push_changes, push_copies, push_discard, push_exchange, push_load, push_returns,
+    push_writes, push_writes_or_stores,
 };
 use crate::lines::{
-    inner, push_attempt_open, push_block_close, push_block_open, push_done_open, push_else_wait,
-    push_enter_line, push_held_test, push_if_open, push_leave_line, push_mark_line, push_retry,
+    inner, push_attempt_open, push_block_close, push_block_open, push_done_line, push_done_open,
+    push_else_wait, push_enter_line, push_if_open, push_leave_line, push_mark_line, push_retry,
     push_wait_loop,
 };
 use crate::moves::{local_reads, targets_beside};
 use crate::reads::{is_one_load, load_reads};
+use crate::used::is_used;
 use rg_c_plan::way::Way;
 use rg_c_values::print::{Read, print_test};
 use rg_c_values::tree::Test;
@@ -102,19 +103,21 @@ fn push_waits(d: &Doing<'_>, text: &mut String) -> Result<(), AllocError>
     push_wait_loop(text, d.indent, &prefix, &t)
 }
 
-/// Adds what a step begins with that is done in a section or over a local.
+/// Adds what a step begins with that is done in a section or over a local; a load has a local only where that is used.
 #[tactic(auto, unfolding(crate::specs::StepTexts::enter_text))]
 pub(crate) fn push_enter(
     alloc: Global,
     text: &mut String,
     layout: &Layout,
     indent: &str,
+    used: bool,
     way: Way,
 ) -> Result<(), AllocError>
-    ensures { OnOk result (string_bytes text.new ≡ string_bytes text.old ++ enter_text layout.now indent.now way) }
+    ensures { OnOk result (string_bytes text.new ≡ string_bytes text.old ++ enter_text layout.now indent.now used way) }
 {
     match way {
-        Way::Load(word) => push_load(alloc, text, layout, indent, word),
+        Way::Load(word) if used => push_load(alloc, text, layout, indent, word),
+        Way::Load(word) => push_discard(alloc, text, layout, indent, word),
         Way::Section => push_enter_line(text, indent),
         Way::Direct | Way::Store(_) | Way::Exchange(_) => Ok(()),
     }
@@ -140,12 +143,13 @@ fn push_held_free(
     way: Way,
 ) -> Result<(), AllocError>
     requires { AssignmentsFit (length d.now.layout.now) (map assignment d.now.act.now) }
-    ensures { OnOk result (string_bytes text.new ≡ string_bytes text.old ++ held_free d.now.layout.now reads.now d.now.indent.now d.now.mark.now way (map (written (widths_of d.now.layout.now)) (map assignment d.now.act.now))) }
+    ensures { OnOk result (string_bytes text.new ≡ string_bytes text.old ++ held_free d.now.layout.now reads.now d.now.indent.now d.now.mark.now way (test d.now.test.now) (map (written (widths_of d.now.layout.now)) (map assignment d.now.act.now))) }
 {
     let inside = inner(d.alloc, d.indent)?;
+    let used = is_used(d.alloc, d.layout, way, d.test, d.act)?;
     push_block_open(text, d.indent)?;
     push_marked(text, &inside, d.mark)?;
-    push_enter(d.alloc, text, d.layout, &inside, way)?;
+    push_enter(d.alloc, text, d.layout, &inside, used, way)?;
     push_writes(d.alloc, text, d.layout, reads, &inside, d.act)?;
     push_leave(text, &inside, way)?;
     push_block_close(text, d.indent)
@@ -159,14 +163,16 @@ fn push_held_begins(
     reads: &[Read],
     way: Way,
 ) -> Result<(), AllocError>
-    ensures { OnOk result (string_bytes text.new ≡ string_bytes text.old ++ held_begins d.now.layout.now reads.now d.now.indent.now d.now.mark.now way (test d.now.test.now)) }
+    requires { AssignmentsFit (length d.now.layout.now) (map assignment d.now.act.now) }
+    ensures { OnOk result (string_bytes text.new ≡ string_bytes text.old ++ held_begins d.now.layout.now reads.now d.now.indent.now d.now.mark.now way (test d.now.test.now) (map (written (widths_of d.now.layout.now)) (map assignment d.now.act.now))) }
 {
     let inside = inner(d.alloc, d.indent)?;
     let t = test_text(d.alloc, d.layout, reads, d.test)?;
+    let used = is_used(d.alloc, d.layout, way, d.test, d.act)?;
     push_attempt_open(text, d.indent)?;
     push_marked(text, &inside, d.mark)?;
-    push_enter(d.alloc, text, d.layout, &inside, way)?;
-    push_held_test(text, &inside, &t)
+    push_enter(d.alloc, text, d.layout, &inside, used, way)?;
+    push_done_line(text, &inside, &t)
 }
 
 /// Adds its end.
@@ -175,10 +181,29 @@ fn push_held_ends(d: &Doing<'_>, text: &mut String, way: Way) -> Result<(), Allo
     ensures { OnOk result (string_bytes text.new ≡ string_bytes text.old ++ held_ends d.now.indent.now way) }
 {
     let inside = inner(d.alloc, d.indent)?;
-    push_block_close(text, &inside)?;
     push_leave(text, &inside, way)?;
     push_retry(text, &inside)?;
     push_block_close(text, d.indent)
+}
+
+/// Adds what comes after a test that was true.
+#[tactic(auto, unfolding(crate::specs::StepTexts::after_text))]
+fn push_made(
+    d: &Doing<'_>,
+    text: &mut String,
+    reads: &[Read],
+    indent: &str,
+) -> Result<(), AllocError>
+    requires { AssignmentsFit (length d.now.layout.now) (map assignment d.now.act.now) }
+    ensures { OnOk result (string_bytes text.new ≡ string_bytes text.old ++ after_text d.now.layout.now reads.now indent.now (map (written (widths_of d.now.layout.now)) (map assignment d.now.act.now))) }
+{
+    if d.act.len() == 0 {
+        return Ok(());
+    }
+    let deep = inner(d.alloc, indent)?;
+    push_done_open(text, indent)?;
+    push_writes(d.alloc, text, d.layout, reads, &deep, d.act)?;
+    push_block_close(text, indent)
 }
 
 /// Adds such a step with its test.
@@ -193,9 +218,8 @@ fn push_held_tested(
     ensures { OnOk result (string_bytes text.new ≡ string_bytes text.old ++ held_tested d.now.layout.now reads.now d.now.indent.now d.now.mark.now way (test d.now.test.now) (map (written (widths_of d.now.layout.now)) (map assignment d.now.act.now))) }
 {
     let inside = inner(d.alloc, d.indent)?;
-    let deep = inner(d.alloc, &inside)?;
     push_held_begins(d, text, reads, way)?;
-    push_writes(d.alloc, text, d.layout, reads, &deep, d.act)?;
+    push_made(d, text, reads, &inside)?;
     push_held_ends(d, text, way)
 }
 
@@ -244,7 +268,7 @@ fn push_after(
     indent: &str,
     others: &[usize],
 ) -> Result<(), AllocError>
-    ensures { OnOk result (string_bytes text.new ≡ string_bytes text.old ++ after_text d.now.layout.now indent.now (map returns others.now)) }
+    ensures { OnOk result (string_bytes text.new ≡ string_bytes text.old ++ after_text d.now.layout.now [] indent.now (map returns others.now)) }
 {
     if others.len() == 0 {
         return Ok(());

@@ -13,6 +13,7 @@ use crate::moves::local_reads;
 use crate::page::{Page, digits, mark_of};
 use crate::reads::{is_one_load, load_reads};
 use crate::steps::{is_true, mark_prefix, push_enter, push_leave, push_marked, test_text};
+use crate::used::is_used;
 use rg_c_plan::way::Way;
 use rg_c_values::print::Read;
 use rg_c_values::tree::Test;
@@ -67,9 +68,10 @@ fn push_go(
     let inside = inner(page.alloc, indent)?;
     let reads = go_reads(page.alloc, page.layout, way)?;
     let asked = test_text(page.alloc, page.layout, &reads, t)?;
+    let used = is_used(page.alloc, page.layout, way, t, &[])?;
     push_go_open(text, indent, &number)?;
     push_marked(text, &inside, &mark)?;
-    push_enter(page.alloc, text, page.layout, &inside, way)?;
+    push_enter(page.alloc, text, page.layout, &inside, used, way)?;
     push_go_line(text, &inside, &number, &asked)?;
     push_leave(text, &inside, way)?;
     push_block_close(text, indent)

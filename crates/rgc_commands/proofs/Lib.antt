@@ -1,3 +1,4 @@
+mod Mapping
 mod Texts
 pub mod PerformStopping
 pub mod Stopping

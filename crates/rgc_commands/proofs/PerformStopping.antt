@@ -6,7 +6,7 @@ use Rattle.std.specs.Borrow.{Bor}
 use Rattle.rg_words.proofs.Written.{appends_none, appends_keeps}
 use Rattle.rg_words.specs.declared.refusal.Refusal.{Refusal}
 use Rattle.rgc_line.specs.declared.command.Command.{Command}
-use Rattle.rgc_line.specs.declared.command.Command.TheVariants.{Number, Check, Conditions, Prove, Emit, EmitOutline, Run, RunOutline, Valid, Clauses, Find, Outline as the_outline, Verify, Challenge, Explain}
+use Rattle.rgc_line.specs.declared.command.Command.TheVariants.{Number, Check, Conditions, Prove, Emit, EmitOutline, Accesses, AccessesOutline, Run, RunOutline, Valid, Clauses, Find, Outline as the_outline, Verify, Challenge, Explain}
 use Rattle.rgc_line.specs.declared.command.Outlines.{Outlines}
 use Rattle.rgc_line.specs.declared.command.Format.{Format}
 use Rattle.rgc_outlines.specs.Challenged.{IsChallengeStopped}
@@ -20,7 +20,7 @@ use Rattle.rgc_commands.specs.declared.outlines.TheConstants.{MOST_STEPS}
 use Rattle.rgc_commands.specs.declared.files.Files.{Files}
 use Rattle.rgc_commands.specs.declared.stops.Stop.{Stop}
 use Rattle.rgc_commands.specs.declared.stops.Stop.TheVariants.{Device, Refused, Outline, Usage, Reported, GaveUp}
-use Rattle.rgc_commands.specs.Device.{emits_outline}
+use Rattle.rgc_commands.specs.Device.{is_device_command}
 use Rattle.rgc_commands.specs.Stopped.{unread_line}
 use Rattle.rgc_commands.specs.Inner.TextStops.{IsDevice, IsOverTexts, Stops}
 use Rattle.rgc_commands.specs.PerformDone.{IsVerdictDone, files_of, outline_files}
@@ -124,8 +124,10 @@ reported_stops format command files old new m n is_found (Err stop) h same why =
 
 -- a command that is none of those over outlines is over texts
 pub over_texts : (command : Command) → ((a : Bor (List ℕ)) (b d : Option (Bor (List ℕ))) (e : ℕ) (f : Option (Bor (List ℕ))) → command ≡ RunOutline a b d e f → ⊥) → ((a : Bor (List ℕ)) (b d e f : Option (Bor (List ℕ))) → command ≡ the_outline a b d e f → ⊥) → ((a : Bor (List ℕ)) (b : Bool) → command ≡ Challenge a b → ⊥)
-    → ((a : Outlines) (b : Option ℕ) (d : Bool) (e : Option (Bor (List ℕ))) → command ≡ Verify a b d e → ⊥) → emits_outline command ≡ false → IsOverTexts command
+    → ((a : Outlines) (b : Option ℕ) (d : Bool) (e : Option (Bor (List ℕ))) → command ≡ Verify a b d e → ⊥) → is_device_command command ≡ false → IsOverTexts command
 over_texts (EmitOutline a) run write challenge verify code = cc code
+over_texts (Accesses a b d) run write challenge verify code = cc code
+over_texts (AccessesOutline a) run write challenge verify code = cc code
 over_texts (RunOutline a b d e f) run write challenge verify code = absurd (run a b d e f refl)
 over_texts (the_outline a b d e f) run write challenge verify code = absurd (write a b d e f refl)
 over_texts (Challenge a b) run write challenge verify code = absurd (challenge a b refl)

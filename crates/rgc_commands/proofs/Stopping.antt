@@ -6,7 +6,7 @@ use Rattle.rg_words.proofs.Written.{appends_none}
 use Rattle.rg_words.specs.declared.refusal.Refusal.{Refusal}
 use Rattle.rg_words.specs.Stopped.{IsStopped}
 use Rattle.rgc_line.specs.declared.command.Command.{Command}
-use Rattle.rgc_line.specs.declared.command.Command.TheVariants.{Number, Check, Conditions, Prove, Emit, EmitOutline, Run, RunOutline, Valid, Clauses, Find, Outline as the_outline, Verify, Challenge, Explain}
+use Rattle.rgc_line.specs.declared.command.Command.TheVariants.{Number, Check, Conditions, Prove, Emit, EmitOutline, Accesses, AccessesOutline, Run, RunOutline, Valid, Clauses, Find, Outline as the_outline, Verify, Challenge, Explain}
 use Rattle.rgc_line.specs.declared.command.Chosen.{Chosen}
 use Rattle.rgc_line.specs.declared.command.Format.{Format}
 use Rattle.rgc.specs.Proofs.{IsProvePartRefusal}
@@ -89,6 +89,8 @@ no_other (Clauses a b) number check conditions prove emit run valid clauses find
 no_other (Find a b d) number check conditions prove emit run valid clauses find explain over = find a b d refl
 no_other (Explain a) number check conditions prove emit run valid clauses find explain over = explain a refl
 no_other (EmitOutline a) number check conditions prove emit run valid clauses find explain over = over
+no_other (Accesses a b d) number check conditions prove emit run valid clauses find explain over = over
+no_other (AccessesOutline a) number check conditions prove emit run valid clauses find explain over = over
 no_other (RunOutline a b d e f) number check conditions prove emit run valid clauses find explain over = over
 no_other (the_outline a b d e f) number check conditions prove emit run valid clauses find explain over = over
 no_other (Verify a b d e) number check conditions prove emit run valid clauses find explain over = over

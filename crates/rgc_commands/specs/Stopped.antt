@@ -10,7 +10,7 @@ use Rattle.rgc.specs.Chosen.{IsChosenClausesRefusal, IsChosenFindRefusal}
 use Rattle.rgc.specs.Proofs.{IsProveRefusal, IsProvePartRefusal}
 use Rattle.rgc.specs.Valid.{IsClausesRefusal, IsFindRefusal, IsValidRefusal}
 use Rattle.rgc_line.specs.declared.command.Command.{Command}
-use Rattle.rgc_line.specs.declared.command.Command.TheVariants.{Number, Check, Conditions, Prove, Emit, EmitOutline, Run, RunOutline, Valid, Clauses, Find, Outline, Verify, Challenge, Explain}
+use Rattle.rgc_line.specs.declared.command.Command.TheVariants.{Number, Check, Conditions, Prove, Emit, EmitOutline, Accesses, AccessesOutline, Run, RunOutline, Valid, Clauses, Find, Outline, Verify, Challenge, Explain}
 use Rattle.rgc_line.specs.declared.command.Format.{Format}
 use Rattle.rgc_line.specs.declared.command.Format.TheVariants.{Plain, Json}
 use Rattle.rgc_answers.specs.Refused.{IsUnlike, IsRunRefusal}
@@ -59,6 +59,8 @@ unread_line (Prove _ _ _ _) files = text_line files (derivation_line files None)
 unread_line (Emit _ _ _) files = text_line files (derivation_line files (proofs_line files None))
 unread_line (Run _ _ _ start moves _ _) files = text_line files (derivation_line files (proofs_line files (input_lines start moves files)))
 unread_line (EmitOutline _) files = outline_line files None
+unread_line (Accesses _ _ _) files = text_line files (derivation_line files (proofs_line files None))
+unread_line (AccessesOutline _) files = outline_line files None
 unread_line (RunOutline _ start moves _ _) files = outline_line files (input_lines start moves files)
 unread_line (Valid _ _) files = text_line files (proofs_line files None)
 unread_line (Clauses _ None) files = text_line files None

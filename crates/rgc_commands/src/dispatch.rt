@@ -4,7 +4,7 @@ ghost use Rattle.std.specs.Prelude.{◌≡◌, false, IfErr, OnOk, OnErr};
 ghost use Rattle.rg_words.specs.Written.{CanCount};
 ghost use Rattle.rgc_commands.specs.Done.{IsDone};
 ghost use Rattle.rgc_commands.specs.Inner.TextStops.{IsOverTexts, Stops};
-ghost use Rattle.rgc_commands.specs.Device.{emits_outline};
+ghost use Rattle.rgc_commands.specs.Device.{is_device_command};
 ghost use Rattle.rgc_commands.specs.PerformDone.{IsLineDone};
 ghost use Rattle.rgc_commands.specs.Inner.Stops.{StopsLine};
 ghost use Rattle.rgc_answers.specs.Failures.{NoFailure};
@@ -93,7 +93,7 @@ pub(crate) fn carry_out_line<R: Threads + Wait + Sync, W: Out, F: Out, P: Watche
     faults: &mut F,
     sides: &mut Sides,
 ) -> Result<(), Stop>
-    requires command { emits_outline line.now.command ≡ false }
+    requires command { is_device_command line.now.command ≡ false }
     requires out { CanCount (W.failures out.old) }
     requires faults { CanCount (F.failures faults.old) }
     ensures done { OnOk result (IsLineDone line.now files.now sides.old.outline sides.new.outline (W.contents out.old) (W.contents out.new)) }

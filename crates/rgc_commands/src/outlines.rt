@@ -237,7 +237,7 @@ impl<'a> Verification<'a> {
 }
 
 /// The most decisions of each search, where a command says so or not.
-fn search_steps(steps: Option<u64>) -> u64
+pub(crate) fn search_steps(steps: Option<u64>) -> u64
     ensures { result ≡ search_steps steps }
 {
     match steps {
@@ -248,7 +248,7 @@ fn search_steps(steps: Option<u64>) -> u64
 
 /// Prints how many conditions of an outline's program were proved; else which have no proof, and a run that breaks the specification or that
 /// none was found. Its warnings go to the faults.
-fn prove_outline<R: Threads + Wait + Sync, W: Out, F: Out, P: Watcher + Copy + Sync>(
+pub(crate) fn prove_outline<R: Threads + Wait + Sync, W: Out, F: Out, P: Watcher + Copy + Sync>(
     context: &Context<'_, R, P>,
     asked: Verification<'_>,
     outlined: &Outlined<'_>,

@@ -1,1 +1,3 @@
+mod Lifting
 mod Lost
+mod Places

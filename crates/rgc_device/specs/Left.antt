@@ -1,5 +1,6 @@
 -- What is left of an accepted program where words are erased, or all of it.
-use Rattle.std.specs.Prelude.{◌≡◌, ◌⊎◌, Bool, List, None}
+use Rattle.std.specs.Prelude.{◌≡◌, Bool, true, false, List, None}
+use Rattle.std.specs.List.{list_any}
 use Rattle.rg_tree.specs.Statements.{ProgramTree}
 use Rattle.rg_tree.specs.Programs.{IsSatisfied}
 use Rattle.rg_code.specs.Code.{BlockTree, program_code}
@@ -16,10 +17,11 @@ pub record IsErasedBy (erased : List Bool) (p q : ProgramTree) (blocks : List (L
   pub shadows : AreShadows erased p q
   pub satisfied : ∥ IsSatisfied q ∥₁
 
--- some words are
-abbrev pub IsErasedTo : ProgramTree → ProgramTree → List (List BlockTree) → Type 0
-IsErasedTo p q blocks = (erased : List Bool) × IsErasedBy erased p q blocks
+-- whether some words are erased: it is left without those that are flagged, or whole
+abbrev pub IsLeft : Bool → List Bool → ProgramTree → List (List BlockTree) → ProgramTree → List (List BlockTree) → Type 0
+IsLeft true erased p code q blocks = IsErasedBy erased p q blocks
+IsLeft false erased p code q blocks = (q ≡ p) × (blocks ≡ code)
 
--- it is left whole, or some words are erased
-abbrev pub IsLeftOf : ProgramTree → List (List BlockTree) → ProgramTree → List (List BlockTree) → Type 0
-IsLeftOf p code q blocks = ((q ≡ p) × (blocks ≡ code)) ⊎ IsErasedTo p q blocks
+-- it is left without the words that are flagged, whole where none is
+abbrev pub IsLeftBy : List Bool → ProgramTree → List (List BlockTree) → ProgramTree → List (List BlockTree) → Type 0
+IsLeftBy erased p code q blocks = IsLeft (list_any (λ b. b) erased) erased p code q blocks

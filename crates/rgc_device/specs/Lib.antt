@@ -1,2 +1,4 @@
+pub mod Flagged
 pub mod Left
 pub mod Printed
+pub mod Titles

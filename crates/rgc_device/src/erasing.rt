@@ -4,9 +4,10 @@ ghost use Rattle.std.specs.Prelude.{◌≡◌, IfOk, IfErr};
 ghost use Rattle.rg_words.specs.Refusals.{no_memory};
 ghost use Rattle.rg_tree.specs.ProgramTrees.{program as program_tree};
 ghost use Rattle.rg_erase.specs.Products.{program_left, blocks_left};
+ghost use Rattle.rgc_device.specs.Flagged.{flags_for};
 ghost use Rattle.rgc_device.specs.Left.{IsErasedBy};
 
-use crate::names::{no_flags, set_named};
+use crate::names::{flags_for, stranger};
 use crate::sentences::{fault_line, push_lost, unknown_line};
 use rg_code::checked::Checked;
 use rg_erase::{Erased, erase};
@@ -15,7 +16,7 @@ use rg_tree::typing::typed_trees_fit;
 use rg_words::{Layout, Refusal};
 use std::alloc::{AllocError, Global};
 
-/// A flag for each word that says whether it is erased: the words that are named, with commas between the names, and those that are auxiliary, as bits.
+/// A flag for each word that says whether it is erased: the words that are named, with commas between the names, and those that are flagged.
 ///
 /// # Errors
 ///
@@ -24,19 +25,16 @@ pub fn flags_of(
     alloc: Global,
     layout: &Layout,
     names: Option<&str>,
-    auxiliary: u64,
-) -> Result<Result<Vec<bool>, Vec<u8>>, AllocError> {
-    let mut flags = no_flags(alloc, layout)?;
-    for (word, flag) in flags.iter_mut().enumerate() {
-        *flag = word < 64 && auxiliary >> word & 1 == 1;
+    flagged: &[bool],
+) -> Result<Result<Vec<bool>, Vec<u8>>, AllocError>
+    ensures { IfOk result (λ r. IfOk r (λ flags. flags.items ≡ flags_for layout.now names.entry flagged.now)) }
+{
+    if let Some(names) = names {
+        if let Some(name) = stranger(layout, names) {
+            return Ok(Err(unknown_line(alloc, name)?));
+        }
     }
-    let Some(names) = names else {
-        return Ok(Ok(flags));
-    };
-    if let Some(name) = set_named(layout, names.as_bytes(), &mut flags) {
-        return Ok(Err(unknown_line(alloc, name)?));
-    }
-    Ok(Ok(flags))
+    Ok(Ok(flags_for(alloc, layout, names, flagged)?))
 }
 
 /// What is left of an accepted program without these words.

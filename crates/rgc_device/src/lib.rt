@@ -2,9 +2,13 @@
 #![tactic(auto)]
 
 mod erasing;
+mod forms;
 mod names;
 mod printing;
 mod sentences;
+mod titles;
 
 pub use erasing::{erase_flagged, flags_of, lost_lines};
+pub use forms::Form;
 pub use printing::print_code;
+pub use titles::is_title;

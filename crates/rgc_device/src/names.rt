@@ -1,65 +1,64 @@
 //! Names of words with commas between them.
 
-ghost use Rattle.std.specs.Prelude.{◌≤◌, length};
+ghost use Rattle.std.specs.Prelude.{◌≡◌, ◌∷◌, [], ◌<◌, length, option_map, IfOk};
+ghost use Rattle.std.specs.List.{list_any};
+ghost use Rattle.std.specs.Str.{bytes_eq};
+ghost use Rattle.rg_words.specs.Layout.{names_of};
+ghost use Rattle.rgc_device.specs.Flagged.{names_in, is_one, is_listed, is_word_name, stranger, is_left_out, flags_for};
 
 use rg_words::Layout;
 use std::alloc::{AllocError, Global};
 
-/// Where the name that begins at a place ends: at the next comma, or at the end.
-fn end_of(names: &[u8], start: usize) -> usize
-    requires { start ≤ length names.now }
-    ensures start { start ≤ result }
-    ensures end { result ≤ length names.now }
+/// Whether this is one of the names.
+fn is_one(names: &str, name: &str) -> bool
+    ensures { result ≡ is_one names.now name.now }
 {
-    for place in start..names.len() {
-        if names[place] == b',' {
-            return place;
-        }
-    }
-    names.len()
+    names.split(',').any(|one| one == name)
 }
 
-/// The word of this name.
-fn word_of(layout: &Layout, name: &[u8]) -> Option<usize> {
-    for word in 0..layout.len() {
-        if layout.name(word).as_bytes() == name {
-            return Some(word);
-        }
-    }
-    None
+/// The first of the names that is no word's.
+pub(crate) fn stranger<'a>(layout: &Layout, names: &'a str) -> Option<&'a str>
+    ensures { option_map (λ name. name.now) result ≡ stranger layout.now names.now }
+{
+    names.split(',').find(|one| layout.find(one).is_none())
 }
 
-/// Sets the flags of the words that are named, and gives the first name that is no word's.
-pub(crate) fn set_named<'a>(
+/// Whether a word is one of the names, where there are some.
+fn is_listed(layout: &Layout, names: Option<&str>, word: usize) -> bool
+    requires { word < length layout.now }
+    ensures { result ≡ is_listed layout.now names.entry word }
+{
+    match names {
+        Some(names) => is_one(names, layout.name(word)),
+        None => false,
+    }
+}
+
+/// Whether a word is left out.
+fn is_left_out(layout: &Layout, names: Option<&str>, flagged: &[bool], word: usize) -> bool
+    requires { word < length layout.now }
+    ensures { result ≡ is_left_out layout.now names.entry flagged.now word }
+{
+    let is_flagged = match flagged.get(word) {
+        Some(flag) => *flag,
+        None => false,
+    };
+    is_flagged || is_listed(layout, names, word)
+}
+
+/// A flag for each word that says whether it is left out: those that are flagged, and those that are named.
+#[tactic(auto, using(crate::proofs::Places::range_more, crate::proofs::Places::range_over))]
+pub(crate) fn flags_for(
+    alloc: Global,
     layout: &Layout,
-    names: &'a [u8],
-    flags: &mut Vec<bool>,
-) -> Option<&'a [u8]> {
-    let mut start = 0;
-    for _ in 0..names.len().saturating_add(1) {
-        if start > names.len() {
-            return None;
-        }
-        let end = end_of(names, start);
-        let name = &names[start..end];
-        match word_of(layout, name) {
-            Some(word) => {
-                if let Some(flag) = flags.get_mut(word) {
-                    *flag = true;
-                }
-            }
-            None => return Some(name),
-        }
-        start = end.saturating_add(1);
-    }
-    None
-}
-
-/// A flag for each word, none of which is set.
-pub(crate) fn no_flags(alloc: Global, layout: &Layout) -> Result<Vec<bool>, AllocError> {
+    names: Option<&str>,
+    flagged: &[bool],
+) -> Result<Vec<bool>, AllocError>
+    ensures { IfOk result (λ flags. flags.items ≡ flags_for layout.now names.entry flagged.now) }
+{
     let mut flags = Vec::new(alloc);
-    for _ in 0..layout.len() {
-        flags.push(false)?;
+    for word in 0..layout.len() {
+        flags.push(is_left_out(layout, names, flagged, word))?;
     }
     Ok(flags)
 }

@@ -4,6 +4,7 @@ ghost use Rattle.std.specs.Prelude.{length};
 ghost use Rattle.rg_tree.specs.View.{formula};
 ghost use Rattle.rg_tree.specs.Fits.{FormulaFits};
 
+use rg_c_plan::planned::Unplanned;
 use rg_erase::{Fault, lost};
 use rg_tree::print::print;
 use rg_tree::tree::Formula;
@@ -11,10 +12,10 @@ use rg_words::Layout;
 use std::alloc::{AllocError, Global};
 
 /// A name that is no word's.
-pub(crate) fn unknown_line(alloc: Global, name: &[u8]) -> Result<Vec<u8>, AllocError> {
+pub(crate) fn unknown_line(alloc: Global, name: &str) -> Result<Vec<u8>, AllocError> {
     let mut line = Vec::new(alloc);
     line.extend_from_slice(b"error: --erase names ")?;
-    line.extend_from_slice(name)?;
+    line.extend_from_slice(name.as_bytes())?;
     line.extend_from_slice(b", which is no word of the program\n")?;
     Ok(line)
 }
@@ -58,6 +59,20 @@ pub(crate) fn fault_line(
             name_of(layout, word)
         ),
     }
+}
+
+/// That no C does a step at once.
+pub(crate) fn unplanned_line(
+    alloc: Global,
+    layout: &Layout,
+    step: Unplanned,
+) -> Result<Vec<u8>, AllocError> {
+    let line = format!(in alloc;
+        "error: line {}: no C does this step at once: it accesses {}, which the world outside accesses too, and another shared word\n",
+        step.line,
+        name_of(layout, step.word)
+    )?;
+    Ok(line.into_bytes())
 }
 
 /// Whether a formula says nothing.

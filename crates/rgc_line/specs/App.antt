@@ -10,7 +10,7 @@ use Rattle.clap.specs.declared.builder.value_parser.ValueParser.TheVariants as p
 use Rattle.rgc_line.specs.declared.commands.Form.{Form}
 use Rattle.rgc_line.specs.declared.commands.Form.TheVariants.{File, Place, Files, Places, OptionalFile, RepeatedFile, OptionalText, OptionalNumber, NeededNumber, NumberOrMillion, Flag}
 use Rattle.rgc_line.specs.declared.commands.Kind.{Kind}
-use Rattle.rgc_line.specs.declared.commands.Kind.TheVariants.{Number, Check, Conditions, Prove, Emit, Run, Valid, Clauses, Find, Outline, Verify, Challenge, Explain}
+use Rattle.rgc_line.specs.declared.commands.Kind.TheVariants.{Number, Check, Conditions, Prove, Emit, Accesses, Run, Valid, Clauses, Find, Outline, Verify, Challenge, Explain}
 
 -- numbers of 64 bits
 abbrev pub numbers : ValueParser
@@ -78,6 +78,18 @@ erase = field OptionalText "erase"
 abbrev pub keep_aux : Rule
 keep_aux = field Flag "keep-aux"
 
+-- the name with which all begins that C declares
+abbrev pub prefix : Rule
+prefix = field OptionalText "name"
+
+-- whether steps are marked in C
+abbrev pub trace : Rule
+trace = field Flag "trace"
+
+-- whether a verdict is followed by how each step is done in C
+abbrev pub accesses : Rule
+accesses = field Flag "accesses"
+
 -- a command with these arguments and no subcommands
 abbrev pub leaf : Text → List Rule → Shape
 leaf name rules = record (new_shape name) { rules = rules }
@@ -88,19 +100,20 @@ row_of Number = leaf (codes "number") (field File "TEXT" ∷ format ∷ explaine
 row_of Check = leaf (codes "check") (field File "TEXT" ∷ field File "DERIVATION" ∷ field Files "PROOFS" ∷ further_derivation ∷ threads ∷ format ∷ explained ∷ [])
 row_of Conditions = leaf (codes "conditions") (field File "TEXT" ∷ field File "DERIVATION" ∷ field Flag "formulas" ∷ further_derivation ∷ format ∷ explained ∷ [])
 row_of Prove = leaf (codes "prove") (field File "TEXT" ∷ field File "DERIVATION" ∷ field NumberOrMillion "steps" ∷ field OptionalText "conditions" ∷ further_derivation ∷ threads ∷ field RepeatedFile "output" ∷ format ∷ explained ∷ [])
-row_of Emit = leaf (codes "emit") (field OptionalFile "outline" ∷ field Place "TEXT" ∷ field Place "DERIVATION" ∷ field Places "PROOFS" ∷ further_derivation ∷ threads ∷ output ∷ explained ∷ erase ∷ keep_aux ∷ [])
+row_of Emit = leaf (codes "emit") (field OptionalFile "outline" ∷ field Place "TEXT" ∷ field Place "DERIVATION" ∷ field Places "PROOFS" ∷ further_derivation ∷ threads ∷ output ∷ explained ∷ erase ∷ keep_aux ∷ format ∷ prefix ∷ trace ∷ [])
+row_of Accesses = leaf (codes "accesses") (field OptionalFile "outline" ∷ field Place "TEXT" ∷ field Place "DERIVATION" ∷ field Places "PROOFS" ∷ further_derivation ∷ threads ∷ output ∷ explained ∷ erase ∷ keep_aux ∷ [])
 row_of Run = leaf (codes "run") (field OptionalFile "start" ∷ field OptionalFile "moves" ∷ field NumberOrMillion "limit" ∷ field OptionalFile "draw" ∷ field OptionalFile "outline" ∷ field Place "TEXT" ∷ field Place "DERIVATION" ∷ field Places "PROOFS" ∷ further_derivation ∷ threads ∷ format ∷ explained ∷ seed ∷ erase ∷ [])
 row_of Valid = leaf (codes "valid") (field File "TEXT" ∷ field File "PROOFS" ∷ threads ∷ explained ∷ [])
 row_of Clauses = leaf (codes "clauses") (field File "TEXT" ∷ chosen_derivation ∷ chosen_condition ∷ output ∷ explained ∷ [])
 row_of Find = leaf (codes "find") (field File "TEXT" ∷ chosen_derivation ∷ chosen_condition ∷ field NumberOrMillion "steps" ∷ output ∷ explained ∷ [])
 row_of Outline = leaf (codes "outline") (field File "OUTLINE" ∷ field OptionalFile "text" ∷ field RepeatedFile "derivation" ∷ field RepeatedFile "proofs" ∷ field OptionalFile "map" ∷ threads ∷ [])
-row_of Verify = leaf (codes "verify") (field Files "OUTLINE" ∷ field OptionalNumber "steps" ∷ field Flag "runs-only" ∷ field OptionalFile "text" ∷ threads ∷ format ∷ warnings ∷ [])
+row_of Verify = leaf (codes "verify") (field Files "OUTLINE" ∷ field OptionalNumber "steps" ∷ field Flag "runs-only" ∷ field OptionalFile "text" ∷ threads ∷ format ∷ warnings ∷ accesses ∷ [])
 row_of Challenge = leaf (codes "challenge") (field File "OUTLINE" ∷ field Flag "refused" ∷ threads ∷ format ∷ [])
 row_of Explain = leaf (codes "explain") (field NeededNumber "NUMBER" ∷ [])
 
 -- the commands in the order in which the help lists them
 abbrev pub kinds : List Kind
-kinds = Number ∷ Check ∷ Conditions ∷ Prove ∷ Emit ∷ Run ∷ Valid ∷ Clauses ∷ Find ∷ Outline ∷ Verify ∷ Challenge ∷ Explain ∷ []
+kinds = Number ∷ Check ∷ Conditions ∷ Prove ∷ Emit ∷ Accesses ∷ Run ∷ Valid ∷ Clauses ∷ Find ∷ Outline ∷ Verify ∷ Challenge ∷ Explain ∷ []
 
 -- the command with no subcommands
 abbrev pub rgc_top : App

@@ -3,11 +3,11 @@ use Rattle.std.specs.Prelude.{◌≡◌, ◌⊎◌, ◌↔◌, ℕ, Bool, true, 
 use Rattle.std.specs.Str.Parse.{ParsesUnsigned}
 use Rattle.std.specs.Borrow.{Bor}
 use Rattle.clap.specs.Words.{Row, Rule, Text, all_of, first_of, one_of, HasKind, fault_of, subcommand_of}
-use Rattle.rgc_line.specs.App.{rgc_app, row_of, chosen_derivation, chosen_condition, output, format, explained, threads, warnings, seed, erase, keep_aux}
+use Rattle.rgc_line.specs.App.{rgc_app, row_of, chosen_derivation, chosen_condition, output, format, explained, threads, warnings, seed, erase, keep_aux, prefix, trace, accesses}
 use Rattle.rgc_line.specs.declared.line.LineFault.{LineFault}
 use Rattle.rgc_line.specs.declared.line.LineFault.TheVariants.{Usage, Fields}
 use Rattle.rgc_line.specs.declared.fields.FieldFault.{FieldFault}
-use Rattle.rgc_line.specs.declared.fields.FieldFault.TheVariants.{Apart, UnknownFormat, RunFiles, EmitFiles, NoFile}
+use Rattle.rgc_line.specs.declared.fields.FieldFault.TheVariants.{Apart, UnknownFormat, RunFiles, EmitFiles, AccessesFiles, NoFile}
 use Rattle.rgc_line.specs.declared.command.Chosen.{Chosen}
 use Rattle.rgc_line.specs.declared.command.Outlines.{Outlines}
 use Rattle.rgc_line.specs.declared.command.Format.{Format}
@@ -15,7 +15,7 @@ use Rattle.rgc_line.specs.declared.command.Format.TheVariants.{Plain, Json}
 use Rattle.rgc_line.specs.declared.command.Settings.{Settings}
 use Rattle.rgc_line.specs.declared.line.Line.{Line}
 use Rattle.rgc_line.specs.declared.command.Command.{Command}
-use Rattle.rgc_line.specs.declared.command.Command.TheVariants.{Number, Check, Conditions, Prove, Emit, EmitOutline, Run, RunOutline, Valid, Clauses, Find, Outline, Verify, Challenge, Explain}
+use Rattle.rgc_line.specs.declared.command.Command.TheVariants.{Number, Check, Conditions, Prove, Emit, EmitOutline, Accesses, AccessesOutline, Run, RunOutline, Valid, Clauses, Find, Outline, Verify, Challenge, Explain}
 use Rattle.rgc_line.specs.declared.commands.Kind.{Kind}
 use Rattle.rgc_line.specs.declared.commands.Kind.TheVariants as kind
 
@@ -74,6 +74,8 @@ contents_of (Conditions text derivation has_formulas) = (kind.Conditions, file t
 contents_of (Prove text derivation steps conditions) = (kind.Prove, file text ∷ file derivation ∷ number steps ∷ optional file conditions ∷ [])
 contents_of (Emit text derivation proofs) = (kind.Emit, absent ∷ file text ∷ file derivation ∷ file proofs ∷ [])
 contents_of (EmitOutline outline) = (kind.Emit, file outline ∷ absent ∷ [])
+contents_of (Accesses text derivation proofs) = (kind.Accesses, absent ∷ file text ∷ file derivation ∷ file proofs ∷ [])
+contents_of (AccessesOutline outline) = (kind.Accesses, file outline ∷ absent ∷ [])
 contents_of (Run text derivation proofs start moves limit draw) = (kind.Run, optional file start ∷ optional file moves ∷ number limit ∷ optional file draw ∷ absent ∷ file text ∷ file derivation ∷ file proofs ∷ [])
 contents_of (RunOutline outline start moves limit draw) = (kind.Run, optional file start ∷ optional file moves ∷ number limit ∷ optional file draw ∷ file outline ∷ absent ∷ [])
 contents_of (Valid text proofs) = (kind.Valid, file text ∷ file proofs ∷ [])
@@ -88,10 +90,18 @@ contents_of (Explain n) = (kind.Explain, number n ∷ [])
 abbrev pub HasContents : Text → List Row → Kind × List Value → Type 0
 HasContents name rows it = let row = row_of it.0 in (name ≡ row.name) × HasValues rows row.rules it.1
 
+-- the words have this word for the format
+abbrev pub HasWord : List Row → Text → Type 0
+HasWord rows word = first_of format.id rows ≡ Some word
+
 -- the words ask for this format: one JSON value a line where they say so
 abbrev pub HasFormat : List Row → Format → Type 0
-HasFormat rows Plain = HasNo rows format.id ⊎ (first_of format.id rows ≡ Some (codes "plain"))
-HasFormat rows Json = first_of format.id rows ≡ Some (codes "json")
+HasFormat rows Plain = HasNo rows format.id ⊎ (HasWord rows (codes "plain") ⊎ HasWord rows (codes "c"))
+HasFormat rows Json = HasWord rows (codes "json")
+
+-- they ask for C, or don't
+abbrev pub AsksForC : List Row → Bool → Type 0
+AsksForC rows is_c = (is_c ≡ true) ↔ HasWord rows (codes "c")
 
 -- what is asked of several commands, by the words
 pub record HasSettings (rows : List Row) (settings : Settings) : Type 0 where
@@ -103,6 +113,10 @@ pub record HasSettings (rows : List Row) (settings : Settings) : Type 0 where
   pub seed : HasValue rows seed.id (optional file settings.seed)
   pub erase : HasValue rows erase.id (optional file settings.erase)
   pub keeps_aux : HasValue rows keep_aux.id (flag settings.keeps_aux)
+  pub c : AsksForC rows settings.is_c
+  pub prefix : HasValue rows prefix.id (optional file settings.prefix)
+  pub traced : HasValue rows trace.id (flag settings.is_traced)
+  pub accesses : HasValue rows accesses.id (flag settings.has_accesses)
 
 -- a command over several files is the one over the file at this place
 abbrev pub IsAt : ℕ → Command → Type 0
@@ -123,9 +137,9 @@ abbrev pub AreApart : List Row → Type 0
 AreApart rows =
     (IsThere rows chosen_derivation.id × HasNo rows chosen_condition.id) ⊎ (HasNo rows chosen_derivation.id × IsThere rows chosen_condition.id)
 
--- the word for the format is none of the two
+-- the word for the format is none of these
 abbrev pub IsUnknownFormat : List Row → Type 0
-IsUnknownFormat rows = (word : Text) × (first_of format.id rows ≡ Some word) × (word ≡ codes "plain" → ⊥) × (word ≡ codes "json" → ⊥)
+IsUnknownFormat rows = (word : Text) × (first_of format.id rows ≡ Some word) × (word ≡ codes "plain" → ⊥) × (word ≡ codes "json" → ⊥) × (word ≡ codes "c" → ⊥)
 
 -- a run, or code, is asked for of an outline and of files, or of no outline and of some of the three files alone
 abbrev pub AreRunFilesApart : List Row → Type 0
@@ -148,6 +162,7 @@ IsFieldFault of rows place Apart = ((of ≡ kind.Clauses) ⊎ (of ≡ kind.Find)
 IsFieldFault of rows place UnknownFormat = IsUnknownFormat rows
 IsFieldFault of rows place RunFiles = (of ≡ kind.Run) × AreRunFilesApart rows
 IsFieldFault of rows place EmitFiles = (of ≡ kind.Emit) × AreRunFilesApart rows
+IsFieldFault of rows place AccessesFiles = (of ≡ kind.Accesses) × AreRunFilesApart rows
 IsFieldFault of rows place NoFile = (of ≡ kind.Verify) × IsBeyond rows place
 
 -- the words are those of a subcommand of the table, and its matches give no command

@@ -4,7 +4,7 @@ use Rattle.std.specs.Borrow.{Bor}
 use Rattle.clap.specs.Words.{Text}
 use Rattle.rgc_line.specs.declared.command.Named.{Named}
 use Rattle.rgc_line.specs.declared.command.Command.{Command}
-use Rattle.rgc_line.specs.declared.command.Command.TheVariants.{Number, Check, Conditions, Prove, Emit, EmitOutline, Run, RunOutline, Valid, Clauses, Find, Outline, Verify, Challenge, Explain}
+use Rattle.rgc_line.specs.declared.command.Command.TheVariants.{Number, Check, Conditions, Prove, Emit, EmitOutline, Accesses, AccessesOutline, Run, RunOutline, Valid, Clauses, Find, Outline, Verify, Challenge, Explain}
 
 -- a text, a derivation and proofs
 abbrev pub files : Option (Bor Text) → Option (Bor Text) → Option (Bor Text) → Named
@@ -22,6 +22,8 @@ named (Valid text proofs) = files (Some text) None (Some proofs)
 named (Clauses text chosen) = files (Some text) (option_map (λ c. c.derivation) chosen) None
 named (Find text _ chosen) = files (Some text) (option_map (λ c. c.derivation) chosen) None
 named (EmitOutline outline) = files (Some outline) None None
+named (Accesses text derivation proofs) = files (Some text) (Some derivation) (Some proofs)
+named (AccessesOutline outline) = files (Some outline) None None
 named (RunOutline outline start moves _ _) = record (files (Some outline) None None) { start = start; moves = moves }
 named (Challenge outline _) = files (Some outline) None None
 named (Outline outline _ _ _ _) = files (Some outline) None None

@@ -51,6 +51,14 @@ pub struct Settings<'a> {
     pub erase: Option<&'a str>,
     /// Whether the auxiliary words of an outline stay.
     pub keeps_aux: bool,
+    /// Whether code is written as C.
+    pub is_c: bool,
+    /// The name with which all begins that the C declares.
+    pub prefix: Option<&'a str>,
+    /// Whether steps are marked in the C.
+    pub is_traced: bool,
+    /// Whether a verdict is followed by how each step is done in C.
+    pub has_accesses: bool,
 }
 
 /// The settings where nothing is asked for.
@@ -63,6 +71,10 @@ pub const PLAIN: Settings<'static> = Settings {
     seed: None,
     erase: None,
     keeps_aux: false,
+    is_c: false,
+    prefix: None,
+    is_traced: false,
+    has_accesses: false,
 };
 
 /// A command with its files, each by its path as given.
@@ -100,6 +112,16 @@ pub enum Command<'a> {
     },
     /// The code of an outline's program, which is verified first.
     EmitOutline {
+        outline: &'a str,
+    },
+    /// How the steps of an accepted program are done in C.
+    Accesses {
+        text: &'a str,
+        derivation: &'a str,
+        proofs: &'a str,
+    },
+    /// How the steps of an outline's program are done in C, which is verified first.
+    AccessesOutline {
         outline: &'a str,
     },
     /// A run of an accepted program, from the start file or else from words that are all 0, with the environment's moves, where a file has
@@ -193,6 +215,11 @@ impl<'a> Command<'a> {
                 derivation,
                 proofs,
             }
+            | Command::Accesses {
+                text,
+                derivation,
+                proofs,
+            }
             | Command::Run {
                 text,
                 derivation,
@@ -215,6 +242,7 @@ impl<'a> Command<'a> {
             }
             Command::Outline { outline, .. }
             | Command::EmitOutline { outline }
+            | Command::AccessesOutline { outline }
             | Command::RunOutline { outline, .. }
             | Command::Challenge { outline, .. } => (Some(outline), None, None),
             Command::Verify { outlines, .. } => (Some(outlines.outline), None, None),

@@ -8,6 +8,7 @@ pub enum Kind {
     Conditions,
     Prove,
     Emit,
+    Accesses,
     Run,
     Valid,
     Clauses,
@@ -85,12 +86,12 @@ pub const DERIVATION: Field =
     field!(File "DERIVATION": "lines that derive the parts of the program");
 
 pub const PROOFS: Field =
-    field!(Files "PROOFS": "hint lines in sections, one for each condition that needs one, in one file or several");
+    field!(Files "PROOFS": "hint lines for the conditions, in one file or several");
 
 pub const FURTHER_DERIVATION: Field =
-    field!(RepeatedFile "derivation": "a further file of the derivation, after DERIVATION");
+    field!(RepeatedFile "derivation": "a further file of the derivation");
 
-pub const HINTS: Field = field!(File "PROOFS": "hint lines: id, literals, 0, hints, 0");
+pub const HINTS: Field = field!(File "PROOFS": "hint lines");
 
 pub const CHOSEN_DERIVATION: Field =
     field!(RepeatedFile "derivation": "the derivation of a program, in one file or several");
@@ -101,7 +102,7 @@ pub const CHOSEN_CONDITION: Field =
 pub const STEPS: Field = field!(NumberOrMillion "steps": "the most decisions, of each search");
 
 pub const VERIFY_STEPS: Field =
-    field!(OptionalNumber "steps": "the most decisions of each search; with --runs-only the most steps of all runs together");
+    field!(OptionalNumber "steps": "the most decisions of each search, or steps of all runs");
 
 pub const VERIFIED_TEXT: Field =
     field!(OptionalFile "text": "a file to write the program to that is verified");
@@ -118,7 +119,7 @@ pub const OUTLINE: Field =
     field!(File "OUTLINE": "a program with assertions between its statements");
 
 pub const WRITTEN_DERIVATION: Field =
-    field!(RepeatedFile "derivation": "a file to write the derivation to; several where one can't hold it");
+    field!(RepeatedFile "derivation": "a file for the derivation, or several for a large one");
 
 /// The files of a run, which an outline stands for too.
 pub const RUN_PROGRAM: Field = field!(Place "TEXT": "a program");
@@ -127,51 +128,59 @@ pub const RUN_DERIVATION: Field =
     field!(Place "DERIVATION": "lines that derive the parts of the program");
 
 pub const RUN_PROOFS: Field =
-    field!(Places "PROOFS": "hint lines in sections, one for each condition that needs one, in one file or several");
+    field!(Places "PROOFS": "hint lines for the conditions, in one file or several");
 
 pub const RUN_OUTLINE: Field =
-    field!(OptionalFile "outline": "an outline in the place of the three files; it is verified first");
+    field!(OptionalFile "outline": "an outline in their place, which is verified first");
 
 pub const ERASE: Field =
-    field!(OptionalText "erase": "words to leave out, with commas between them: auxiliary words, which nothing else needs");
+    field!(OptionalText "erase": "auxiliary words to leave out, with commas between");
 
 pub const KEEP_AUX: Field = field!(Flag "keep-aux": "leave the auxiliary words of the outline in");
+
+pub const CODE_FORMAT: Field =
+    field!(OptionalText "format": "json for the listing, or c for a header of C11");
+
+pub const PREFIX: Field = field!(OptionalText "name": "how names in the C begin; else program");
+
+pub const TRACED: Field = field!(Flag "trace": "a mark RGC_AT(part, block) before each step of C");
+
+pub const SHOWN_ACCESSES: Field =
+    field!(Flag "accesses": "print below the verdict what accesses prints");
 
 pub const WRITTEN_TEXT: Field =
     field!(OptionalFile "text": "a file to write the program to, in the place of the output");
 
 pub const WRITTEN_PROOFS: Field =
-    field!(RepeatedFile "proofs": "a file to write proofs of all conditions to, which are looked for; several where one can't hold them");
+    field!(RepeatedFile "proofs": "a file for proofs of all conditions, or several for large ones");
 
-pub const REFUSED: Field =
-    field!(Flag "refused": "tell the changes that are refused too, each with why");
+pub const REFUSED: Field = field!(Flag "refused": "report the refused changes too, each with why");
 
 pub const OUTLINES: Field =
     field!(Files "OUTLINE": "programs with assertions between their statements");
 
 pub const MAP: Field =
-    field!(OptionalFile "map": "a file to write to from which place of the outline each line and each condition comes");
+    field!(OptionalFile "map": "a file for the place in the outline of each line and condition");
 
 pub const CONDITIONS: Field =
-    field!(OptionalText "conditions": "the numbers A-B of the first and the last condition to prove; without it all");
+    field!(OptionalText "conditions": "the numbers A-B of the conditions to prove; else all");
 
 pub const FORMULAS: Field =
-    field!(Flag "formulas": "behind each name the condition as a text for find, valid and clauses");
+    field!(Flag "formulas": "after each name the condition as a text for find and valid");
 
 pub const RUNS_ONLY: Field =
     field!(Flag "runs-only": "follow the runs of the program alone, without its assertions");
 
 pub const THREADS: Field =
-    field!(OptionalNumber "threads": "the most threads; without it one for each processor");
+    field!(OptionalNumber "threads": "the most threads; else one for each processor");
 
 pub const OUTPUT: Field =
     field!(OptionalFile "output": "a file for the output, written whole or not at all");
 
 pub const OUTPUTS: Field =
-    field!(RepeatedFile "output": "a file for the output, written whole or not at all; several where one can't hold it");
+    field!(RepeatedFile "output": "a file for the output, or several for a large one");
 
-pub const FORMAT: Field =
-    field!(OptionalText "format": "plain for lines to be read, or json for one JSON value a line");
+pub const FORMAT: Field = field!(OptionalText "format": "plain, or json for one JSON value a line");
 
 pub const WARNINGS: Field =
     field!(OptionalText "warnings": "error: the status is 1 where a warning is given; off: none is given");
@@ -180,14 +189,14 @@ pub const SEED: Field =
     field!(OptionalText "seed": "a word by which one part after another goes first; without it the threads race");
 
 pub const EXPLAINED: Field =
-    field!(Flag "explain": "show below a refusal the line that it is about, and what could stand there");
+    field!(Flag "explain": "show below a refusal its line, and what could stand there");
 
 pub const REFUSAL: Field = field!(NeededNumber "NUMBER": "the number of a refusal");
 
 pub const DRAW: Field = field!(OptionalFile "draw": "a file to draw the run to");
 
 /// The commands, in the order in which the help lists them.
-pub static COMMANDS: [Row; 13] = [
+pub static COMMANDS: [Row; 14] = [
     Row {
         kind: Kind::Number,
         name: "number",
@@ -244,8 +253,29 @@ pub static COMMANDS: [Row; 13] = [
     Row {
         kind: Kind::Emit,
         name: "emit",
-        about: "Prints the listing of the code of an accepted program",
-        example: "Example: rgc emit counter.rg counter.rgd counter.lrat",
+        about: "Prints the code of an accepted program as a listing or as C",
+        example: "Example: rgc emit --outline lock.rgo --format c --name lock",
+        fields: &[
+            RUN_OUTLINE,
+            RUN_PROGRAM,
+            RUN_DERIVATION,
+            RUN_PROOFS,
+            FURTHER_DERIVATION,
+            THREADS,
+            OUTPUT,
+            EXPLAINED,
+            ERASE,
+            KEEP_AUX,
+            CODE_FORMAT,
+            PREFIX,
+            TRACED,
+        ],
+    },
+    Row {
+        kind: Kind::Accesses,
+        name: "accesses",
+        about: "Prints how each step of an accepted program is done in C",
+        example: "Example: rgc accesses --outline lock.rgo",
         fields: &[
             RUN_OUTLINE,
             RUN_PROGRAM,
@@ -304,7 +334,7 @@ pub static COMMANDS: [Row; 13] = [
     Row {
         kind: Kind::Find,
         name: "find",
-        about: "Looks for hint lines that prove the formula or the condition, or for states at which it fails",
+        about: "Looks for a proof of the formula or condition, or for states at which it fails",
         example: "Example: rgc find sum.rg --output sum.lrat",
         fields: &[
             FORMULA_OR_PROGRAM,
@@ -342,12 +372,13 @@ pub static COMMANDS: [Row; 13] = [
             THREADS,
             FORMAT,
             WARNINGS,
+            SHOWN_ACCESSES,
         ],
     },
     Row {
         kind: Kind::Challenge,
         name: "challenge",
-        about: "Changes an outline's program in small ways, and tells which changes its specification doesn't see",
+        about: "Changes an outline's program in small ways, and reports which its specification doesn't see",
         example: "Example: rgc challenge lock.rgo",
         fields: &[OUTLINE, REFUSED, THREADS, FORMAT],
     },

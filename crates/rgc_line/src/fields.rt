@@ -21,7 +21,7 @@ pub enum FieldFault {
     #[error("--derivation and --condition go together")]
     Apart,
     /// A format that isn't known.
-    #[error("--format takes plain or json")]
+    #[error("--format takes plain or json, and with emit json or c")]
     UnknownFormat,
     /// A run of an outline and of files, or of some files alone.
     #[error("run takes TEXT DERIVATION PROOFS, or --outline FILE")]
@@ -29,6 +29,9 @@ pub enum FieldFault {
     /// The code of an outline and of files, or of some files alone.
     #[error("emit takes TEXT DERIVATION PROOFS, or --outline FILE")]
     EmitFiles,
+    /// The accesses of an outline and of files, or of some files alone.
+    #[error("accesses takes TEXT DERIVATION PROOFS, or --outline FILE")]
+    AccessesFiles,
     /// The place is after the last of the files.
     #[error("there is no file at the place")]
     NoFile,

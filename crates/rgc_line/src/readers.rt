@@ -7,7 +7,7 @@ ghost use Rattle.rgc_line.specs.Line.{AreRunFilesApart, HasContents, HasSettings
 ghost use Rattle.rgc_line.specs.App.{kinds, row_of};
 ghost use Rattle.rgc_line.specs.Inner.Table.{IsListed, IsRefused, IsTable, IsWhole, Reads};
 ghost use Rattle.rgc_line.specs.declared.commands.Kind.TheVariants as kind;
-ghost use Rattle.rgc_line.specs.declared.fields.FieldFault.TheVariants.{EmitFiles, RunFiles};
+ghost use Rattle.rgc_line.specs.declared.fields.FieldFault.TheVariants.{AccessesFiles, EmitFiles, RunFiles};
 
 use crate::command::Command;
 use crate::commands::{
@@ -130,6 +130,34 @@ fn emit<'a>(matches: &ArgMatches<'a>) -> Result<Command<'a>, FieldFault>
     })
 }
 
+/// The accesses of three files, or of an outline.
+fn accesses<'a>(matches: &ArgMatches<'a>) -> Result<Command<'a>, FieldFault>
+    requires { IsWhole kind.Accesses (rows_of (found_of matches.now)) }
+    ensures reads { IfOk result (Reads kind.Accesses (rows_of (found_of matches.now))) }
+    ensures fault { IfErr result (λ f. (f ≡ AccessesFiles) × AreRunFilesApart (rows_of (found_of matches.now))) }
+{
+    if let Some(outline) = option(matches, RUN_OUTLINE.id) {
+        if let Some(_) = option(matches, RUN_PROGRAM.id) {
+            return Err(FieldFault::AccessesFiles);
+        }
+        return Ok(Command::AccessesOutline { outline });
+    }
+    let Some(text) = option(matches, RUN_PROGRAM.id) else {
+        return Err(FieldFault::AccessesFiles);
+    };
+    let Some(derivation) = option(matches, RUN_DERIVATION.id) else {
+        return Err(FieldFault::AccessesFiles);
+    };
+    let Some(proofs) = option(matches, RUN_PROOFS.id) else {
+        return Err(FieldFault::AccessesFiles);
+    };
+    Ok(Command::Accesses {
+        text,
+        derivation,
+        proofs,
+    })
+}
+
 /// The files of an outline.
 fn outline<'a>(matches: &ArgMatches<'a>) -> Command<'a>
     requires { IsWhole kind.Outline (rows_of (found_of matches.now)) }
@@ -163,6 +191,7 @@ fn command_of<'a>(
         Kind::Conditions => Ok(conditions(matches)),
         Kind::Prove => Ok(prove(matches)),
         Kind::Emit => emit(matches),
+        Kind::Accesses => accesses(matches),
         Kind::Run => run(matches),
         Kind::Valid => Ok(Command::Valid {
             text: file(matches, FORMULA.id),

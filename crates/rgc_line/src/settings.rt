@@ -4,11 +4,14 @@ ghost use Rattle.std.specs.Prelude.{◌≡◌, IfOk, IfErr};
 ghost use Rattle.clap.specs.Words.{found_of, rows_of};
 ghost use Rattle.rgc_line.specs.App.{threads};
 ghost use Rattle.rgc_line.specs.Inner.Table.{IsNumberIf};
-ghost use Rattle.rgc_line.specs.Line.{HasFormat, HasSettings, IsUnknownFormat};
+ghost use Rattle.rgc_line.specs.Line.{AsksForC, HasFormat, HasSettings, IsUnknownFormat};
 ghost use Rattle.rgc_line.specs.declared.fields.FieldFault.TheVariants.{UnknownFormat};
 
 use crate::command::{Format, Settings};
-use crate::commands::{ERASE, EXPLAINED, FORMAT, KEEP_AUX, OUTPUT, SEED, THREADS, WARNINGS};
+use crate::commands::{
+    ERASE, EXPLAINED, FORMAT, KEEP_AUX, OUTPUT, PREFIX, SEED, SHOWN_ACCESSES, THREADS, TRACED,
+    WARNINGS,
+};
 use crate::fields::{FieldFault, is_given, number_or_none, option};
 use clap::ArgMatches;
 
@@ -20,13 +23,23 @@ fn format(matches: &ArgMatches<'_>) -> Result<Format, FieldFault>
     let Some(word) = option(matches, FORMAT.id) else {
         return Ok(Format::Plain);
     };
-    if word == "plain" {
+    if word == "plain" || word == "c" {
         return Ok(Format::Plain);
     }
     if word == "json" {
         return Ok(Format::Json);
     }
     Err(FieldFault::UnknownFormat)
+}
+
+/// Whether code is asked for as C.
+fn is_c(matches: &ArgMatches<'_>) -> bool
+    ensures { AsksForC (rows_of (found_of matches.now)) result }
+{
+    match option(matches, FORMAT.id) {
+        Some(word) => word == "c",
+        None => false,
+    }
 }
 
 /// The settings of a subcommand; one that it has no option for is not given.
@@ -44,5 +57,9 @@ pub fn settings_of<'a>(matches: &ArgMatches<'a>) -> Result<Settings<'a>, FieldFa
         seed: option(matches, SEED.id),
         erase: option(matches, ERASE.id),
         keeps_aux: is_given(matches, KEEP_AUX.id),
+        is_c: is_c(matches),
+        prefix: option(matches, PREFIX.id),
+        is_traced: is_given(matches, TRACED.id),
+        has_accesses: is_given(matches, SHOWN_ACCESSES.id),
     })
 }

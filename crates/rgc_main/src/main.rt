@@ -140,6 +140,7 @@ fn way_of(rt: &HostRuntime, line: &Line<'_>) -> Way {
         Command::Verify { .. } if is_coloured(rt) || is_strict(line) => Way::Whole,
         Command::Find { .. }
         | Command::EmitOutline { .. }
+        | Command::AccessesOutline { .. }
         | Command::Prove { .. }
         | Command::Run { .. }
         | Command::RunOutline { .. }
@@ -502,7 +503,11 @@ fn are_small(files: &Files<'_>) -> bool {
 /// How many threads suit so many processors and these files: as many, or one where small files are checked.
 fn suiting(command: &Command<'_>, files: &Files<'_>, processors: usize) -> usize {
     match command {
-        Command::Check { .. } | Command::Emit { .. } | Command::Run { .. } if are_small(files) => 1,
+        Command::Check { .. }
+        | Command::Emit { .. }
+        | Command::Accesses { .. }
+        | Command::Run { .. }
+            if are_small(files) => 1,
         _ => processors,
     }
 }
@@ -524,6 +529,7 @@ fn outline_of<'a>(line: &Line<'a>) -> Option<&'a str> {
         Command::Verify { outlines, .. } => Some(outlines.outline),
         Command::Outline { outline, .. }
         | Command::EmitOutline { outline }
+        | Command::AccessesOutline { outline }
         | Command::RunOutline { outline, .. }
         | Command::Challenge { outline, .. } => Some(outline),
         _ => None,
@@ -654,7 +660,7 @@ fn run_from<R: Threads + Wait + Sync>(
 /// Whether the line asks to keep the auxiliary words of what is no outline.
 fn keeps_aux_of_text(line: &Line<'_>) -> bool {
     match line.command {
-        Command::EmitOutline { .. } => false,
+        Command::EmitOutline { .. } | Command::AccessesOutline { .. } => false,
         _ => line.settings.keeps_aux,
     }
 }
@@ -667,7 +673,10 @@ fn misfit_of(line: &Line<'_>, names: &PieceNames<'_>) -> Option<&'static str> {
     if let (Command::RunOutline { .. }, Format::Json) = (line.command, line.settings.format) {
         return Some("--outline and --format json don't go together");
     }
-    if let Command::RunOutline { .. } | Command::EmitOutline { .. } = line.command {
+    if let Command::RunOutline { .. }
+    | Command::EmitOutline { .. }
+    | Command::AccessesOutline { .. } = line.command
+    {
         if !names.derivation.is_empty() {
             return Some("--outline and --derivation don't go together");
         }

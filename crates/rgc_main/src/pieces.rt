@@ -47,6 +47,7 @@ impl<'a> PieceNames<'a> {
         let derivation = match *command {
             Command::Check { derivation, .. }
             | Command::Emit { derivation, .. }
+            | Command::Accesses { derivation, .. }
             | Command::Run { derivation, .. }
             | Command::Conditions { derivation, .. }
             | Command::Prove { derivation, .. } => with_first(alloc, derivation, &further)?,

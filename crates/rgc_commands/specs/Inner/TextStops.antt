@@ -3,7 +3,7 @@ use Rattle.std.specs.Prelude.{◌≡◌, ◌⊎◌, ℕ, List, Option, Some}
 use Rattle.rg_words.specs.declared.refusal.Refusal.{Refusal}
 use Rattle.rg_words.specs.Stopped.{IsStopped}
 use Rattle.rgc_line.specs.declared.command.Command.{Command}
-use Rattle.rgc_line.specs.declared.command.Command.TheVariants.{EmitOutline, RunOutline, Outline as the_outline, Verify, Challenge}
+use Rattle.rgc_line.specs.declared.command.Command.TheVariants.{EmitOutline, Accesses, AccessesOutline, RunOutline, Outline as the_outline, Verify, Challenge}
 use Rattle.rgc_line.specs.declared.command.Format.{Format}
 use Rattle.rgc_commands.specs.declared.files.Files.{Files}
 use Rattle.rgc_commands.specs.declared.stops.Stop.{Stop}
@@ -13,6 +13,8 @@ use Rattle.rgc_commands.specs.Stopped.{IsUntouched, unread_line, RefusesFiles, I
 -- the command is over texts, or explains
 abbrev pub IsOverTexts : Command → Type 0
 IsOverTexts (EmitOutline _) = ⊥
+IsOverTexts (Accesses _ _ _) = ⊥
+IsOverTexts (AccessesOutline _) = ⊥
 IsOverTexts (RunOutline _ _ _ _ _) = ⊥
 IsOverTexts (the_outline _ _ _ _ _) = ⊥
 IsOverTexts (Verify _ _ _ _) = ⊥

@@ -3,7 +3,7 @@ use Rattle.rg_erase.specs.Products.{program_left, blocks_left}
 use Rattle.rgc_commands.proofs.device.run_erased_lines.Goals as goal
 
 pub returns-clause-done : goal.returns-clause-done
-returns-clause-done g c = λ t d p' w.
+returns-clause-done g c =
     rw (c.in_ok-text.ensures.text, c.in_ok-text.ensures.derivation, c.in_ok-text.ensures.proofs) (record {
       program = emitted_program c.in_ok-emitted.emitted;
       blocks = emitted_blocks c.in_ok-emitted.emitted;

@@ -1,0 +1,75 @@
+-- How many steps are done in each way, and what is said of that.
+use Rattle.std.specs.Prelude.{ℕ, Bool, true, false, List, ◌++◌, codes, length, map}
+use Rattle.std.specs.List.{filter}
+use Rattle.std.specs.Fmt.{decimal}
+use Rattle.rg_tree.specs.Statements.{PartTree}
+use Rattle.rg_c_plan.specs.Accesses.{StepTree, steps_of_parts}
+use Rattle.rg_c_plan.specs.Ways.{way_of}
+use Rattle.rg_c_plan.specs.declared.kind.Kind.{Kind}
+use Rattle.rg_c_plan.specs.declared.way.Way.{Way}
+use Rattle.rg_c_plan.specs.declared.way.Way.TheVariants.{Direct, Load, Store, Exchange, Section}
+use Rattle.rg_c_report.specs.declared.counts.Counts.{Counts}
+use Rattle.rg_c_report.specs.Moving.{moving}
+use Rattle.rg_c_report.specs.Words.{counted}
+
+-- how a step is done: as its assignments that move are
+abbrev pub way_of_step : List Kind → StepTree → Way
+way_of_step kinds s = way_of kinds s.guard (moving s.act)
+
+-- the way is this one
+abbrev pub is_direct : Way → Bool
+is_direct Direct = true
+is_direct way = false
+
+abbrev pub is_load : Way → Bool
+is_load (Load k) = true
+is_load way = false
+
+abbrev pub is_store : Way → Bool
+is_store (Store k) = true
+is_store way = false
+
+abbrev pub is_exchange : Way → Bool
+is_exchange (Exchange k) = true
+is_exchange way = false
+
+abbrev pub is_section : Way → Bool
+is_section Section = true
+is_section way = false
+
+-- how many ways pass
+abbrev pub count_of : (Way → Bool) → List Way → ℕ
+count_of passes ways = length (filter passes ways)
+
+-- how many steps are done in each of these ways
+abbrev pub counts_of_ways : List Way → Counts
+counts_of_ways ways = record {
+  steps = length ways;
+  direct = count_of is_direct ways;
+  loads = count_of is_load ways;
+  stores = count_of is_store ways;
+  exchanges = count_of is_exchange ways;
+  sections = count_of is_section ways;
+}
+
+-- how many steps of these parts are done in each way
+abbrev pub counts_of : List Kind → List PartTree → Counts
+counts_of kinds parts = counts_of_ways (map (way_of_step kinds) (steps_of_parts parts))
+
+-- what is said of the steps, of those that meet no other part, of loads and stores
+unfoldable pub counts_first : Counts → List ℕ
+counts_first counts =
+    codes "Steps: " ++ (decimal counts.steps ++ (codes ". "
+    ++ (counted counts.direct (codes " meets no other part, ") (codes " meet no other part, ")
+    ++ (counted counts.loads (codes " is one load, ") (codes " are one load, ")
+    ++ counted counts.stores (codes " is one store,") (codes " are one store,")))))
+
+-- and of exchanges and sections
+unfoldable pub counts_second : Counts → List ℕ
+counts_second counts =
+    counted counts.exchanges (codes " is one compare-and-exchange, ") (codes " are one compare-and-exchange, ")
+    ++ counted counts.sections (codes " is a critical section.") (codes " are a critical section.")
+
+-- the whole sentence
+unfoldable pub counts_text : Counts → List ℕ
+counts_text counts = counts_first counts ++ (codes " " ++ counts_second counts)

@@ -1,0 +1,6 @@
+pub mod Words
+pub mod Moving
+pub mod Counts
+pub mod Parties
+pub mod Reports
+pub mod Inner

@@ -1,0 +1,143 @@
+//! How many steps are done in each way.
+
+ghost use Rattle.std.specs.Prelude.{◌≡◌, ◌++◌, map, string_bytes, IfOk, OnOk};
+ghost use Rattle.rg_tree.specs.ProgramView.{part as part_tree};
+ghost use Rattle.rg_c_plan.specs.View.{step};
+ghost use Rattle.rg_c_report.specs.Counts.{way_of_step, counts_of_ways, counts_of, counts_first, counts_second, counts_text};
+
+use crate::moves::moving;
+use crate::words::{push_counted, push_number};
+use rg_c_plan::kind::Kind;
+use rg_c_plan::step::{Step, steps_of_parts};
+use rg_c_plan::way::{Way, way_of};
+use rg_tree::part::Part;
+use std::alloc::{AllocError, Global};
+
+/// How many steps a program has, and how many of them are done in each way.
+#[derive(Clone, Copy, Debug, PartialEq, Eq)]
+pub struct Counts {
+    pub steps: usize,
+    /// Those that meet no other part.
+    pub direct: usize,
+    pub loads: usize,
+    pub stores: usize,
+    pub exchanges: usize,
+    pub sections: usize,
+}
+
+/// How a step is done.
+pub(crate) fn way_of_step(alloc: Global, kinds: &[Kind], s: &Step<'_>) -> Result<Way, AllocError>
+    ensures { IfOk result (λ way. way ≡ way_of_step kinds.now (step s.now)) }
+{
+    let moves = moving(alloc, s.act)?;
+    Ok(way_of(kinds, s.guard, &moves))
+}
+
+/// How each of these steps is done.
+fn ways_of(alloc: Global, kinds: &[Kind], steps: &[Step<'_>]) -> Result<Vec<Way>, AllocError>
+    ensures { IfOk result (λ ways. ways.items ≡ map (way_of_step kinds.now) (map step steps.now)) }
+{
+    let mut ways = Vec::new(alloc);
+    for s in steps {
+        ways.push(way_of_step(alloc, kinds, s)?)?;
+    }
+    Ok(ways)
+}
+
+/// How many of these steps are done in each way.
+fn counts_of_ways(ways: &[Way]) -> Counts
+    ensures { result ≡ counts_of_ways ways.now }
+{
+    let mut counts = Counts {
+        steps: ways.len(),
+        direct: 0,
+        loads: 0,
+        stores: 0,
+        exchanges: 0,
+        sections: 0,
+    };
+    for way in ways {
+        match way {
+            Way::Direct => counts.direct += 1,
+            Way::Load(_) => counts.loads += 1,
+            Way::Store(_) => counts.stores += 1,
+            Way::Exchange(_) => counts.exchanges += 1,
+            Way::Section => counts.sections += 1,
+        }
+    }
+    counts
+}
+
+/// How many steps these parts have, and how many are done in each way, by the kinds of words.
+///
+/// An error comes only where memory was refused.
+pub fn counts_of(alloc: Global, kinds: &[Kind], parts: &[Part]) -> Result<Counts, AllocError>
+    ensures { IfOk result (λ counts. counts ≡ counts_of kinds.now (map part_tree parts.now)) }
+{
+    let steps = steps_of_parts(alloc, parts)?;
+    let ways = ways_of(alloc, kinds, &steps)?;
+    Ok(counts_of_ways(&ways))
+}
+
+/// Adds the first half of what is said of the counts: the steps, those that meet no other part, loads and stores.
+///
+/// An error comes only where memory was refused.
+pub fn push_counts_first(text: &mut String, counts: &Counts) -> Result<(), AllocError>
+    ensures { OnOk result (string_bytes text.new ≡ string_bytes text.old ++ counts_first counts.now) }
+{
+    text.push_str("Steps: ")?;
+    push_number(text, counts.steps as u64)?;
+    text.push_str(". ")?;
+    push_counted(
+        text,
+        counts.direct as u64,
+        " meets no other part, ",
+        " meet no other part, ",
+    )?;
+    push_counted(
+        text,
+        counts.loads as u64,
+        " is one load, ",
+        " are one load, ",
+    )?;
+    push_counted(
+        text,
+        counts.stores as u64,
+        " is one store,",
+        " are one store,",
+    )?;
+    Ok(())
+}
+
+/// Adds the second half: exchanges and sections.
+///
+/// An error comes only where memory was refused.
+pub fn push_counts_second(text: &mut String, counts: &Counts) -> Result<(), AllocError>
+    ensures { OnOk result (string_bytes text.new ≡ string_bytes text.old ++ counts_second counts.now) }
+{
+    push_counted(
+        text,
+        counts.exchanges as u64,
+        " is one compare-and-exchange, ",
+        " are one compare-and-exchange, ",
+    )?;
+    push_counted(
+        text,
+        counts.sections as u64,
+        " is a critical section.",
+        " are a critical section.",
+    )?;
+    Ok(())
+}
+
+/// Adds what is said of the counts, as one sentence.
+///
+/// An error comes only where memory was refused.
+#[tactic(auto, unfolding(crate::specs::Counts::counts_text))]
+pub fn push_counts(text: &mut String, counts: &Counts) -> Result<(), AllocError>
+    ensures { OnOk result (string_bytes text.new ≡ string_bytes text.old ++ counts_text counts.now) }
+{
+    push_counts_first(text, counts)?;
+    text.push_str(" ")?;
+    push_counts_second(text, counts)
+}

@@ -1,0 +1,8 @@
+//! What is said of a program in C: how many steps are done in each way, who reads and writes each word, and how each step is done.
+#![tactic(auto)]
+
+pub mod counts;
+pub mod moves;
+pub mod parties;
+pub mod report;
+mod words;
