@@ -17,7 +17,6 @@ import importlib.machinery
 import importlib.util
 import os
 import re
-import resource
 import shutil
 import signal
 import subprocess
@@ -141,12 +140,7 @@ def program():
     ran = subprocess.run([f"{ROOT}/rgc", "--version"], stdin=subprocess.DEVNULL, stdout=subprocess.PIPE, text=True)
     if ran.returncode:
         stop("there is no program")
-    if "unproved" not in ran.stdout:
-        return f"{OUT}/{PROGRAM}"
-    # (as in ./rgc)
-    most = resource.getrlimit(resource.RLIMIT_STACK)[1]
-    resource.setrlimit(resource.RLIMIT_STACK, (65536 * 1024 if most < 0 else min(65536 * 1024, most), most))
-    return f"{OUT}/unproved/rgc"
+    return f"{OUT}/unproved/rgc" if "unproved" in ran.stdout else f"{OUT}/{PROGRAM}"
 
 
 # Copies
