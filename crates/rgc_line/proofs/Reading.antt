@@ -8,7 +8,7 @@ use Rattle.std.specs.Borrow.{Bor}
 use Rattle.clap.specs.Words.{Row as Given, Text, all_of, first_of}
 use Rattle.rgc_line.specs.App.{kinds, row_of}
 use Rattle.rgc_line.specs.Inner.Table.{HasOption}
-use Rattle.rgc_line.specs.Line.{HasValue, file, optional}
+use Rattle.rgc_line.specs.Values.{HasValue, file, optional}
 use Rattle.rgc_line.specs.declared.commands.Row.{Row}
 use Rattle.rgc_line.specs.declared.commands.Kind.{Kind}
 use Rattle.rgc_line.specs.declared.commands.Kind.TheVariants.{Number}

@@ -1,5 +1,5 @@
 -- What is so of the walk over words in which clap finds no fault: each row has a value, the values of a number are numbers, and the subcommand that is met isn't `help`.
-use Rattle.std.proofs.Common.{◌≡◌, ◌==◌, ◌&&◌, ◌||◌, ℕ, zero, suc, Bool, true, false, not, List, [], ◌∷◌, ◌++◌, length, Option, Some, None, is_some, refl, arith, codes}
+use Rattle.std.proofs.Common.{◌≡◌, ◌==◌, ◌&&◌, ◌||◌, ℕ, zero, suc, Bool, true, false, not, List, [], ◌∷◌, ◌++◌, length, Option, Some, None, is_some, refl, arith}
 use Rattle.std.specs.Prelude.{find, fold, drop, nat_lt, encode_utf8, slice_get, if◌then◌else◌}
 use Rattle.std.specs.List.{list_all, list_any}
 use Rattle.std.specs.Option.{option_map_or}
@@ -26,11 +26,12 @@ use Rattle.clap.specs.declared.error.kind.ErrorKind.{ErrorKind}
 use Rattle.clap.specs.declared.error.kind.ErrorKind.TheVariants as kind
 use Rattle.clap.specs.declared.parser.matches.ValueSource.{ValueSource}
 use Rattle.clap.specs.declared.parser.matches.ValueSource.TheVariants.{DefaultValue, CommandLine}
+use Rattle.rgc_line.specs.App.{kinds, row_of}
 use Rattle.rgc_line.specs.Inner.Table.{IsNumberText}
 
--- the id of a number
+-- it is the id of a number, at some command of the table
 unfoldable pub is_number_id : Text → Bool
-is_number_id id = list_any (bytes_eq id) (codes "steps" ∷ codes "limit" ∷ codes "condition" ∷ codes "threads" ∷ codes "NUMBER" ∷ [])
+is_number_id id = list_any (λ kind. list_any (λ (rule : Rule). is_some rule.parser && bytes_eq rule.id id) (row_of kind).rules) kinds
 
 -- the parser takes the numbers of a range
 abbrev pub is_unsigned : Option ValueParser → Bool

@@ -1,5 +1,5 @@
 -- Where clap finds no fault in the words, they name a subcommand of the table, and it has what its command needs.
-use Rattle.std.proofs.Common.{◌≡◌, ◌&&◌, ◌||◌, Bool, true, false, not, List, [], ◌∷◌, Option, Some, None, is_some, refl, sym, subst, codes, inl, inr}
+use Rattle.std.proofs.Common.{◌≡◌, ◌&&◌, ◌||◌, Bool, true, false, not, List, [], ◌∷◌, ◌++◌, Option, Some, None, is_some, refl, sym, subst, codes, inl, inr}
 use Rattle.std.specs.Prelude.{find, option_map}
 use Rattle.std.specs.Option.{option_map_or}
 use Rattle.std.specs.Str.{bytes_eq}
@@ -10,7 +10,7 @@ use Rattle.clap.specs.Walk.{answers_to, nothing_held, stop_after, walk_from}
 use Rattle.clap.specs.Faults.{entered_fault, level_fault, walk_fault}
 use Rattle.clap.specs.Simple.{argument_words, built, entered, label_of, names_of, rows_at}
 use Rattle.clap.proofs.OnLiterals.{clap_on_literals}
-use Rattle.rgc_line.specs.App.{rgc_app, row_of, threads}
+use Rattle.rgc_line.specs.App.{rgc_app, row_of, number_settings}
 use Rattle.rgc_line.specs.Inner.Table.{IsListed, IsNumber, IsNumberIf, is_wanted, IsSound, AreSound}
 use Rattle.rgc_line.specs.declared.commands.Kind.{Kind}
 use Rattle.rgc_line.specs.declared.commands.Kind.TheVariants.{Number, Check, Conditions, Prove, Emit, Accesses, Run, Valid, Clauses, Find, Outline, Verify, Challenge, Explain}
@@ -56,7 +56,7 @@ rules_sound s words complete (rule ∷ rules) has =
 pub record IsOf (s : Shape) : Type 0 where
   pub kind : Kind
   pub name : s.name ≡ (row_of kind).name
-  pub has : has_rules s (threads ∷ (row_of kind).rules) ≡ true
+  pub has : has_rules s (number_settings ++ (row_of kind).rules) ≡ true
   pub sound : are_sound s.rules ≡ true
 
 abbrev IsOfIf : Option Shape → Type 0
@@ -86,7 +86,7 @@ unfolding clap_on_literals rgc_app is_number_id
 shapes_are_of met after past =
     (of Number refl refl refl, (of Check refl refl refl, (of Conditions refl refl refl, (of Prove refl refl refl, (of Emit refl refl refl, (of Accesses refl refl refl, (of Run refl refl refl, (of Valid refl refl refl, (of Clauses refl refl refl, (of Find refl refl refl, (of Outline refl refl refl, (of Verify refl refl refl, (of Challenge refl refl refl, (of Explain refl refl refl, ((λ h. absurd (help_not_met met after past h)), tt)))))))))))))))
   where
-    of : {A : Type 0} {s : Shape} (kind : Kind) → s.name ≡ (row_of kind).name → has_rules s (threads ∷ (row_of kind).rules) ≡ true → are_sound s.rules ≡ true → A → IsOf s
+    of : {A : Type 0} {s : Shape} (kind : Kind) → s.name ≡ (row_of kind).name → has_rules s (number_settings ++ (row_of kind).rules) ≡ true → are_sound s.rules ≡ true → A → IsOf s
     of kind name has sound h = record { kind = kind; name = name; has = has; sound = sound }
 
 -- there is a subcommand, which is one of the table, and `clap` finds no fault in its words
@@ -100,7 +100,7 @@ shape_listed words None of fault met = cc met
 shape_listed words (Some s) of fault met = record {
   kind = of.kind;
   named = of.name;
-  whole = rules_sound s words (level_complete s [] words false [] of.sound fault) (threads ∷ (row_of of.kind).rules) of.has;
+  whole = rules_sound s words (level_complete s [] words false [] of.sound fault) (number_settings ++ (row_of of.kind).rules) of.has;
 }
 
 stop_listed : (stop : Option (Text × List Text)) → IsNoHelp (built rgc_app).top stop → entered_fault (built rgc_app) stop ≡ [] → is_some (entered (built rgc_app) stop) ≡ true

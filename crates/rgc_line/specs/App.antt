@@ -1,16 +1,20 @@
--- The table of the commands, as `clap`'s words have them.
+-- The table of the commands, as `clap`'s words have them, and what their words say of the settings.
 use Prim.Native.String.{String}
-use Rattle.std.specs.Prelude.{List, [], ◌∷◌, Some, true, false, codes, map}
-use Rattle.clap.specs.Words.{App, Rule, Shape, Text, new_rule}
+use Rattle.std.specs.Prelude.{◌≡◌, ◌⊎◌, ◌↔◌, Bool, List, [], ◌∷◌, Some, true, false, codes, map}
+use Rattle.clap.specs.Words.{App, Row, Rule, Shape, Text, first_of, new_rule}
 use Rattle.clap.specs.Simple.{new_shape}
 use Rattle.clap.specs.Lexer.{usize_max}
 use Rattle.clap.specs.declared.builder.action.ArgAction.TheVariants.{Append, SetTrue}
 use Rattle.clap.specs.declared.builder.value_parser.ValueParser.{ValueParser}
 use Rattle.clap.specs.declared.builder.value_parser.ValueParser.TheVariants as parser
+use Rattle.rgc_line.specs.declared.command.Format.{Format}
+use Rattle.rgc_line.specs.declared.command.Format.TheVariants.{Plain, Json}
+use Rattle.rgc_line.specs.declared.command.Settings.{Settings}
 use Rattle.rgc_line.specs.declared.commands.Form.{Form}
 use Rattle.rgc_line.specs.declared.commands.Form.TheVariants.{File, Place, Files, Places, OptionalFile, RepeatedFile, OptionalText, OptionalNumber, NeededNumber, NumberOrMillion, Flag}
 use Rattle.rgc_line.specs.declared.commands.Kind.{Kind}
 use Rattle.rgc_line.specs.declared.commands.Kind.TheVariants.{Number, Check, Conditions, Prove, Emit, Accesses, Run, Valid, Clauses, Find, Outline, Verify, Challenge, Explain}
+use Rattle.rgc_line.specs.Values.{HasNo, HasValue, HasValues, file, number, flag, optional}
 
 -- numbers of 64 bits
 abbrev pub numbers : ValueParser
@@ -34,19 +38,15 @@ rule_of_form Flag id = record (new_rule id) { long = Some id; action = Some SetT
 abbrev pub field : Form → String → Rule
 field form id = rule_of_form form (codes id)
 
--- the derivation of a program, one of whose conditions is chosen
-abbrev pub chosen_derivation : Rule
-chosen_derivation = field RepeatedFile "derivation"
-
--- further files of a derivation
-abbrev pub further_derivation : Rule
-further_derivation = field RepeatedFile "derivation"
+-- the derivation of a program, one of whose conditions is chosen, or further files of a derivation
+abbrev pub derivation_files : Rule
+derivation_files = field RepeatedFile "derivation"
 
 -- the number of the condition that is chosen
-abbrev pub chosen_condition : Rule
-chosen_condition = field OptionalNumber "condition"
+abbrev pub condition : Rule
+condition = field OptionalNumber "condition"
 
--- the options of several commands: the most threads
+-- the settings: the most threads
 abbrev pub threads : Rule
 threads = field OptionalNumber "threads"
 
@@ -90,6 +90,10 @@ trace = field Flag "trace"
 abbrev pub accesses : Rule
 accesses = field Flag "accesses"
 
+-- the settings that are numbers
+abbrev pub number_settings : List Rule
+number_settings = threads ∷ []
+
 -- a command with these arguments and no subcommands
 abbrev pub leaf : Text → List Rule → Shape
 leaf name rules = record (new_shape name) { rules = rules }
@@ -97,16 +101,16 @@ leaf name rules = record (new_shape name) { rules = rules }
 -- The table of the commands: the name of each, and its files and options in their order.
 abbrev pub row_of : Kind → Shape
 row_of Number = leaf (codes "number") (field File "TEXT" ∷ format ∷ explained ∷ [])
-row_of Check = leaf (codes "check") (field File "TEXT" ∷ field File "DERIVATION" ∷ field Files "PROOFS" ∷ further_derivation ∷ threads ∷ format ∷ explained ∷ [])
-row_of Conditions = leaf (codes "conditions") (field File "TEXT" ∷ field File "DERIVATION" ∷ field Flag "formulas" ∷ further_derivation ∷ format ∷ explained ∷ [])
-row_of Prove = leaf (codes "prove") (field File "TEXT" ∷ field File "DERIVATION" ∷ field NumberOrMillion "steps" ∷ field OptionalText "conditions" ∷ further_derivation ∷ threads ∷ field RepeatedFile "output" ∷ format ∷ explained ∷ [])
-row_of Emit = leaf (codes "emit") (field OptionalFile "outline" ∷ field Place "TEXT" ∷ field Place "DERIVATION" ∷ field Places "PROOFS" ∷ further_derivation ∷ threads ∷ output ∷ explained ∷ erase ∷ keep_aux ∷ format ∷ prefix ∷ trace ∷ [])
-row_of Accesses = leaf (codes "accesses") (field OptionalFile "outline" ∷ field Place "TEXT" ∷ field Place "DERIVATION" ∷ field Places "PROOFS" ∷ further_derivation ∷ threads ∷ output ∷ explained ∷ erase ∷ keep_aux ∷ [])
-row_of Run = leaf (codes "run") (field OptionalFile "start" ∷ field OptionalFile "moves" ∷ field NumberOrMillion "limit" ∷ field OptionalFile "draw" ∷ field OptionalFile "outline" ∷ field Place "TEXT" ∷ field Place "DERIVATION" ∷ field Places "PROOFS" ∷ further_derivation ∷ threads ∷ format ∷ explained ∷ seed ∷ erase ∷ [])
+row_of Check = leaf (codes "check") (field File "TEXT" ∷ field File "DERIVATION" ∷ field Files "PROOFS" ∷ derivation_files ∷ threads ∷ format ∷ explained ∷ [])
+row_of Conditions = leaf (codes "conditions") (field File "TEXT" ∷ field File "DERIVATION" ∷ field Flag "formulas" ∷ derivation_files ∷ format ∷ explained ∷ [])
+row_of Prove = leaf (codes "prove") (field File "TEXT" ∷ field File "DERIVATION" ∷ field NumberOrMillion "steps" ∷ field OptionalText "conditions" ∷ derivation_files ∷ threads ∷ field RepeatedFile "output" ∷ format ∷ explained ∷ [])
+row_of Emit = leaf (codes "emit") (field OptionalFile "outline" ∷ field Place "TEXT" ∷ field Place "DERIVATION" ∷ field Places "PROOFS" ∷ derivation_files ∷ threads ∷ output ∷ explained ∷ erase ∷ keep_aux ∷ format ∷ prefix ∷ trace ∷ [])
+row_of Accesses = leaf (codes "accesses") (field OptionalFile "outline" ∷ field Place "TEXT" ∷ field Place "DERIVATION" ∷ field Places "PROOFS" ∷ derivation_files ∷ threads ∷ output ∷ explained ∷ erase ∷ keep_aux ∷ [])
+row_of Run = leaf (codes "run") (field OptionalFile "start" ∷ field OptionalFile "moves" ∷ field NumberOrMillion "limit" ∷ field OptionalFile "draw" ∷ field OptionalFile "outline" ∷ field Place "TEXT" ∷ field Place "DERIVATION" ∷ field Places "PROOFS" ∷ derivation_files ∷ threads ∷ format ∷ explained ∷ seed ∷ erase ∷ [])
 row_of Valid = leaf (codes "valid") (field File "TEXT" ∷ field File "PROOFS" ∷ threads ∷ explained ∷ [])
-row_of Clauses = leaf (codes "clauses") (field File "TEXT" ∷ chosen_derivation ∷ chosen_condition ∷ output ∷ explained ∷ [])
-row_of Find = leaf (codes "find") (field File "TEXT" ∷ chosen_derivation ∷ chosen_condition ∷ field NumberOrMillion "steps" ∷ output ∷ explained ∷ [])
-row_of Outline = leaf (codes "outline") (field File "OUTLINE" ∷ field OptionalFile "text" ∷ field RepeatedFile "derivation" ∷ field RepeatedFile "proofs" ∷ field OptionalFile "map" ∷ threads ∷ [])
+row_of Clauses = leaf (codes "clauses") (field File "TEXT" ∷ derivation_files ∷ condition ∷ output ∷ explained ∷ [])
+row_of Find = leaf (codes "find") (field File "TEXT" ∷ derivation_files ∷ condition ∷ field NumberOrMillion "steps" ∷ output ∷ explained ∷ [])
+row_of Outline = leaf (codes "outline") (field File "OUTLINE" ∷ field OptionalFile "text" ∷ derivation_files ∷ field RepeatedFile "proofs" ∷ field OptionalFile "map" ∷ threads ∷ [])
 row_of Verify = leaf (codes "verify") (field Files "OUTLINE" ∷ field OptionalNumber "steps" ∷ field Flag "runs-only" ∷ field OptionalFile "text" ∷ threads ∷ format ∷ warnings ∷ accesses ∷ [])
 row_of Challenge = leaf (codes "challenge") (field File "OUTLINE" ∷ field Flag "refused" ∷ threads ∷ format ∷ [])
 row_of Explain = leaf (codes "explain") (field NeededNumber "NUMBER" ∷ [])
@@ -128,3 +132,35 @@ rgc_app = record {
   top = record rgc_top.top { is_leaf = false };
   subs = map row_of kinds;
 }
+
+-- the words have this word for the format
+abbrev pub HasWord : List Row → Text → Type 0
+HasWord rows word = first_of format.id rows ≡ Some word
+
+-- the words ask for this format: one JSON value a line where they say so
+abbrev pub HasFormat : List Row → Format → Type 0
+HasFormat rows Plain = HasNo rows format.id ⊎ (HasWord rows (codes "plain") ⊎ HasWord rows (codes "c"))
+HasFormat rows Json = HasWord rows (codes "json")
+
+-- the word for the format is none of these
+abbrev pub IsUnknownFormat : List Row → Type 0
+IsUnknownFormat rows = (word : Text) × (first_of format.id rows ≡ Some word) × (word ≡ codes "plain" → ⊥) × (word ≡ codes "json" → ⊥) × (word ≡ codes "c" → ⊥)
+
+-- they ask for C, or don't
+abbrev pub AsksForC : List Row → Bool → Type 0
+AsksForC rows is_c = (is_c ≡ true) ↔ HasWord rows (codes "c")
+
+-- what is asked of commands in the same way, by the words
+pub record HasSettings (rows : List Row) (settings : Settings) : Type 0 where
+  pub output : HasValue rows output.id (optional file settings.output)
+  pub format : HasFormat rows settings.format
+  pub explained : HasValue rows explained.id (flag settings.is_explained)
+  pub numbers : HasValues rows number_settings (optional number settings.threads ∷ [])
+  pub warnings : HasValue rows warnings.id (optional file settings.warnings)
+  pub seed : HasValue rows seed.id (optional file settings.seed)
+  pub erase : HasValue rows erase.id (optional file settings.erase)
+  pub keeps_aux : HasValue rows keep_aux.id (flag settings.keeps_aux)
+  pub c : AsksForC rows settings.is_c
+  pub prefix : HasValue rows prefix.id (optional file settings.prefix)
+  pub traced : HasValue rows trace.id (flag settings.is_traced)
+  pub accesses : HasValue rows accesses.id (flag settings.has_accesses)

@@ -1,3 +1,4 @@
+pub mod Values
 pub mod App
 pub mod Line
 pub mod Named

@@ -1,64 +1,18 @@
 -- What a command line says, by the matches of its subcommand.
-use Rattle.std.specs.Prelude.{◌≡◌, ◌⊎◌, ◌↔◌, ℕ, Bool, true, Option, Some, None, Ok, List, [], ◌∷◌, ◌≤◌, length, codes, slice_get}
-use Rattle.std.specs.Str.Parse.{ParsesUnsigned}
-use Rattle.std.specs.Borrow.{Bor}
-use Rattle.clap.specs.Words.{Row, Rule, Text, all_of, first_of, one_of, HasKind, fault_of, subcommand_of}
-use Rattle.rgc_line.specs.App.{rgc_app, row_of, chosen_derivation, chosen_condition, output, format, explained, threads, warnings, seed, erase, keep_aux, prefix, trace, accesses}
+use Rattle.std.specs.Prelude.{◌≡◌, ◌⊎◌, ℕ, Option, Some, None, List, [], ◌∷◌, ◌≤◌, length, codes}
+use Rattle.clap.specs.Words.{Row, Text, all_of, HasKind, fault_of, subcommand_of}
+use Rattle.rgc_line.specs.Values.{Value, file, file_of, number, flag, absent, optional, IsThere, HasNo, HasFiles, HasValues}
+use Rattle.rgc_line.specs.App.{rgc_app, row_of, derivation_files, condition, HasSettings, IsUnknownFormat}
 use Rattle.rgc_line.specs.declared.line.LineFault.{LineFault}
 use Rattle.rgc_line.specs.declared.line.LineFault.TheVariants.{Usage, Fields}
 use Rattle.rgc_line.specs.declared.fields.FieldFault.{FieldFault}
 use Rattle.rgc_line.specs.declared.fields.FieldFault.TheVariants.{Apart, UnknownFormat, RunFiles, EmitFiles, AccessesFiles, NoFile}
 use Rattle.rgc_line.specs.declared.command.Chosen.{Chosen}
-use Rattle.rgc_line.specs.declared.command.Outlines.{Outlines}
-use Rattle.rgc_line.specs.declared.command.Format.{Format}
-use Rattle.rgc_line.specs.declared.command.Format.TheVariants.{Plain, Json}
-use Rattle.rgc_line.specs.declared.command.Settings.{Settings}
 use Rattle.rgc_line.specs.declared.line.Line.{Line}
 use Rattle.rgc_line.specs.declared.command.Command.{Command}
 use Rattle.rgc_line.specs.declared.command.Command.TheVariants.{Number, Check, Conditions, Prove, Emit, EmitOutline, Accesses, AccessesOutline, Run, RunOutline, Valid, Clauses, Find, Outline, Verify, Challenge, Explain}
 use Rattle.rgc_line.specs.declared.commands.Kind.{Kind}
 use Rattle.rgc_line.specs.declared.commands.Kind.TheVariants as kind
-
--- the words have something at the id
-abbrev pub IsThere : List Row → Text → Type 0
-IsThere rows id = (text : Text) × (first_of id rows ≡ Some text)
-
--- the words have nothing at the id
-abbrev pub HasNo : List Row → Text → Type 0
-HasNo rows id = first_of id rows ≡ None
-
--- what the words have at a file or an option of a command: the name of a file or a word, one of several files, a number, that it is there or
--- not, or nothing
-pub data Value : Type 0 where
-  file : Bor Text → Value
-  file_of : Outlines → Value
-  number : ℕ → Value
-  flag : Bool → Value
-  absent : Value
-
--- what may be left out
-abbrev pub optional : {A : Type 0} → (A → Value) → Option A → Value
-optional make None = absent
-optional make (Some it) = make it
-
--- the words have this value at the id: this name; at its place, this one of several names; this number in decimal digits; the flag or not; nothing
-abbrev pub HasValue : List Row → Text → Value → Type 0
-HasValue rows id (file name) = first_of id rows ≡ Some name.now
-HasValue rows id (file_of one) =
-    (names : List Text) × (all_of id rows ≡ Some names) × (length names ≡ one.count) × (slice_get names one.place ≡ Some one.outline.now)
-HasValue rows id (number n) = (text : Text) × (one_of id rows ≡ Some text) × ParsesUnsigned {E = Unit {0}} 64 10 text (Ok n)
-HasValue rows id (flag is_given) = (is_given ≡ true) ↔ (first_of id rows ≡ Some (codes "true"))
-HasValue rows id absent = HasNo rows id
-
--- the words have these files at the id, in their order, or nothing
-abbrev pub HasFiles : List Row → Text → List Text → Type 0
-HasFiles rows id files = (all_of id rows ≡ Some files) ⊎ ((all_of id rows ≡ None) × (files ≡ []))
-
--- the words have these values at the first of the arguments, one at each
-abbrev pub HasValues : List Row → List Rule → List Value → Type 0
-HasValues rows rules [] = Unit {0}
-HasValues rows [] (value ∷ values) = ⊥
-HasValues rows (rule ∷ rules) (value ∷ values) = HasValue rows rule.id value × HasValues rows rules values
 
 -- before others, the values of the two options that choose a condition: a condition is chosen by both, and none by neither
 abbrev pub chosen_values : Option Chosen → List Value → List Value
@@ -90,34 +44,6 @@ contents_of (Explain n) = (kind.Explain, number n ∷ [])
 abbrev pub HasContents : Text → List Row → Kind × List Value → Type 0
 HasContents name rows it = let row = row_of it.0 in (name ≡ row.name) × HasValues rows row.rules it.1
 
--- the words have this word for the format
-abbrev pub HasWord : List Row → Text → Type 0
-HasWord rows word = first_of format.id rows ≡ Some word
-
--- the words ask for this format: one JSON value a line where they say so
-abbrev pub HasFormat : List Row → Format → Type 0
-HasFormat rows Plain = HasNo rows format.id ⊎ (HasWord rows (codes "plain") ⊎ HasWord rows (codes "c"))
-HasFormat rows Json = HasWord rows (codes "json")
-
--- they ask for C, or don't
-abbrev pub AsksForC : List Row → Bool → Type 0
-AsksForC rows is_c = (is_c ≡ true) ↔ HasWord rows (codes "c")
-
--- what is asked of several commands, by the words
-pub record HasSettings (rows : List Row) (settings : Settings) : Type 0 where
-  pub output : HasValue rows output.id (optional file settings.output)
-  pub format : HasFormat rows settings.format
-  pub explained : HasValue rows explained.id (flag settings.is_explained)
-  pub threads : HasValue rows threads.id (optional number settings.threads)
-  pub warnings : HasValue rows warnings.id (optional file settings.warnings)
-  pub seed : HasValue rows seed.id (optional file settings.seed)
-  pub erase : HasValue rows erase.id (optional file settings.erase)
-  pub keeps_aux : HasValue rows keep_aux.id (flag settings.keeps_aux)
-  pub c : AsksForC rows settings.is_c
-  pub prefix : HasValue rows prefix.id (optional file settings.prefix)
-  pub traced : HasValue rows trace.id (flag settings.is_traced)
-  pub accesses : HasValue rows accesses.id (flag settings.has_accesses)
-
 -- a command over several files is the one over the file at this place
 abbrev pub IsAt : ℕ → Command → Type 0
 IsAt place (Verify outlines _ _ _) = outlines.place ≡ place
@@ -135,11 +61,7 @@ pub record Says (subcommand : Option (Text × List Row)) (place : ℕ) (line : L
 -- of the two options that choose a condition, the words have one alone
 abbrev pub AreApart : List Row → Type 0
 AreApart rows =
-    (IsThere rows chosen_derivation.id × HasNo rows chosen_condition.id) ⊎ (HasNo rows chosen_derivation.id × IsThere rows chosen_condition.id)
-
--- the word for the format is none of these
-abbrev pub IsUnknownFormat : List Row → Type 0
-IsUnknownFormat rows = (word : Text) × (first_of format.id rows ≡ Some word) × (word ≡ codes "plain" → ⊥) × (word ≡ codes "json" → ⊥) × (word ≡ codes "c" → ⊥)
+    (IsThere rows derivation_files.id × HasNo rows condition.id) ⊎ (HasNo rows derivation_files.id × IsThere rows condition.id)
 
 -- a run, or code, is asked for of an outline and of files, or of no outline and of some of the three files alone
 abbrev pub AreRunFilesApart : List Row → Type 0

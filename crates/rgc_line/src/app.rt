@@ -6,15 +6,16 @@ ghost use Rattle.rgc_line.specs.App.{rgc_top, rgc_app};
 ghost use Rattle.rgc_line.specs.Inner.Table.{rule_at, shape_at, with_subcommands, IsLeafOf};
 
 use crate::commands::{COMMANDS, Field, Form, Row};
+use crate::help::{about, help_of, overview};
 use clap::{Arg, ArgAction, Command};
 use std::alloc::{AllocError, Global};
 
-/// A file or an option.
-fn argument<'a>(alloc: Global, field: &Field) -> Arg<'a>
+/// A file or an option, with what is said of it.
+fn argument<'a>(alloc: Global, field: &Field, help: &'a str) -> Arg<'a>
     ensures rule { rule_of result ≡ rule_at field.now }
     ensures local { result.global ≡ false }
 {
-    let argument = Arg::new(alloc, field.id).help(field.help);
+    let argument = Arg::new(alloc, field.id).help(help);
     match field.form {
         Form::File => argument.required(true),
         Form::Place => argument,
@@ -46,11 +47,13 @@ fn argument<'a>(alloc: Global, field: &Field) -> Arg<'a>
 fn leaf<'a>(alloc: Global, row: &Row) -> Result<Command<'a>, AllocError>
     ensures { IfOk result (IsLeafOf row.now) }
 {
+    let help = help_of(row.kind);
     let mut command = Command::new(alloc, row.name)
-        .about(row.about)
-        .after_help(row.example);
+        .about(help.about)
+        .after_help(help.more);
     for field in row.fields {
-        command = command.arg(argument(alloc, field))?;
+        let text = help.of(field.id);
+        command = command.arg(argument(alloc, field, text))?;
     }
     Ok(command)
 }
@@ -61,7 +64,8 @@ fn rgc_alone<'a>(alloc: Global) -> Command<'a>
 {
     Command::new(alloc, "rgc")
         .version("0.1.0")
-        .about("A verifying compiler for programs of parallel parts that share words")
+        .about(about())
+        .after_help(overview())
         .subcommand_required(true)
 }
 

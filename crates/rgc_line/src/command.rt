@@ -1,7 +1,18 @@
-//! What the program is asked to do.
+//! What the program is asked to do, and the settings of a command, from the matches of its subcommand.
 
-ghost use Rattle.std.specs.Prelude.{◌≡◌};
+ghost use Rattle.std.specs.Prelude.{◌≡◌, IfOk, IfErr};
+ghost use Rattle.clap.specs.Words.{found_of, rows_of};
+ghost use Rattle.rgc_line.specs.App.{AsksForC, HasFormat, HasSettings, IsUnknownFormat, threads};
+ghost use Rattle.rgc_line.specs.Inner.Table.{IsNumberIf};
 ghost use Rattle.rgc_line.specs.Named.{named};
+ghost use Rattle.rgc_line.specs.declared.fields.FieldFault.TheVariants.{UnknownFormat};
+
+use crate::commands::{
+    ERASE, EXPLAINED, FORMAT, KEEP_AUX, OUTPUT, PREFIX, SEED, SHOWN_ACCESSES, THREADS, TRACED,
+    WARNINGS,
+};
+use crate::fields::{FieldFault, is_given, number_or_none, option};
+use clap::ArgMatches;
 
 /// The condition of a program that a command is about.
 #[derive(Clone, Copy)]
@@ -76,6 +87,55 @@ pub const PLAIN: Settings<'static> = Settings {
     is_traced: false,
     has_accesses: false,
 };
+
+/// The format; without a word for it, lines to be read.
+fn format_of(matches: &ArgMatches<'_>) -> Result<Format, FieldFault>
+    ensures format { IfOk result (HasFormat (rows_of (found_of matches.now))) }
+    ensures fault { IfErr result (λ f. (f ≡ UnknownFormat) × IsUnknownFormat (rows_of (found_of matches.now))) }
+{
+    let Some(word) = option(matches, FORMAT.id) else {
+        return Ok(Format::Plain);
+    };
+    if word == "plain" || word == "c" {
+        return Ok(Format::Plain);
+    }
+    if word == "json" {
+        return Ok(Format::Json);
+    }
+    Err(FieldFault::UnknownFormat)
+}
+
+/// Whether code is asked for as C.
+fn is_c(matches: &ArgMatches<'_>) -> bool
+    ensures { AsksForC (rows_of (found_of matches.now)) result }
+{
+    match option(matches, FORMAT.id) {
+        Some(word) => word == "c",
+        None => false,
+    }
+}
+
+/// The settings of a subcommand; one that it has no option for is not given.
+pub fn settings_of<'a>(matches: &ArgMatches<'a>) -> Result<Settings<'a>, FieldFault>
+    requires { IsNumberIf (rows_of (found_of matches.now)) threads.id }
+    ensures settings { IfOk result (HasSettings (rows_of (found_of matches.now))) }
+    ensures fault { IfErr result (λ f. (f ≡ UnknownFormat) × IsUnknownFormat (rows_of (found_of matches.now))) }
+{
+    Ok(Settings {
+        output: option(matches, OUTPUT.id),
+        format: format_of(matches)?,
+        is_explained: is_given(matches, EXPLAINED.id),
+        threads: number_or_none(matches, THREADS.id),
+        warnings: option(matches, WARNINGS.id),
+        seed: option(matches, SEED.id),
+        erase: option(matches, ERASE.id),
+        keeps_aux: is_given(matches, KEEP_AUX.id),
+        is_c: is_c(matches),
+        prefix: option(matches, PREFIX.id),
+        is_traced: is_given(matches, TRACED.id),
+        has_accesses: is_given(matches, SHOWN_ACCESSES.id),
+    })
+}
 
 /// A command with its files, each by its path as given.
 #[derive(Clone, Copy)]
@@ -199,54 +259,64 @@ pub struct Named<'a> {
 }
 
 impl<'a> Command<'a> {
-    /// The text, the derivation and the proofs that the command reads.
-    fn files_of(&self) -> (Option<&'a str>, Option<&'a str>, Option<&'a str>)
-        ensures { result ≡ ((named self.now).text, (named self.now).derivation, (named self.now).proofs) }
+    /// The text, or the outline in its place, that the command reads.
+    fn text_of(&self) -> Option<&'a str>
+        ensures { result ≡ (named self.now).text }
     {
         match *self {
-            Command::Number { text } => (Some(text), None, None),
-            Command::Check {
-                text,
-                derivation,
-                proofs,
-            }
-            | Command::Emit {
-                text,
-                derivation,
-                proofs,
-            }
-            | Command::Accesses {
-                text,
-                derivation,
-                proofs,
-            }
-            | Command::Run {
-                text,
-                derivation,
-                proofs,
-                ..
-            } => (Some(text), Some(derivation), Some(proofs)),
-            Command::Conditions {
-                text,
-                derivation,
-                ..
-            }
-            | Command::Prove {
-                text,
-                derivation,
-                ..
-            } => (Some(text), Some(derivation), None),
-            Command::Valid { text, proofs } => (Some(text), None, Some(proofs)),
-            Command::Clauses { text, chosen } | Command::Find { text, chosen, .. } => {
-                (Some(text), chosen.map(|chosen| chosen.derivation), None)
-            }
+            Command::Number { text }
+            | Command::Check { text, .. }
+            | Command::Conditions { text, .. }
+            | Command::Prove { text, .. }
+            | Command::Emit { text, .. }
+            | Command::Accesses { text, .. }
+            | Command::Run { text, .. }
+            | Command::Valid { text, .. }
+            | Command::Clauses { text, .. }
+            | Command::Find { text, .. } => Some(text),
             Command::Outline { outline, .. }
             | Command::EmitOutline { outline }
             | Command::AccessesOutline { outline }
             | Command::RunOutline { outline, .. }
-            | Command::Challenge { outline, .. } => (Some(outline), None, None),
-            Command::Verify { outlines, .. } => (Some(outlines.outline), None, None),
-            Command::Explain { .. } => (None, None, None),
+            | Command::Challenge { outline, .. } => Some(outline),
+            Command::Verify { outlines, .. } => Some(outlines.outline),
+            Command::Explain { .. } => None,
+        }
+    }
+
+    /// The derivation and the proofs that the command reads.
+    fn certificate_of(&self) -> (Option<&'a str>, Option<&'a str>)
+        ensures { result ≡ ((named self.now).derivation, (named self.now).proofs) }
+    {
+        match *self {
+            Command::Check {
+                derivation,
+                proofs,
+                ..
+            }
+            | Command::Emit {
+                derivation,
+                proofs,
+                ..
+            }
+            | Command::Accesses {
+                derivation,
+                proofs,
+                ..
+            }
+            | Command::Run {
+                derivation,
+                proofs,
+                ..
+            } => (Some(derivation), Some(proofs)),
+            Command::Conditions { derivation, .. } | Command::Prove { derivation, .. } => {
+                (Some(derivation), None)
+            }
+            Command::Valid { proofs, .. } => (None, Some(proofs)),
+            Command::Clauses { chosen, .. } | Command::Find { chosen, .. } => {
+                (chosen.map(|chosen| chosen.derivation), None)
+            }
+            _ => (None, None),
         }
     }
 
@@ -266,10 +336,10 @@ impl<'a> Command<'a> {
     pub fn named(&self) -> Named<'a>
         ensures { result ≡ named self.now }
     {
-        let (text, derivation, proofs) = self.files_of();
+        let (derivation, proofs) = self.certificate_of();
         let (start, moves) = self.inputs_of();
         Named {
-            text,
+            text: self.text_of(),
             derivation,
             proofs,
             start,

@@ -2,14 +2,17 @@
 
 ghost use Rattle.std.specs.Prelude.{◌≡◌, map, IfOk, IfErr, codes};
 ghost use Rattle.clap.specs.Words.{found_of, rows_of};
-ghost use Rattle.rgc_line.specs.App.{chosen_condition};
-ghost use Rattle.rgc_line.specs.Line.{HasFiles, HasValue, optional, AreApart, IsBeyond, IsThere};
-ghost use Rattle.rgc_line.specs.Line as value;
-ghost use Rattle.rgc_line.specs.Inner.Table.{HasOption, HasChosen, IsNumber, IsNumberIf};
+ghost use Rattle.rgc_line.specs.App.{condition};
+ghost use Rattle.rgc_line.specs.Values.{HasFiles, HasValue, optional, IsThere};
+ghost use Rattle.rgc_line.specs.Values as value;
+ghost use Rattle.rgc_line.specs.Line.{AreApart, AreRunFilesApart, IsBeyond};
+ghost use Rattle.rgc_line.specs.Inner.Table.{HasOption, HasChosen, HasSource, IsNumber, IsNumberIf};
 ghost use Rattle.rgc_line.specs.declared.fields.FieldFault.TheVariants.{Apart, NoFile};
 
 use crate::command::{Chosen, Outlines};
-use crate::commands::{CHOSEN_CONDITION, CHOSEN_DERIVATION, OUTLINES};
+use crate::commands::{
+    CONDITION, DERIVATION_FILES, OUTLINES, RUN_DERIVATION, RUN_OUTLINE, RUN_PROOFS, RUN_TEXT,
+};
 use clap::ArgMatches;
 use std::alloc::{AllocError, Global};
 use thiserror::Error;
@@ -37,6 +40,22 @@ pub enum FieldFault {
     NoFile,
 }
 
+/// A program, by its files or by an outline.
+#[derive(Clone, Copy)]
+pub enum Source<'a> {
+    /// Its text, its derivation and the proofs.
+    Files {
+        text: &'a str,
+        derivation: &'a str,
+        proofs: &'a str,
+    },
+    /// An outline in their place.
+    Outline {
+        outline: &'a str,
+    },
+}
+
+/// A file or a word that may be left out.
 pub fn option<'a>(matches: &ArgMatches<'a>, id: &str) -> Option<&'a str>
     ensures has { HasOption (rows_of (found_of matches.now)) id.now result }
     ensures value { HasValue (rows_of (found_of matches.now)) id.now (optional value.file result) }
@@ -115,19 +134,46 @@ pub fn is_given(matches: &ArgMatches<'_>, id: &str) -> bool
 
 /// The condition that the two options choose, where both are given.
 pub fn chosen<'a>(matches: &ArgMatches<'a>) -> Result<Option<Chosen<'a>>, FieldFault>
-    requires { IsNumberIf (rows_of (found_of matches.now)) chosen_condition.id }
+    requires { IsNumberIf (rows_of (found_of matches.now)) condition.id }
     ensures chosen { IfOk result (HasChosen (rows_of (found_of matches.now))) }
     ensures fault { IfErr result (λ f. (f ≡ Apart) × AreApart (rows_of (found_of matches.now))) }
 {
     match (
-        option(matches, CHOSEN_DERIVATION.id),
-        option(matches, CHOSEN_CONDITION.id),
+        option(matches, DERIVATION_FILES.id),
+        option(matches, CONDITION.id),
     ) {
         (None, None) => Ok(None),
         (Some(derivation), Some(_)) => Ok(Some(Chosen {
             derivation,
-            condition: given_number(matches, CHOSEN_CONDITION.id),
+            condition: given_number(matches, CONDITION.id),
         })),
         _ => Err(FieldFault::Apart),
     }
+}
+
+/// The program that a run, or code, is asked for of; this fault where it is given in both ways or in none.
+pub fn source_of<'a>(matches: &ArgMatches<'a>, fault: FieldFault) -> Result<Source<'a>, FieldFault>
+    ensures source { IfOk result (HasSource (rows_of (found_of matches.now))) }
+    ensures fault { IfErr result (λ f. (f ≡ fault) × AreRunFilesApart (rows_of (found_of matches.now))) }
+{
+    if let Some(outline) = option(matches, RUN_OUTLINE.id) {
+        if let Some(_) = option(matches, RUN_TEXT.id) {
+            return Err(fault);
+        }
+        return Ok(Source::Outline { outline });
+    }
+    let Some(text) = option(matches, RUN_TEXT.id) else {
+        return Err(fault);
+    };
+    let Some(derivation) = option(matches, RUN_DERIVATION.id) else {
+        return Err(fault);
+    };
+    let Some(proofs) = option(matches, RUN_PROOFS.id) else {
+        return Err(fault);
+    };
+    Ok(Source::Files {
+        text,
+        derivation,
+        proofs,
+    })
 }

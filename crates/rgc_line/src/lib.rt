@@ -5,9 +5,9 @@ mod app;
 mod command;
 mod commands;
 mod fields;
+mod help;
 mod line;
 mod readers;
-mod settings;
 
 pub use command::{Chosen, Command, Format, Named, Outlines, PLAIN, Settings};
 pub use fields::FieldFault;

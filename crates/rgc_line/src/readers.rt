@@ -3,24 +3,23 @@
 ghost use Rattle.std.specs.Prelude.{◌≡◌, IfOk, IfErr, find};
 ghost use Rattle.std.specs.Str.{bytes_eq};
 ghost use Rattle.clap.specs.Words.{found_of, rows_of};
-ghost use Rattle.rgc_line.specs.Line.{AreRunFilesApart, HasContents, HasSettings, IsAt, IsFieldFault, contents_of};
-ghost use Rattle.rgc_line.specs.App.{kinds, row_of};
+ghost use Rattle.rgc_line.specs.Line.{AreRunFilesApart, HasContents, IsAt, IsFieldFault, contents_of};
+ghost use Rattle.rgc_line.specs.App.{kinds, row_of, HasSettings};
 ghost use Rattle.rgc_line.specs.Inner.Table.{IsListed, IsRefused, IsTable, IsWhole, Reads};
 ghost use Rattle.rgc_line.specs.declared.commands.Kind.TheVariants as kind;
 ghost use Rattle.rgc_line.specs.declared.fields.FieldFault.TheVariants.{AccessesFiles, EmitFiles, RunFiles};
 
-use crate::command::Command;
+use crate::command::{Command, settings_of};
 use crate::commands::{
-    COMMANDS, CONDITIONS, DERIVATION, DRAW, FORMULA, FORMULA_OR_PROGRAM, FORMULAS, HINTS, Kind,
-    LIMIT, MAP, MOVES, OUTLINE, PROGRAM, PROOFS, REFUSAL, REFUSED, RUN_DERIVATION, RUN_OUTLINE,
-    RUN_PROGRAM, RUN_PROOFS, RUNS_ONLY, Row, START, STEPS, VERIFIED_TEXT, VERIFY_STEPS,
-    WRITTEN_DERIVATION, WRITTEN_PROOFS, WRITTEN_TEXT,
+    COMMANDS, CONDITIONS, DERIVATION, DERIVATION_FILES, DRAW, FORMULAS, HINTS, Kind, LIMIT, MAP,
+    MOVES, OUTLINE, PROOFS, REFUSAL, REFUSED, RUNS_ONLY, Row, START, STEPS, TEXT, VERIFY_STEPS,
+    WRITTEN_PROOFS, WRITTEN_TEXT,
 };
 use crate::fields::{
-    FieldFault, chosen, file, given_number, is_given, number_or_none, option, outline_at,
+    FieldFault, Source, chosen, file, given_number, is_given, number_or_none, option, outline_at,
+    source_of,
 };
 use crate::line::Line;
-use crate::settings::settings_of;
 use clap::ArgMatches;
 
 /// A run of three files, or of an outline.
@@ -33,36 +32,28 @@ fn run<'a>(matches: &ArgMatches<'a>) -> Result<Command<'a>, FieldFault>
     let moves = option(matches, MOVES.id);
     let limit = given_number(matches, LIMIT.id);
     let draw = option(matches, DRAW.id);
-    if let Some(outline) = option(matches, RUN_OUTLINE.id) {
-        if let Some(_) = option(matches, RUN_PROGRAM.id) {
-            return Err(FieldFault::RunFiles);
-        }
-        return Ok(Command::RunOutline {
+    match source_of(matches, FieldFault::RunFiles)? {
+        Source::Outline { outline } => Ok(Command::RunOutline {
             outline,
             start,
             moves,
             limit,
             draw,
-        });
+        }),
+        Source::Files {
+            text,
+            derivation,
+            proofs,
+        } => Ok(Command::Run {
+            text,
+            derivation,
+            proofs,
+            start,
+            moves,
+            limit,
+            draw,
+        }),
     }
-    let Some(text) = option(matches, RUN_PROGRAM.id) else {
-        return Err(FieldFault::RunFiles);
-    };
-    let Some(derivation) = option(matches, RUN_DERIVATION.id) else {
-        return Err(FieldFault::RunFiles);
-    };
-    let Some(proofs) = option(matches, RUN_PROOFS.id) else {
-        return Err(FieldFault::RunFiles);
-    };
-    Ok(Command::Run {
-        text,
-        derivation,
-        proofs,
-        start,
-        moves,
-        limit,
-        draw,
-    })
 }
 
 /// A check of three files.
@@ -71,7 +62,7 @@ fn check<'a>(matches: &ArgMatches<'a>) -> Command<'a>
     ensures { Reads kind.Check (rows_of (found_of matches.now)) result }
 {
     Command::Check {
-        text: file(matches, PROGRAM.id),
+        text: file(matches, TEXT.id),
         derivation: file(matches, DERIVATION.id),
         proofs: file(matches, PROOFS.id),
     }
@@ -83,7 +74,7 @@ fn conditions<'a>(matches: &ArgMatches<'a>) -> Command<'a>
     ensures { Reads kind.Conditions (rows_of (found_of matches.now)) result }
 {
     Command::Conditions {
-        text: file(matches, PROGRAM.id),
+        text: file(matches, TEXT.id),
         derivation: file(matches, DERIVATION.id),
         has_formulas: is_given(matches, FORMULAS.id),
     }
@@ -95,7 +86,7 @@ fn prove<'a>(matches: &ArgMatches<'a>) -> Command<'a>
     ensures { Reads kind.Prove (rows_of (found_of matches.now)) result }
 {
     Command::Prove {
-        text: file(matches, PROGRAM.id),
+        text: file(matches, TEXT.id),
         derivation: file(matches, DERIVATION.id),
         steps: given_number(matches, STEPS.id),
         conditions: option(matches, CONDITIONS.id),
@@ -108,26 +99,18 @@ fn emit<'a>(matches: &ArgMatches<'a>) -> Result<Command<'a>, FieldFault>
     ensures reads { IfOk result (Reads kind.Emit (rows_of (found_of matches.now))) }
     ensures fault { IfErr result (λ f. (f ≡ EmitFiles) × AreRunFilesApart (rows_of (found_of matches.now))) }
 {
-    if let Some(outline) = option(matches, RUN_OUTLINE.id) {
-        if let Some(_) = option(matches, RUN_PROGRAM.id) {
-            return Err(FieldFault::EmitFiles);
-        }
-        return Ok(Command::EmitOutline { outline });
+    match source_of(matches, FieldFault::EmitFiles)? {
+        Source::Outline { outline } => Ok(Command::EmitOutline { outline }),
+        Source::Files {
+            text,
+            derivation,
+            proofs,
+        } => Ok(Command::Emit {
+            text,
+            derivation,
+            proofs,
+        }),
     }
-    let Some(text) = option(matches, RUN_PROGRAM.id) else {
-        return Err(FieldFault::EmitFiles);
-    };
-    let Some(derivation) = option(matches, RUN_DERIVATION.id) else {
-        return Err(FieldFault::EmitFiles);
-    };
-    let Some(proofs) = option(matches, RUN_PROOFS.id) else {
-        return Err(FieldFault::EmitFiles);
-    };
-    Ok(Command::Emit {
-        text,
-        derivation,
-        proofs,
-    })
 }
 
 /// The accesses of three files, or of an outline.
@@ -136,26 +119,18 @@ fn accesses<'a>(matches: &ArgMatches<'a>) -> Result<Command<'a>, FieldFault>
     ensures reads { IfOk result (Reads kind.Accesses (rows_of (found_of matches.now))) }
     ensures fault { IfErr result (λ f. (f ≡ AccessesFiles) × AreRunFilesApart (rows_of (found_of matches.now))) }
 {
-    if let Some(outline) = option(matches, RUN_OUTLINE.id) {
-        if let Some(_) = option(matches, RUN_PROGRAM.id) {
-            return Err(FieldFault::AccessesFiles);
-        }
-        return Ok(Command::AccessesOutline { outline });
+    match source_of(matches, FieldFault::AccessesFiles)? {
+        Source::Outline { outline } => Ok(Command::AccessesOutline { outline }),
+        Source::Files {
+            text,
+            derivation,
+            proofs,
+        } => Ok(Command::Accesses {
+            text,
+            derivation,
+            proofs,
+        }),
     }
-    let Some(text) = option(matches, RUN_PROGRAM.id) else {
-        return Err(FieldFault::AccessesFiles);
-    };
-    let Some(derivation) = option(matches, RUN_DERIVATION.id) else {
-        return Err(FieldFault::AccessesFiles);
-    };
-    let Some(proofs) = option(matches, RUN_PROOFS.id) else {
-        return Err(FieldFault::AccessesFiles);
-    };
-    Ok(Command::Accesses {
-        text,
-        derivation,
-        proofs,
-    })
 }
 
 /// The files of an outline.
@@ -166,7 +141,7 @@ fn outline<'a>(matches: &ArgMatches<'a>) -> Command<'a>
     Command::Outline {
         outline: file(matches, OUTLINE.id),
         text: option(matches, WRITTEN_TEXT.id),
-        derivation: option(matches, WRITTEN_DERIVATION.id),
+        derivation: option(matches, DERIVATION_FILES.id),
         proofs: option(matches, WRITTEN_PROOFS.id),
         map: option(matches, MAP.id),
     }
@@ -185,7 +160,7 @@ fn command_of<'a>(
 {
     match kind {
         Kind::Number => Ok(Command::Number {
-            text: file(matches, PROGRAM.id),
+            text: file(matches, TEXT.id),
         }),
         Kind::Check => Ok(check(matches)),
         Kind::Conditions => Ok(conditions(matches)),
@@ -194,15 +169,15 @@ fn command_of<'a>(
         Kind::Accesses => accesses(matches),
         Kind::Run => run(matches),
         Kind::Valid => Ok(Command::Valid {
-            text: file(matches, FORMULA.id),
+            text: file(matches, TEXT.id),
             proofs: file(matches, HINTS.id),
         }),
         Kind::Clauses => Ok(Command::Clauses {
-            text: file(matches, FORMULA_OR_PROGRAM.id),
+            text: file(matches, TEXT.id),
             chosen: chosen(matches)?,
         }),
         Kind::Find => Ok(Command::Find {
-            text: file(matches, FORMULA_OR_PROGRAM.id),
+            text: file(matches, TEXT.id),
             steps: given_number(matches, STEPS.id),
             chosen: chosen(matches)?,
         }),
@@ -211,7 +186,7 @@ fn command_of<'a>(
             outlines: outline_at(matches, place)?,
             steps: number_or_none(matches, VERIFY_STEPS.id),
             is_runs_only: is_given(matches, RUNS_ONLY.id),
-            text: option(matches, VERIFIED_TEXT.id),
+            text: option(matches, WRITTEN_TEXT.id),
         }),
         Kind::Challenge => Ok(Command::Challenge {
             outline: file(matches, OUTLINE.id),

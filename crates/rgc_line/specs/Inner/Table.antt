@@ -1,17 +1,21 @@
 -- The rows of the table as the code has them.
-use Rattle.std.specs.Prelude.{◌≡◌, ◌⊎◌, ◌<◌, ◌^◌, ◌||◌, ℕ, Bool, true, false, Option, List, [], ◌∷◌, length, map, nat_lt, is_some, option_map, Some}
+use Rattle.std.specs.Prelude.{◌≡◌, ◌⊎◌, ◌<◌, ◌^◌, ◌||◌, ◌++◌, ℕ, Bool, true, false, Option, List, [], ◌∷◌, length, map, nat_lt, is_some, option_map, Some}
 use Rattle.std.specs.Str.Parse.{IsNumeral, without_leading_plus, digits_value}
 use Rattle.std.specs.Borrow.{Bor}
 use Rattle.clap.specs.Words.{App, Rule, Row as Given, Shape, Text, app_of, first_of, one_of, with_subcommand}
 use Rattle.clap.specs.declared.builder.command.Command.{Command}
 use Rattle.clap.specs.declared.builder.command.Command.TheViews.{out-Command}
-use Rattle.rgc_line.specs.App.{rule_of_form, leaf, row_of, kinds, chosen_derivation, chosen_condition, threads}
-use Rattle.rgc_line.specs.Line.{HasNo, HasValues, IsThere, chosen_values, contents_of, IsFieldFault}
+use Rattle.rgc_line.specs.Values.{Value, file, absent, HasNo, HasValues, IsThere}
+use Rattle.rgc_line.specs.App.{rule_of_form, field, leaf, row_of, kinds, derivation_files, condition, number_settings}
+use Rattle.rgc_line.specs.Line.{chosen_values, contents_of, IsFieldFault}
 use Rattle.rgc_line.specs.declared.fields.FieldFault.{FieldFault}
 use Rattle.rgc_line.specs.declared.command.Command.{Command as RgCommand}
 use Rattle.rgc_line.specs.declared.commands.Kind.{Kind}
 use Rattle.rgc_line.specs.declared.command.Chosen.{Chosen}
 use Rattle.rgc_line.specs.declared.commands.Field.{Field}
+use Rattle.rgc_line.specs.declared.commands.Form.TheVariants.{Place, Places, OptionalFile}
+use Rattle.rgc_line.specs.declared.fields.Source.{Source}
+use Rattle.rgc_line.specs.declared.fields.Source.TheVariants.{Files, Outline}
 use Rattle.rgc_line.specs.declared.commands.Row.{Row}
 
 -- the argument that a field is
@@ -63,9 +67,9 @@ abbrev pub AreSound : List Given → List Rule → Type 0
 AreSound rows [] = Unit {0}
 AreSound rows (rule ∷ rules) = IsSound (is_wanted rule) (is_some rule.parser) rows rule.id × AreSound rows rules
 
--- what the words have at the number of threads, which each command is asked for, and at the command's arguments
+-- what the words have at the settings that are numbers, which each command is asked for, and at the command's arguments
 abbrev pub IsWhole : Kind → List Given → Type 0
-IsWhole kind rows = AreSound rows (threads ∷ (row_of kind).rules)
+IsWhole kind rows = AreSound rows (number_settings ++ (row_of kind).rules)
 
 -- the subcommand is one of the table, and `clap` finds no fault in its words
 pub record IsListed (name : Text) (rows : List Given) : Type 0 where
@@ -85,8 +89,21 @@ Reads kind rows command = ((contents_of command).0 ≡ kind) × HasValues rows (
 
 -- the file of this id is the one that the words name, and none where they name none
 abbrev pub HasOption : List Given → Text → Option (Bor Text) → Type 0
-HasOption rows id file = first_of id rows ≡ option_map (λ (s : Bor Text). s.now) file
+HasOption rows id name = first_of id rows ≡ option_map (λ (s : Bor Text). s.now) name
 
 -- the condition is chosen by the two options
 abbrev pub HasChosen : List Given → Option Chosen → Type 0
-HasChosen rows chosen = HasValues rows (chosen_derivation ∷ chosen_condition ∷ []) (chosen_values chosen [])
+HasChosen rows chosen = HasValues rows (derivation_files ∷ condition ∷ []) (chosen_values chosen [])
+
+-- the arguments at which a program is given by its three files, or by an outline
+abbrev pub source_rules : List Rule
+source_rules = field OptionalFile "outline" ∷ field Place "TEXT" ∷ field Place "DERIVATION" ∷ field Places "PROOFS" ∷ []
+
+-- the values at these arguments
+abbrev pub source_values : Source → List Value
+source_values (Files text derivation proofs) = absent ∷ file text ∷ file derivation ∷ file proofs ∷ []
+source_values (Outline outline) = file outline ∷ absent ∷ []
+
+-- the program is given so
+abbrev pub HasSource : List Given → Source → Type 0
+HasSource rows source = HasValues rows source_rules (source_values source)

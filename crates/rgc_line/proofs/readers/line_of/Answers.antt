@@ -2,7 +2,8 @@ use Rattle.std.proofs.Common.{◌≡◌, ◌∙◌, ap, is_some, sym, subst}
 use Rattle.std.proofs.lemmas.Option.{same_Some}
 use Rattle.clap.specs.Words.{found_of, rows_of}
 use Rattle.rgc_line.specs.App.{row_of}
-use Rattle.rgc_line.specs.Line.{HasValues, contents_of}
+use Rattle.rgc_line.specs.Values.{HasValues}
+use Rattle.rgc_line.specs.Line.{contents_of}
 use Rattle.rgc_line.specs.Inner.Table.{IsWhole}
 use Rattle.rgc_line.specs.declared.commands.Kind.{Kind}
 use Rattle.rgc_line.proofs.Reading.{kind_is}

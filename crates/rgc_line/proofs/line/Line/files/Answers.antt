@@ -1,5 +1,5 @@
-use Rattle.std.proofs.Common.{◌≡◌, ◌∙◌, ℕ, List, Bor, Option, Some, map, subst, sym}
-use Rattle.clap.specs.Words.{Row, Text, app_of, found_of, rows_of}
+use Rattle.std.proofs.Common.{◌∙◌, ℕ, List, Bor, Option, map, subst, sym}
+use Rattle.clap.specs.Words.{Row, Text, app_of}
 use Rattle.clap.specs.declared.parser.matches.ArgMatches.TheViews.{out-ArgMatches}
 use Rattle.rgc_line.specs.Line.{AreFilesOf}
 use Rattle.rgc_line.proofs.Apps.{rows_read, parsed, listed_some}
