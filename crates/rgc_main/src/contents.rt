@@ -12,7 +12,7 @@ use std::io;
 use std::io::Read;
 
 /// The name of a file that stands for standard input.
-const INPUT: &str = "-";
+pub(crate) const INPUT: &str = "-";
 
 /// A file's bytes, or those of standard input, but no more than one past the limit: that one shows that there are too many.
 fn read(rt: &HostRuntime, name: &str, most: usize) -> io::Result<Vec<u8>> {

@@ -4,8 +4,12 @@
 mod contents;
 mod largest;
 mod memory;
+mod mentions;
 mod paint;
 mod pieces;
+mod place;
+mod replace;
+mod sides;
 mod version;
 
 ghost use Rattle.std.specs.Prelude.{◌≡◌};
@@ -15,23 +19,25 @@ use clap::error::ErrorKind;
 use contents::{Contents, lent, reads_input_twice};
 use largest::{Kind, largest_told};
 use memory::Memory;
+use mentions::clash_of;
 use paint::painted;
-use pieces::{PieceNames, cut_at, cut_proofs};
+use pieces::{PieceNames, cut_proofs};
+use replace::{Output, write_outputs};
 use rg_find::Watcher;
 use rg_outline_reports::{
     Format as OutlineFormat, Input, Inputs, NoFiles, OutlineSource, Outlined, read_outline,
 };
-use rg_words::limits::MOST_TEXT_BYTES;
 use rg_words::{Buffered, Device, Out, write_all};
 use rgc_commands::{Context, Expanded, Files, Sides, perform};
 use rgc_line::{Command, Format, Line, LineFault, PLAIN};
-use std::alloc::{AllocError, Global};
+use sides::{add_pieces, can_hold, write_sides};
+use std::alloc::AllocError;
 use std::env::VarError;
 use std::io::IsTerminal;
 use std::process::ExitCode;
 use std::sync::Wait;
 use std::thread::{Threads, available_parallelism};
-use std::{env, fs, io};
+use std::{env, io};
 use version::proved_at;
 
 /// Prints what is wrong with the words, or the help that they ask for; the status.
@@ -62,7 +68,7 @@ fn print_version(rt: &HostRuntime, error: &clap::Error) -> u8 {
 }
 
 /// Prints a line on standard error; the status of a device or of memory.
-fn tell(rt: &HostRuntime, text: &str) -> u8 {
+pub(crate) fn tell(rt: &HostRuntime, text: &str) -> u8 {
     let _ = eprintln!(rt; "{text}");
     3
 }
@@ -223,7 +229,14 @@ fn written<R: Threads + Wait + Sync>(
     let rt = means.rt;
     match (line.settings.output, line.command) {
         (Some(_), Command::Prove { .. }) if status == 0 => write_proofs(means, line, files, bytes),
-        (Some(name), _) if status == 0 => write_whole(rt, name, bytes, "output"),
+        (Some(name), _) if status == 0 => write_outputs(
+            rt,
+            &[Output {
+                name,
+                bytes,
+                what: "output",
+            }],
+        ),
         (Some(_), Command::Find { .. }) => Ok(shown(rt, bytes, status)),
         (Some(_), _) => {
             reported(rt, bytes);
@@ -282,7 +295,9 @@ fn write_proofs<R: Threads + Wait + Sync>(
     let rt = means.rt;
     let pieces = cut_proofs(rt.alloc(), proofs)?;
     if can_hold(rt, means.outputs, &pieces, "output") {
-        return write_pieces(rt, means.outputs, &pieces, "output");
+        let mut outputs = Vec::new(rt.alloc());
+        add_pieces(&mut outputs, means.outputs, &pieces, "output")?;
+        return write_outputs(rt, &outputs);
     }
     let names = condition_names(means, line, files)?;
     reported(rt, &largest_told(rt.alloc(), Kind::Proofs, proofs, &names)?);
@@ -327,140 +342,6 @@ fn done<R: Threads + Wait + Sync>(
         Way::Buffered => buffered(means, line, files, sides),
         Way::Whole => whole(means, line, files, sides),
     }
-}
-
-/// Writes a file that a command names; the status.
-fn write_side(rt: &HostRuntime, name: Option<&str>, side: &[u8], fault: &str) -> u8 {
-    let Some(name) = name else {
-        return 0;
-    };
-    match fs::write(rt, name, side) {
-        Ok(()) => 0,
-        Err(error) if error.kind() == io::ErrorKind::OutOfMemory => tell(rt, "refused 99"),
-        Err(_) => tell(rt, fault),
-    }
-}
-
-/// Writes bytes to a file, as a whole or not at all: to a file beside it, which then takes its name; the status. What they are is said where they can't be
-/// written.
-fn write_whole(rt: &HostRuntime, name: &str, bytes: &[u8], what: &str) -> Result<u8, AllocError> {
-    let beside = format!(in rt.alloc(); "{name}.part")?;
-    let fault = format!(in rt.alloc(); "device {what}")?;
-    let status = write_side(rt, Some(&beside), bytes, &fault);
-    if status != 0 {
-        let _ = fs::remove_file(rt, beside.as_str());
-        return Ok(status);
-    }
-    match fs::rename(rt, beside.as_str(), name) {
-        Ok(()) => Ok(0),
-        Err(error) => {
-            let _ = fs::remove_file(rt, beside.as_str());
-            if error.kind() == io::ErrorKind::OutOfMemory {
-                return Err(AllocError);
-            }
-            Ok(tell(rt, &fault))
-        }
-    }
-}
-
-/// Whether there are as many files as pieces or more; else it is reported how many are needed.
-fn can_hold(rt: &HostRuntime, names: &[&str], pieces: &[&[u8]], option: &str) -> bool {
-    let count = pieces.len();
-    if count > names.len() {
-        let _ = eprintln!(rt; "error: one file can't hold this: give --{option} {count} times");
-        return false;
-    }
-    true
-}
-
-/// Writes pieces to files, each as a whole or not at all; those without a piece are empty. The status.
-fn write_pieces(
-    rt: &HostRuntime,
-    names: &[&str],
-    pieces: &[&[u8]],
-    option: &str,
-) -> Result<u8, AllocError> {
-    let mut worst = 0;
-    for (index, name) in names.iter().enumerate() {
-        let piece = pieces.get(index).copied().unwrap_or(&[]);
-        worst = worst.max(write_whole(rt, name, piece, option)?);
-    }
-    Ok(worst)
-}
-
-/// Where the derivation of an outline is cut into pieces that files can hold; nowhere where a file can hold it.
-fn cuts_of<'a>(files: &Files<'a>, derivation: &[u8]) -> &'a [usize] {
-    match files.outline {
-        Some(Ok(outlined)) if derivation.len() > MOST_TEXT_BYTES => outlined.files.cuts.as_slice(),
-        _ => &[],
-    }
-}
-
-/// The map of an outline that was worked out; nothing where there is none.
-fn map_of(alloc: Global, files: &Files<'_>) -> Result<Vec<u8>, AllocError> {
-    match files.outline {
-        Some(Ok(outlined)) => outlined.map(),
-        _ => Ok(Vec::new(alloc)),
-    }
-}
-
-/// Writes the derivation and the proofs that an outline stands for to the files that are named for them, where these can hold them; the status. Where
-/// they can't, it is reported what takes the most bytes.
-fn write_certificates<R>(
-    means: &Means<'_, '_, '_, R>,
-    files: &Files<'_>,
-    sides: &Sides,
-) -> Result<u8, AllocError> {
-    let (rt, alloc) = (means.rt, means.rt.alloc());
-    let whole = sides.outline.derivation.as_slice();
-    let derivation = cut_at(alloc, whole, cuts_of(files, whole))?;
-    let proofs = cut_proofs(alloc, &sides.outline.proofs)?;
-    let holds_derivation = means.derivation.is_empty()
-        || can_hold(rt, means.derivation, &derivation, "derivation");
-    let holds_proofs = means.proofs.is_empty() || can_hold(rt, means.proofs, &proofs, "proofs");
-    if holds_derivation && holds_proofs {
-        let status = write_pieces(rt, means.derivation, &derivation, "derivation")?;
-        return Ok(status.max(write_pieces(rt, means.proofs, &proofs, "proofs")?));
-    }
-    let map = map_of(alloc, files)?;
-    if !holds_derivation {
-        reported(rt, &largest_told(alloc, Kind::Derivation, whole, &map)?);
-    }
-    if !holds_proofs {
-        let proofs = sides.outline.proofs.as_slice();
-        reported(rt, &largest_told(alloc, Kind::Proofs, proofs, &map)?);
-    }
-    Ok(1)
-}
-
-/// Writes the files that the command names beside its output; the status.
-fn write_sides<R>(
-    means: &Means<'_, '_, '_, R>,
-    command: &Command<'_>,
-    files: &Files<'_>,
-    sides: &Sides,
-) -> Result<u8, AllocError> {
-    let rt = means.rt;
-    Ok(match *command {
-        Command::Run { draw, .. } | Command::RunOutline { draw, .. } => {
-            write_side(rt, draw, &sides.picture, "device draw")
-        }
-        Command::Outline { text, map, .. } => {
-            let status = write_certificates(means, files, sides)?;
-            if status != 0 {
-                return Ok(status);
-            }
-            let side = &sides.outline;
-            write_side(rt, text, &side.text, "device text").max(write_side(
-                rt,
-                map,
-                &side.map,
-                "device map",
-            ))
-        }
-        Command::Verify { text, .. } => write_side(rt, text, &sides.outline.text, "device text"),
-        _ => 0,
-    })
 }
 
 /// Does the command over its files, and writes all that it made; the status.
@@ -703,6 +584,11 @@ fn run<R: Threads + Wait + Sync>(
     }
     if let Some(words) = misfit_of(line, names) {
         let _ = eprintln!(rt; "error: {words}");
+        return Ok(2);
+    }
+    if let Some((earlier, output)) = clash_of(rt, line, names)? {
+        let (one, other, name) = (earlier.option, output.option, output.name);
+        let _ = eprintln!(rt; "error: {one} and {other} name one file: {name}");
         return Ok(2);
     }
     let mut contents = Contents::empty();
