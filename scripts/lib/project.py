@@ -15,12 +15,14 @@ import functools
 import hashlib
 import importlib.machinery
 import importlib.util
+import io
 import os
 import re
 import shutil
 import signal
 import subprocess
 import sys
+import tarfile
 import tempfile
 import threading
 
@@ -116,6 +118,17 @@ def files_of(crate, parts=PARTS):
         for at, _, names in os.walk(f"{crate.folder}/{part}"):
             found += [f"{at}/{name}" for name in names]
     return sorted(found)
+
+
+def tree_of(commit, folder, parts=PARTS):
+    """Writes to a folder crates.txt and the sources of a commit in these folders of its crates. An unknown commit stops the script."""
+    words = ["git", "--no-optional-locks", "archive", "--format=tar", commit, "--", "crates.txt", "crates"]
+    ran = subprocess.run(words, cwd=ROOT, stdout=subprocess.PIPE, stderr=subprocess.DEVNULL)
+    if ran.returncode:
+        stop(f"there is no commit {commit}")
+    with tarfile.open(fileobj=io.BytesIO(ran.stdout)) as it:
+        pattern = re.compile(rf"crates\.txt|crates/\w+/(?:{'|'.join(parts)})/.*\.(?:rt|antt)")
+        it.extractall(folder, members=[one for one in it.getmembers() if pattern.fullmatch(one.name) and one.isfile()])
 
 
 def sum_of(parts, more=()):
