@@ -75,7 +75,7 @@ const OVERVIEW: &str = "Tasks:
   Text, derivation and proofs, for which an outline stands
       rgc outline lock.rgo --text lock.rg --derivation lock.rgd --proofs lock.lrat
       rgc check lock.rg lock.rgd lock.lrat
-      (prove finds proofs; number and conditions print what derivations and proofs speak of;)
+      (prove finds proofs; number and conditions print what derivations and proofs speak of)
       (emit, accesses and run take these three files too)
   Single formulas
       rgc find sum.rg --output sum.lrat  find a proof, or values at which the formula is false
