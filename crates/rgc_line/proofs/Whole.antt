@@ -1,5 +1,5 @@
 -- Where clap finds no fault in the words, they name a subcommand of the table, and it has what its command needs.
-use Rattle.std.proofs.Common.{◌≡◌, ◌&&◌, ◌||◌, Bool, true, false, not, List, [], ◌∷◌, ◌++◌, Option, Some, None, is_some, refl, sym, subst, codes, inl, inr}
+use Rattle.std.proofs.Common.{◌≡◌, ◌&&◌, ◌||◌, Bool, true, false, not, List, [], ◌∷◌, Option, Some, None, is_some, refl, sym, subst, codes, inl, inr}
 use Rattle.std.specs.Prelude.{find, option_map}
 use Rattle.std.specs.Option.{option_map_or}
 use Rattle.std.specs.Str.{bytes_eq}
@@ -56,7 +56,7 @@ rules_sound s words complete (rule ∷ rules) has =
 pub record IsOf (s : Shape) : Type 0 where
   pub kind : Kind
   pub name : s.name ≡ (row_of kind).name
-  pub has : has_rules s (number_settings ++ (row_of kind).rules) ≡ true
+  pub has : (has_rules s number_settings && has_rules s (row_of kind).rules) ≡ true
   pub sound : are_sound s.rules ≡ true
 
 abbrev IsOfIf : Option Shape → Type 0
@@ -86,7 +86,7 @@ unfolding clap_on_literals rgc_app is_number_id
 shapes_are_of met after past =
     (of Number refl refl refl, (of Check refl refl refl, (of Conditions refl refl refl, (of Prove refl refl refl, (of Emit refl refl refl, (of Accesses refl refl refl, (of Run refl refl refl, (of Valid refl refl refl, (of Clauses refl refl refl, (of Find refl refl refl, (of Outline refl refl refl, (of Verify refl refl refl, (of Challenge refl refl refl, (of Explain refl refl refl, ((λ h. absurd (help_not_met met after past h)), tt)))))))))))))))
   where
-    of : {A : Type 0} {s : Shape} (kind : Kind) → s.name ≡ (row_of kind).name → has_rules s (number_settings ++ (row_of kind).rules) ≡ true → are_sound s.rules ≡ true → A → IsOf s
+    of : {A : Type 0} {s : Shape} (kind : Kind) → s.name ≡ (row_of kind).name → (has_rules s number_settings && has_rules s (row_of kind).rules) ≡ true → are_sound s.rules ≡ true → A → IsOf s
     of kind name has sound h = record { kind = kind; name = name; has = has; sound = sound }
 
 -- there is a subcommand, which is one of the table, and `clap` finds no fault in its words
@@ -97,11 +97,14 @@ IsListedAt (Some p) = IsListed p.0 p.1
 shape_listed : (words : List Text) (o : Option Shape) → IsOfIf o → option_map_or (λ s. level_fault s [] nothing_held words false []) o [] ≡ []
     → is_some (option_map (λ s. rows_at s words) o) ≡ true → IsListedAt (option_map (λ s. rows_at s words) o)
 shape_listed words None of fault met = cc met
-shape_listed words (Some s) of fault met = record {
-  kind = of.kind;
-  named = of.name;
-  whole = rules_sound s words (level_complete s [] words false [] of.sound fault) (number_settings ++ (row_of of.kind).rules) of.has;
-}
+shape_listed words (Some s) of fault met =
+    let complete = level_complete s [] words false [] of.sound fault in
+    let has = and_parts (has_rules s number_settings) _ of.has in
+    record {
+      kind = of.kind;
+      named = of.name;
+      whole = (rules_sound s words complete number_settings has.0, rules_sound s words complete (row_of of.kind).rules has.1);
+    }
 
 stop_listed : (stop : Option (Text × List Text)) → IsNoHelp (built rgc_app).top stop → entered_fault (built rgc_app) stop ≡ [] → is_some (entered (built rgc_app) stop) ≡ true
     → IsListedAt (entered (built rgc_app) stop)

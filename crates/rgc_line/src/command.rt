@@ -2,8 +2,8 @@
 
 ghost use Rattle.std.specs.Prelude.{◌≡◌, IfOk, IfErr};
 ghost use Rattle.clap.specs.Words.{found_of, rows_of};
-ghost use Rattle.rgc_line.specs.App.{AsksForC, HasFormat, HasSettings, IsUnknownFormat, threads};
-ghost use Rattle.rgc_line.specs.Inner.Table.{IsNumberIf};
+ghost use Rattle.rgc_line.specs.App.{AsksForC, HasFormat, HasSettings, IsUnknownFormat, number_settings};
+ghost use Rattle.rgc_line.specs.Inner.Table.{AreSound};
 ghost use Rattle.rgc_line.specs.Named.{named};
 ghost use Rattle.rgc_line.specs.declared.fields.FieldFault.TheVariants.{UnknownFormat};
 
@@ -117,7 +117,7 @@ fn is_c(matches: &ArgMatches<'_>) -> bool
 
 /// The settings of a subcommand; one that it has no option for is not given.
 pub fn settings_of<'a>(matches: &ArgMatches<'a>) -> Result<Settings<'a>, FieldFault>
-    requires { IsNumberIf (rows_of (found_of matches.now)) threads.id }
+    requires { AreSound (rows_of (found_of matches.now)) number_settings }
     ensures settings { IfOk result (HasSettings (rows_of (found_of matches.now))) }
     ensures fault { IfErr result (λ f. (f ≡ UnknownFormat) × IsUnknownFormat (rows_of (found_of matches.now))) }
 {

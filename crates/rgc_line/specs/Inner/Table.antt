@@ -1,5 +1,5 @@
 -- The rows of the table as the code has them.
-use Rattle.std.specs.Prelude.{◌≡◌, ◌⊎◌, ◌<◌, ◌^◌, ◌||◌, ◌++◌, ℕ, Bool, true, false, Option, List, [], ◌∷◌, length, map, nat_lt, is_some, option_map, Some}
+use Rattle.std.specs.Prelude.{◌≡◌, ◌⊎◌, ◌<◌, ◌^◌, ◌||◌, ℕ, Bool, true, false, Option, List, [], ◌∷◌, length, map, nat_lt, is_some, option_map, Some}
 use Rattle.std.specs.Str.Parse.{IsNumeral, without_leading_plus, digits_value}
 use Rattle.std.specs.Borrow.{Bor}
 use Rattle.clap.specs.Words.{App, Rule, Row as Given, Shape, Text, app_of, first_of, one_of, with_subcommand}
@@ -69,7 +69,7 @@ AreSound rows (rule ∷ rules) = IsSound (is_wanted rule) (is_some rule.parser) 
 
 -- what the words have at the settings that are numbers, which each command is asked for, and at the command's arguments
 abbrev pub IsWhole : Kind → List Given → Type 0
-IsWhole kind rows = AreSound rows (number_settings ++ (row_of kind).rules)
+IsWhole kind rows = AreSound rows number_settings × AreSound rows (row_of kind).rules
 
 -- the subcommand is one of the table, and `clap` finds no fault in its words
 pub record IsListed (name : Text) (rows : List Given) : Type 0 where
