@@ -1,5 +1,6 @@
 """The documents of the repository: whether each link leads somewhere, whether what they name is there, whether each refusal is met,
-whether the promised wrong bodies are those that the gate tries, and whether the table of crates says what each crate says of itself.
+whether the promised wrong bodies are those that the gate tries, whether the table of crates says what each crate says of itself, and whether
+the programs are as many as the pages say.
 
     faults = documents.faults()
 
@@ -29,6 +30,18 @@ NOT_BY_ROWS = {
 }
 # The page whose names are those of C functions of the toolchain: its links are looked at, its names aren't.
 OF_THE_TOOLCHAIN = "docs/generated/TRUSTED.md"
+# Where pages say how many programs there are: a page, the words around the number, and what is counted; what the second of two has is left out.
+COUNTS = (
+    ("README.md", r"GALLERY\.md\): ([\w-]+) programs", "examples/outlines/*.rgo", None),
+    ("README.md", r"examples/README\.md\): ([\w-]+) with", "examples/*/outline.rgo", None),
+    ("docs/TUTORIAL.md", r"GALLERY\.md\) has ([\w-]+) programs", "examples/outlines/*.rgo", None),
+    ("docs/GALLERY.md", r"\n([\w-]+) programs that `rgc verify` proves", "examples/outlines/*.rgo", None),
+    ("docs/GALLERY.md", r"All but ([\w-]+) of them have a twin", "examples/outlines/*.rgo", "examples/outlines/broken/*.rgo"),
+    ("docs/GALLERY.md", r"([\w-]+) more programs", "examples/*/outline.rgo", None),
+    ("examples/README.md", r"The ([\w-]+) folders of the table", "examples/*/outline.rgo", None),
+)
+ONES = "no one two three four five six seven eight nine ten eleven twelve thirteen fourteen fifteen sixteen seventeen eighteen nineteen".split()
+TENS = "twenty thirty forty fifty sixty seventy eighty ninety".split()
 # Names of other languages that stand on the pages.
 ELSEWHERE = {"fetch_add", "memory_order_seq_cst"}
 LINK = re.compile(r"\[[^\]\[]*\]\(([^()\s]+)\)")
@@ -171,6 +184,22 @@ def faults_of_crates():
         yield f"{CRATES}: the rows don't stand in the order of crates.txt"
 
 
+def in_words(number):
+    """A number below 100 in words."""
+    ten, one = divmod(number, 10)
+    return ONES[number] if number < len(ONES) else TENS[ten - 2] + (f"-{ONES[one]}" if one else "")
+
+
+def faults_of_counts():
+    """The pages that don't say how many programs there are, or say another number."""
+    names = lambda them: {os.path.relpath(it, them.partition("*")[0]) for it in glob.glob(them, root_dir=project.ROOT)} if them else set()
+    for page, around, counted, without in COUNTS:
+        found = re.search(around, project.text_of(f"{project.ROOT}/{page}"))
+        number = in_words(len(names(counted) - names(without)))
+        if not found or found[1].lower() != number:
+            yield f"{page}: {number} is the count of {counted}{f' without a twin in {without}' if without else ''}, and not {found and found[1]}"
+
+
 def faults():
     """What is wrong with all documents."""
-    return [it for page in pages() for it in faults_of(page)] + [*faults_of_refusals(), *faults_of_promises(), *faults_of_crates()]
+    return [it for page in pages() for it in faults_of(page)] + [*faults_of_refusals(), *faults_of_promises(), *faults_of_crates(), *faults_of_counts()]
