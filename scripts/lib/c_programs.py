@@ -31,11 +31,11 @@ class Source:
 
 
 def sources(seeds):
-    """The programs of examples/ and of examples/outlines, and those of the seeds below a number."""
+    """The programs of examples/, of examples/outlines and of scripts/c_agrees.d, and those of the seeds below a number."""
     folders = sorted(it.parent for it in (TOP / "examples").glob("*/derivation.rgd"))
     found = [Source(f"text {it.name}", "text", str(it)) for it in folders]
     outlines = [(it.parent.name, it) for it in sorted((TOP / "examples").glob("*/outline.rgo"))]
-    outlines += [(it.stem, it) for it in sorted((TOP / "examples" / "outlines").glob("*.rgo"))]
+    outlines += [(it.stem, it) for folder in ("examples/outlines", "scripts/c_agrees.d") for it in sorted((TOP / folder).glob("*.rgo"))]
     found += [Source(f"outline {name}", "outline", str(path)) for name, path in outlines]
     return found + [Source(f"seed {it}", "seed", str(it)) for it in range(seeds)]
 
