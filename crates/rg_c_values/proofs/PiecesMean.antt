@@ -2,7 +2,7 @@
 use Rattle.std.proofs.Common.{◌≡◌, ℕ, ◌+◌, ◌-◌, ◌*◌, ◌/◌, ◌%◌, ◌^◌, ◌<◌, ◌≤◌, Bool, true, false, cond, nat_eq, List, refl, sym, ap, ◌∙◌, subst, arith}
 use Rattle.std.specs.Prelude.{nat_le, slice_index, bit_xor}
 use Rattle.std.proofs.lemmas.Bool.{cond_both, eqb-true, leb-true}
-use Rattle.std.proofs.lemmas.Nat.{and_mask, pow_pos, xor_comm}
+use Rattle.std.proofs.lemmas.Nat.{pow_pos, xor_comm}
 use Rattle.std.proofs.Math.Nat.{mod-eq_of_lt, mod-lt, zero-mod}
 use Rattle.rg_words.specs.declared.operators.Operator.{Operator}
 use Rattle.rg_words.specs.declared.operators.Operator.TheVariants.{Add, Subtract, BitAnd, BitOr, BitXor}
@@ -14,7 +14,7 @@ use Rattle.rg_words.specs.declared.operators.Connective.{Connective}
 use Rattle.rg_words.specs.declared.operators.Connective.TheVariants.{And, Or, Implies, Iff}
 use Rattle.rg_tree.specs.Trees.{Expression, number, word, next_word, inverse, binary, shifted, choice}
 use Rattle.rg_tree.specs.Meaning.{operated, moved, is_so, joined, value_of}
-use Rattle.rg_c_values.specs.CTrees.{CValue, CTest, c_literal, c_cast, c_inverse, c_binary, c_shifted, c_compared}
+use Rattle.rg_c_values.specs.CTrees.{CValue, CTest, c_literal, c_cast, c_inverse, c_binary, c_rest, c_shifted, c_compared}
 use Rattle.rg_c_values.specs.Arithmetic.{c_is_so, c_value, c_holds}
 use Rattle.rg_c_values.specs.Translation.{container, computed, masked, masked_if, kept_word, read_word, beside, alone, is_top, operation_in_c, inverse_in_c, binary_in_c, shift_in_c, connected_in_c}
 use Rattle.rg_c_values.specs.Simplified.{top}
@@ -35,9 +35,9 @@ gives_exact false w n x e h = ap (λ m. m % 2 ^ w) e ∙ mod-eq_of_lt h
 
 masked_value : (w : ℕ) (v : CValue) (s : List ℕ) → c_value v s < 2 ^ computed w → c_value (masked w v) s ≡ c_value v s % 2 ^ w
 masked_value w v s h =
-    cond_both (nat_eq w (computed w)) v (c_binary BitAnd (computed w) v (c_literal (top w))) (λ u. c_value u s ≡ c_value v s % 2 ^ w)
+    cond_both (nat_eq w (computed w)) v (c_rest (computed w) v (2 ^ w)) (λ u. c_value u s ≡ c_value v s % 2 ^ w)
     (λ e. let P : ℕ → Type 0 = λ g. c_value v s < 2 ^ g in sym (mod-eq_of_lt (subst P (sym (eqb-true w (computed w) e)) h)))
-    (λ e. and_mask (c_value v s) w)
+    (λ e. refl)
 
 gives_masked : (whole : Bool) (w : ℕ) (v : CValue) (s : List ℕ) (x : ℕ) → c_value v s < 2 ^ computed w → c_value v s % 2 ^ w ≡ x → Gives whole w (c_value (masked_if whole w v) s) x
 gives_masked true w v s x h e = masked_value w v s h ∙ e

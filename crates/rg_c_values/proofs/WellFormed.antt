@@ -1,8 +1,8 @@
 -- The expressions are well formed in C.
 use Rattle.std.proofs.Common.{◌≡◌, inl, inr, ℕ, ◌^◌, ◌<◌, ◌≤◌, Bool, true, false, not, cond, nat_eq, List, length, refl, sym, ap, subst, arith}
 use Rattle.std.specs.Prelude.{nat_le, slice_index}
-use Rattle.std.proofs.lemmas.Bool.{cond_both, leb-false, eqb-true}
-use Rattle.std.proofs.lemmas.Nat.{pow_pos}
+use Rattle.std.proofs.lemmas.Bool.{cond_both, leb-false, eqb-true, eqb-false}
+use Rattle.std.proofs.lemmas.Nat.{pow_pos, pow_below}
 use Rattle.rg_words.specs.Layout.{widths_of}
 use Rattle.rg_words.specs.declared.operators.Operator.{Operator}
 use Rattle.rg_words.specs.declared.operators.Operator.TheVariants.{Add, Subtract, BitAnd, BitOr, BitXor}
@@ -12,10 +12,10 @@ use Rattle.rg_words.specs.declared.operators.Connective.{Connective}
 use Rattle.rg_words.specs.declared.operators.Connective.TheVariants.{And, Or, Implies, Iff}
 use Rattle.rg_tree.specs.Trees.{Expression, Proposition, number, word, next_word, inverse, binary, shifted, choice, truth, negation, connected, compared}
 use Rattle.rg_tree.specs.Typing.{HasWidth, IsTyped}
-use Rattle.rg_c_values.specs.CTrees.{CValue, CTest, c_literal, c_word, c_cast, c_inverse, c_binary, c_shifted, c_choice}
+use Rattle.rg_c_values.specs.CTrees.{CValue, CTest, c_literal, c_word, c_cast, c_inverse, c_binary, c_rest, c_shifted, c_choice}
 use Rattle.rg_c_values.specs.WellFormed.{c_bits, IsComputed, IsUnsigned, IsBeside, IsC, IsCTest}
 use Rattle.rg_c_values.specs.Translation.{container, computed, masked_if, kept_word, read_word, beside, alone, is_top, operation_in_c, inverse_in_c, binary_in_c, shift_in_c, connected_in_c, translated, tested, stored}
-use Rattle.rg_c_values.specs.Simplified.{top, simplified, simplified_test}
+use Rattle.rg_c_values.specs.Simplified.{simplified, simplified_test}
 use Rattle.rg_c_values.specs.Laws.{ValuesAreC, TestsAreC, StoresAreC}
 use Rattle.rg_c_values.proofs.Numbers.{below_power}
 use Rattle.rg_c_values.proofs.PiecesMean.{within_computed}
@@ -49,14 +49,18 @@ literal_below n w h le = below_power n w 64 h le
 beside_computed : (w n : ℕ) → w ≤ 64 → n < 2 ^ w → n < 2 ^ computed w
 beside_computed w n limit h = below_power n w (computed w) h (within_computed w limit)
 
-top_below : (w : ℕ) → top w < 2 ^ w
-top_below w = omega (arith, pow_pos w)
+-- a width that isn't that of the type in which it is computed
+narrower : (w : ℕ) → w ≤ 64 → nat_eq w (computed w) ≡ false → 2 ^ w < 2 ^ computed w
+narrower w limit e =
+    let other = eqb-false w (computed w) e in
+    let less : w < computed w = omega (arith, within_computed w limit, other) in
+    pow_below w (computed w) less
 
 masked_of : (widths : List ℕ) (whole : Bool) (w : ℕ) (v : CValue) → w ≤ 64 → Of widths (computed w) v → Of widths (computed w) (masked_if whole w v)
 masked_of widths false w v limit h = h
 masked_of widths true w v limit h =
-    cond_both (nat_eq w (computed w)) v (c_binary BitAnd (computed w) v (c_literal (top w))) (Of widths (computed w)) (λ e. h)
-    (λ e. record { is_c = (is_computed w, h.bits, beside_computed w (top w) limit (top_below w), h.is_c, literal_below (top w) w (top_below w) limit); bits = refl })
+    cond_both (nat_eq w (computed w)) v (c_rest (computed w) v (2 ^ w)) (Of widths (computed w)) (λ e. h)
+    (λ e. record { is_c = (is_computed w, h.bits, pow_pos w, narrower w limit e, h.is_c); bits = refl })
 
 cast_literal_of : (widths : List ℕ) (w n : ℕ) → n < 2 ^ 64 → Of widths (computed w) (c_cast (computed w) (c_literal n))
 cast_literal_of widths w n h = record { is_c = (computed_is_unsigned w, h); bits = refl }
@@ -75,6 +79,7 @@ is_beside g (c_word c k) i h = h
 is_beside g (c_cast n v) i h = h
 is_beside g (c_inverse a v) i h = h
 is_beside g (c_binary o a u v) i h = h
+is_beside g (c_rest a v n) i h = h
 is_beside g (c_shifted d a v k) i h = h
 is_beside g (c_choice t u v) i h = h
 

@@ -8,7 +8,7 @@ use Rattle.rg_words.specs.declared.operators.Comparison.{Comparison}
 use Rattle.rg_words.specs.declared.operators.Comparison.TheVariants.{Equal, NotEqual, Less, LessOrEqual, Greater, GreaterOrEqual}
 use Rattle.rg_c_values.specs.declared.tree.Joint.{Joint}
 use Rattle.rg_c_values.specs.declared.tree.Joint.TheVariants.{And, Or, Same}
-use Rattle.rg_c_values.specs.CTrees.{CValue, CTest, c_literal, c_word, c_cast, c_inverse, c_binary, c_shifted, c_choice, c_truth, c_not, c_joined, c_compared}
+use Rattle.rg_c_values.specs.CTrees.{CValue, CTest, c_literal, c_word, c_cast, c_inverse, c_binary, c_rest, c_shifted, c_choice, c_truth, c_not, c_joined, c_compared}
 
 -- `+`, `-`, `&`, `|` and `^` of two numbers of the unsigned type of g bits
 abbrev pub c_operated : Operator → ℕ → ℕ → ℕ → ℕ
@@ -39,13 +39,14 @@ c_joins Or a b = a || b
 c_joins Same a b = cond a b (not b)
 
 abbrev mutual
-  -- the number that C computes of a value, the words read in s: a cast to n bits is modulo 2 ^ n, and `~` turns each bit
+  -- the number that C computes of a value, the words read in s: a cast to n bits is modulo 2 ^ n, `~` turns each bit, and `%` leaves the rest
   pub c_value : CValue → List ℕ → ℕ
   c_value (c_literal n) s = n
   c_value (c_word c k) s = slice_index s k
   c_value (c_cast n v) s = c_value v s % 2 ^ n
   c_value (c_inverse g v) s = 2 ^ g - 1 - c_value v s
   c_value (c_binary o g a b) s = c_operated o g (c_value a s) (c_value b s)
+  c_value (c_rest g v n) s = c_value v s % n
   c_value (c_shifted d g v k) s = c_moved d g (c_value v s) k
   c_value (c_choice t a b) s = cond (c_holds t s) (c_value a s) (c_value b s)
 

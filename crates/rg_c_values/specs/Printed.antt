@@ -1,4 +1,4 @@
--- The texts of expressions of C.
+-- The texts of expressions of C. Each operation of the language makes one pair of parentheses at most, so that they are nested as deep as it is.
 use Rattle.std.specs.Prelude.{ℕ, Bool, true, false, List, [], ◌++◌, slice_index_or, codes}
 use Rattle.std.specs.Fmt.{decimal}
 use Rattle.rg_words.specs.declared.operators.Operator.{Operator}
@@ -13,7 +13,7 @@ use Rattle.rg_c_values.specs.declared.tree.Joint.TheVariants.{And, Or, Same}
 use Rattle.rg_c_values.specs.declared.print.Read.{Read}
 use Rattle.rg_c_values.specs.declared.print.Read.TheVariants.{Plain, Load, Local}
 use Rattle.rg_c_values.specs.CNames.{c_name}
-use Rattle.rg_c_values.specs.CTrees.{CValue, CTest, c_literal, c_word, c_cast, c_inverse, c_binary, c_shifted, c_choice, c_truth, c_not, c_joined, c_compared}
+use Rattle.rg_c_values.specs.CTrees.{CValue, CTest, c_literal, c_word, c_cast, c_inverse, c_binary, c_rest, c_shifted, c_choice, c_truth, c_not, c_joined, c_compared}
 
 -- how an operation is written
 abbrev pub operator_text : Operator → List ℕ
@@ -78,20 +78,32 @@ closing false = codes ")"
 abbrev pub enclosed : Bool → List ℕ → List ℕ
 enclosed bare text = opening bare ++ (text ++ closing bare)
 
--- literals, words and casts stand bare
+-- behind `~` and a cast, and before `%`, what binds tightest stands bare: literals, words, casts and `~`
+abbrev pub is_tight : CValue → Bool
+is_tight (c_literal n) = true
+is_tight (c_word c k) = true
+is_tight (c_cast n v) = true
+is_tight (c_inverse g v) = true
+is_tight (c_binary o g a b) = false
+is_tight (c_rest g v n) = false
+is_tight (c_shifted d g v k) = false
+is_tight (c_choice t a b) = false
+
+-- elsewhere so does `%`, which binds tighter than the other operators
 abbrev pub is_bare : CValue → Bool
 is_bare (c_literal n) = true
 is_bare (c_word c k) = true
 is_bare (c_cast n v) = true
-is_bare (c_inverse g v) = false
+is_bare (c_inverse g v) = true
 is_bare (c_binary o g a b) = false
+is_bare (c_rest g v n) = true
 is_bare (c_shifted d g v k) = false
 is_bare (c_choice t a b) = false
 
--- truths stand bare
+-- truths and `!` stand bare
 abbrev pub is_bare_test : CTest → Bool
 is_bare_test (c_truth b) = true
-is_bare_test (c_not t) = false
+is_bare_test (c_not t) = true
 is_bare_test (c_joined j t u) = false
 is_bare_test (c_compared c a b) = false
 
@@ -107,10 +119,16 @@ is_chain Same And = false
 is_chain Same Or = false
 is_chain Same Same = false
 
+-- `!` needs no parentheses before `&&` and `||`; before `==` it has some, as compilers ask for them
+abbrev pub is_loose : Joint → Bool
+is_loose And = true
+is_loose Or = true
+is_loose Same = false
+
 -- as first of two that are joined, a chain of the same joint stands bare too
 abbrev pub is_bare_first : Joint → CTest → Bool
 is_bare_first j (c_truth b) = true
-is_bare_first j (c_not t) = false
+is_bare_first j (c_not t) = is_loose j
 is_bare_first j (c_joined i t u) = is_chain j i
 is_bare_first j (c_compared c a b) = false
 
@@ -119,10 +137,11 @@ abbrev mutual
   pub value_text : List Word → List Read → CValue → List ℕ
   value_text words reads (c_literal n) = number_text n
   value_text words reads (c_word c k) = word_text words reads k
-  value_text words reads (c_cast n v) = cast_text n ++ enclosed (is_bare v) (value_text words reads v)
-  value_text words reads (c_inverse g v) = codes "~" ++ enclosed (is_bare v) (value_text words reads v)
+  value_text words reads (c_cast n v) = cast_text n ++ enclosed (is_tight v) (value_text words reads v)
+  value_text words reads (c_inverse g v) = codes "~" ++ enclosed (is_tight v) (value_text words reads v)
   value_text words reads (c_binary o g a b) =
       enclosed (is_bare a) (value_text words reads a) ++ (operator_text o ++ enclosed (is_bare b) (value_text words reads b))
+  value_text words reads (c_rest g v n) = enclosed (is_tight v) (value_text words reads v) ++ (codes " % " ++ number_text n)
   value_text words reads (c_shifted d g v k) =
       enclosed (is_bare v) (value_text words reads v) ++ (shift_text d ++ number_text k)
   value_text words reads (c_choice t a b) =

@@ -1,5 +1,5 @@
 -- The expressions of C for the values and tests of the language.
-use Rattle.std.specs.Prelude.{ℕ, Bool, true, false, ◌&&◌, not, nat_eq, nat_le, if◌then◌else◌, List, slice_index}
+use Rattle.std.specs.Prelude.{ℕ, ◌^◌, Bool, true, false, ◌&&◌, not, nat_eq, nat_le, if◌then◌else◌, List, slice_index}
 use Rattle.rg_words.specs.declared.operators.Operator.{Operator}
 use Rattle.rg_words.specs.declared.operators.Operator.TheVariants.{Add, Subtract, BitAnd, BitOr, BitXor}
 use Rattle.rg_words.specs.declared.operators.Shift.{Shift}
@@ -9,7 +9,7 @@ use Rattle.rg_words.specs.declared.operators.Connective.TheVariants as connectiv
 use Rattle.rg_c_values.specs.declared.tree.Joint.TheVariants.{And, Or, Same}
 use Rattle.rg_tree.specs.Trees.{Expression, Proposition, number, word, next_word, inverse, binary, shifted, choice, truth, negation, connected, compared}
 use Rattle.rg_c_values.specs.Simplified.{top, simplified, simplified_test}
-use Rattle.rg_c_values.specs.CTrees.{CValue, CTest, c_literal, c_word, c_cast, c_inverse, c_binary, c_shifted, c_choice, c_truth, c_not, c_joined, c_compared}
+use Rattle.rg_c_values.specs.CTrees.{CValue, CTest, c_literal, c_word, c_cast, c_inverse, c_binary, c_rest, c_shifted, c_choice, c_truth, c_not, c_joined, c_compared}
 
 -- the bits of the least unsigned type that holds w bits
 abbrev pub container : ℕ → ℕ
@@ -21,7 +21,7 @@ computed w = if nat_le w 32 then 32 else 64
 
 -- the low w bits of a value
 abbrev pub masked : ℕ → CValue → CValue
-masked w v = if nat_eq w (computed w) then v else c_binary BitAnd (computed w) v (c_literal (top w))
+masked w v = if nat_eq w (computed w) then v else c_rest (computed w) v (2 ^ w)
 
 -- the low w bits, or the value as it stands where only those of its bits count
 abbrev pub masked_if : Bool → ℕ → CValue → CValue

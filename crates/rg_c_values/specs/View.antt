@@ -1,9 +1,9 @@
 -- An expression of C in the code, without where it lies in memory.
 use Rattle.rg_c_values.specs.declared.tree.Value.{Value}
-use Rattle.rg_c_values.specs.declared.tree.Value.TheVariants.{Literal, Word, Cast', Inverse', Binary', Shifted', Choice'}
+use Rattle.rg_c_values.specs.declared.tree.Value.TheVariants.{Literal, Word, Cast', Inverse', Binary', Rest', Shifted', Choice'}
 use Rattle.rg_c_values.specs.declared.tree.Test.{Test}
 use Rattle.rg_c_values.specs.declared.tree.Test.TheVariants.{Truth, Not', Joined', Compared}
-use Rattle.rg_c_values.specs.CTrees.{CValue, CTest, c_literal, c_word, c_cast, c_inverse, c_binary, c_shifted, c_choice, c_truth, c_not, c_joined, c_compared}
+use Rattle.rg_c_values.specs.CTrees.{CValue, CTest, c_literal, c_word, c_cast, c_inverse, c_binary, c_rest, c_shifted, c_choice, c_truth, c_not, c_joined, c_compared}
 
 abbrev mutual
   -- a value of the code
@@ -13,6 +13,7 @@ abbrev mutual
   value (Cast' n p v) = c_cast n (value v)
   value (Inverse' g p v) = c_inverse g (value v)
   value (Binary' o g p a q b) = c_binary o g (value a) (value b)
+  value (Rest' g p v n) = c_rest g (value v) n
   value (Shifted' d g p v k) = c_shifted d g (value v) k
   value (Choice' p t q a r b) = c_choice (test t) (value a) (value b)
 

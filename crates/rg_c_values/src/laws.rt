@@ -17,7 +17,7 @@ pub fn expressions_are_well_formed()
     ensures stores { StoresAreC }
 {}
 
-/// Words have different names in C where their names are different, and none of them is a word of C.
+/// Words have different names in C where their names are different, and none of these means something in C or its headers, or may do so.
 pub fn names_are_names_in_c()
     ensures apart { NamesStayApart }
     ensures free { NamesAreFree }

@@ -6,10 +6,10 @@ ghost use Rattle.rg_words.specs.Layout.{widths_of};
 ghost use Rattle.rg_tree.specs.Fits.{ExpressionFits};
 ghost use Rattle.rg_tree.specs.View.{expression};
 ghost use Rattle.rg_c_values.specs.View.{value, test};
-ghost use Rattle.rg_c_values.specs.CTrees.{c_literal, c_cast, c_inverse, c_binary, c_shifted};
+ghost use Rattle.rg_c_values.specs.CTrees.{c_literal, c_cast, c_inverse, c_binary, c_rest, c_shifted};
 ghost use Rattle.rg_c_values.specs.Translation.{container, computed, masked, masked_if, kept_word, read_word, beside, alone, is_top, is_xor, operation_in_c, inverse_in_c, shift_in_c, connected_in_c};
 
-use crate::simplify::{is_top_number, top};
+use crate::simplify::is_top_number;
 use crate::tree::{Joint, Test, Value};
 use rg_tree::tree::Expr;
 use rg_words::Layout;
@@ -84,13 +84,7 @@ fn masked_if(alloc: Global, whole: bool, width: u32, v: Value) -> Result<Value, 
     ensures { IfOk result (λ c. value c ≡ masked_if whole width (value v)) }
 {
     if whole && width != computed(width) {
-        operate(
-            alloc,
-            Operator::BitAnd,
-            computed(width),
-            v,
-            Value::Literal(top(width)),
-        )
+        Ok(Value::Rest(computed(width), Box::new(alloc, v)?, 1 << width))
     } else {
         Ok(v)
     }

@@ -2,7 +2,7 @@
 
 ghost use Rattle.std.specs.Prelude.{◌≡◌, ◌++◌, decimal, string_bytes, slice_index_or, OnOk};
 ghost use Rattle.rg_c_values.specs.CNames.{c_name};
-ghost use Rattle.rg_c_values.specs.Printed.{operator_text, shift_text, comparison_text, joint_text, truth_text, number_text, cast_text, read_text, word_text, opening, closing, is_bare, is_bare_test, is_chain, is_bare_first, value_text, test_text};
+ghost use Rattle.rg_c_values.specs.Printed.{operator_text, shift_text, comparison_text, joint_text, truth_text, number_text, cast_text, read_text, word_text, opening, closing, is_tight, is_bare, is_bare_test, is_loose, is_chain, is_bare_first, value_text, test_text};
 ghost use Rattle.rg_c_values.specs.View.{value, test};
 
 use crate::names::push_c_name;
@@ -40,15 +40,15 @@ pub fn print_value(
         Value::Word(_, k) => push_word(text, layout, reads, *k),
         Value::Cast(bits, v) => {
             push_cast(text, *bits)?;
-            push_opening(text, is_bare(v))?;
+            push_opening(text, is_tight(v))?;
             print_value(text, layout, reads, v)?;
-            push_closing(text, is_bare(v))
+            push_closing(text, is_tight(v))
         }
         Value::Inverse(_, v) => {
             text.push_str("~")?;
-            push_opening(text, is_bare(v))?;
+            push_opening(text, is_tight(v))?;
             print_value(text, layout, reads, v)?;
-            push_closing(text, is_bare(v))
+            push_closing(text, is_tight(v))
         }
         Value::Binary(operator, _, a, b) => {
             push_opening(text, is_bare(a))?;
@@ -58,6 +58,13 @@ pub fn print_value(
             push_opening(text, is_bare(b))?;
             print_value(text, layout, reads, b)?;
             push_closing(text, is_bare(b))
+        }
+        Value::Rest(_, v, n) => {
+            push_opening(text, is_tight(v))?;
+            print_value(text, layout, reads, v)?;
+            push_closing(text, is_tight(v))?;
+            text.push_str(" % ")?;
+            push_number(text, *n)
         }
         Value::Shifted(shift, _, v, count) => {
             push_opening(text, is_bare(v))?;
@@ -218,13 +225,23 @@ fn push_read(text: &mut String, read: Read, name: &str) -> Result<(), AllocError
     }
 }
 
-/// Whether a value stands without parentheses.
+/// Whether a value stands without parentheses behind `~` and a cast, and before `%`.
+fn is_tight(v: &Value) -> bool
+    ensures { result ≡ is_tight (value v.now) }
+{
+    match v {
+        Value::Literal(_) | Value::Word(_, _) | Value::Cast(_, _) | Value::Inverse(_, _) => true,
+        _ => false,
+    }
+}
+
+/// Whether a value stands without parentheses beside another operator.
 fn is_bare(v: &Value) -> bool
     ensures { result ≡ is_bare (value v.now) }
 {
     match v {
-        Value::Literal(_) | Value::Word(_, _) | Value::Cast(_, _) => true,
-        _ => false,
+        Value::Rest(_, _, _) => true,
+        _ => is_tight(v),
     }
 }
 
@@ -233,7 +250,7 @@ fn is_bare_test(t: &Test) -> bool
     ensures { result ≡ is_bare_test (test t.now) }
 {
     match t {
-        Test::Truth(_) => true,
+        Test::Truth(_) | Test::Not(_) => true,
         _ => false,
     }
 }
@@ -244,8 +261,19 @@ fn is_bare_first(joint: Joint, t: &Test) -> bool
 {
     match t {
         Test::Truth(_) => true,
+        Test::Not(_) => is_loose(joint),
         Test::Joined(inner, _, _) => is_chain(joint, *inner),
         _ => false,
+    }
+}
+
+/// Whether `!` needs no parentheses before such a joint.
+fn is_loose(joint: Joint) -> bool
+    ensures { result ≡ is_loose joint }
+{
+    match joint {
+        Joint::And | Joint::Or => true,
+        Joint::Same => false,
     }
 }
 

@@ -14,6 +14,8 @@ pub enum Value {
     Cast(u32, Box<Value>),
     Inverse(u32, Box<Value>),
     Binary(Operator, u32, Box<Value>, Box<Value>),
+    /// What is left of the operand where it is divided by the number.
+    Rest(u32, Box<Value>, u64),
     /// The operand moved by so many bits.
     Shifted(Shift, u32, Box<Value>, u32),
     /// The first value where the test is true, else the second.
