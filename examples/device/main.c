@@ -6,7 +6,7 @@
 
 enum { COUNT = sizeof values / sizeof *values, CYCLES = 20, STARTED_OUTSIDE = 1 };
 
-static struct interrupt_ring words = INTERRUPT_RING_START;
+static struct interrupt_ring words = RGC_START_interrupt_ring;
 
 /* One round of the part `handler`. The device, which is no part, sets its word before: it has the next value once the last one was put in. */
 void board_tick(void)

@@ -15,8 +15,8 @@ import listing
 import random_programs
 
 TOP = Path(__file__).resolve().parent.parent.parent
-# The prefix of what the headers declare.
-NAME = "rg"
+# The prefix of what the headers declare, and that of a second header beside the first one.
+NAME, SECOND = "rg", "Rg"
 FILES = ("text", "derivation", "proofs")
 LIMIT = 1200
 
@@ -161,15 +161,16 @@ def write_program(case):
     parts = [it["name"] for it in case.code["parts"]]
     each = lambda what, names: f"#define EACH_{what}({what}) " + " ".join(f"{what}({number}, {name})" for number, name in enumerate(names))
     rows = [f"#define PARTS {len(parts)}", f"#define WORDS {len(case.kept)}", each("PART", parts)]
-    rows += [each("WORD", (case.header.members[it] for it in case.kept)), each("ROUND", case.header.rounds)]
+    rows += [each("WORD", (case.header.members[it] for it in case.kept)), each("ROUND", case.header.rounds), each("SECOND", parts)]
     write(f"{case.room}/program.h", "\n".join(rows) + "\n")
 
 
 def case_of(name, room, program, words, code, rng):
     """A program with its headers, which stand in the room. The words ask for them."""
-    plain, traced = run(program, *words), run(program, *words, "--trace")
+    plain, traced = run(program, *words, "--name", NAME), run(program, *words, "--name", NAME, "--trace")
     headers.demand(headers.without_trace(traced) == plain, "with --trace another text is printed")
     write(f"{room}/plain/{NAME}.h", plain)
+    write(f"{room}/plain/{SECOND}.h", run(program, *words, "--name", SECOND))
     write(f"{room}/traced/{NAME}.h", traced)
     return Case(name, room, headers.read(plain, NAME, code), code, rng.randrange(1 << 30))
 
@@ -183,7 +184,7 @@ def ways(source, code, rng):
 
 def check_outline(source, program, words, case):
     """Sees that the C of an outline is that of the files that stand for it, besides the comments."""
-    printed = run(program, "emit", "--outline", source.of, *words)
+    printed = run(program, "emit", "--outline", source.of, *words, "--name", NAME)
     bare = lambda text: re.sub(r"/\*.*?\*/", "", text, flags=re.S)
     headers.demand(bare(printed) == bare(case.header.text), "emit --outline prints other C than emit of its text")
 
@@ -191,7 +192,7 @@ def check_outline(source, program, words, case):
 def cases(source, program, room):
     """A program in each way in which its C is asked for. Of a generated one there is none where no C does its steps."""
     files, rng = files_of(source, program, room), random.Random(source.of)
-    code, c = json.loads(run(program, "emit", *files)), ["--format", "c", "--name", NAME]
+    code, c = json.loads(run(program, "emit", *files)), ["--format", "c"]
     for number, (name, erase) in enumerate(ways(source, code, rng)):
         words = ["emit", *files, *erase, *c]
         if source.kind == "seed" and subprocess.run([program, *words], capture_output=True, check=False, timeout=LIMIT).returncode == 1:

@@ -15,7 +15,7 @@ COUNTS = {
     "exchanges": r"(\d+) (?:is |are )?one compare-and-exchange",
     "sections": r"(\d+) (?:is |are )?a critical section",
 }
-TRACE = re.compile(r"\n *RGC_AT\(\d+, \d+\);|RGC_AT\(\d+, \d+\), ")
+TRACE = re.compile(r"\n *RGC_AT\(\d+, \d+\);")
 
 
 class Fault(Exception):
@@ -40,8 +40,15 @@ class Header:
 
 
 def without_trace(text):
-    """The text of a header without its marks. A loop without an end has no place for one, so where there are marks it has a test."""
-    return TRACE.sub("", text).replace("while (true) {", "for (;;) {")
+    """The text of a header without its marks."""
+    return TRACE.sub("", text)
+
+
+def check_loops(text):
+    """Sees that each loop tests nothing: a compiler may not take for granted that such a loop ends."""
+    bare = re.sub(r"/\*.*?\*/", "", text, flags=re.S)
+    found = {it.strip() for it in re.findall(r"^.*\b(?:for|while|do|goto)\b.*$", bare, re.M)} - {"for (;;) {"}
+    demand(not found, f"a loop is printed otherwise: {sorted(found)[:1]}")
 
 
 def declared(text, name):
@@ -78,8 +85,8 @@ def counts_of(text):
 
 
 def start_of(text, name, members):
-    """The values that NAME_START gives, 0 for the others, by the words' numbers; or None where there is no such macro."""
-    found = re.search(rf"^#define {name.upper()}_START \{{ (.*) \}}$", text, re.M)
+    """The values that RGC_START_NAME gives, 0 for the others, by the words' numbers; or None where there is no such macro."""
+    found = re.search(rf"^#define RGC_START_{name} \{{ (.*) \}}$", text, re.M)
     if not found:
         return None
     values = {member: int(value) for member, value in re.findall(r"\.(\w+) = (?:UINT64_C\()?(\d+)", found[1])}
@@ -113,6 +120,7 @@ def check_accesses(header, name):
 
 def read(text, name, code):
     """The header, of which a name is the prefix."""
+    check_loops(text)
     members = numbered(declared(text, name), code["words"])
     names = {number: member for number, (member, _) in members.items()}
     rounds = tuple(re.findall(rf"^static inline void {name}_round_(\w+)\(", text, re.M))
