@@ -7,3 +7,5 @@ pub mod Starts
 pub mod Places
 pub mod Fits
 pub mod MovingFits
+pub mod FunctionsApart
+pub mod NamesIn

@@ -1,5 +1,5 @@
 -- The text of the body of a part.
-use Rattle.std.specs.Prelude.{ℕ, ◌+◌, Bool, not, ◌&&◌, List, [], ◌∷◌, ◌++◌, codes, if◌then◌else◌, Option, Some, None}
+use Rattle.std.specs.Prelude.{ℕ, ◌+◌, Bool, List, [], ◌∷◌, ◌++◌, codes, if◌then◌else◌, Option, Some, None}
 use Rattle.std.specs.Option.{option_map_or}
 use Rattle.std.specs.Fmt.{decimal}
 use Rattle.rg_words.specs.Layout.{Word, widths_of}
@@ -15,11 +15,11 @@ use Rattle.rg_c_values.specs.declared.print.Read.{Read}
 use Rattle.rg_c_values.specs.CTrees.{CTest}
 use Rattle.rg_c_values.specs.Translation.{test_in_c}
 use Rattle.rg_c_values.specs.Printed.{test_text}
-use Rattle.rg_c.specs.Lines.{inner, mark_call, comment_line, skip_line, wait_line, if_open, else_line, block_close, while_open, forever_open, go_open, go_line, go_leave, go_if}
+use Rattle.rg_c.specs.Lines.{inner, mark_call, comment_line, skip_line, wait_line, if_open, else_line, block_close, loop_open, leave_unless, go_open, go_line, go_leave, go_if}
 use Rattle.rg_c.specs.Source.{assignment_source, assignments_source}
 use Rattle.rg_c.specs.Reads.{is_one_load, load_reads}
 use Rattle.rg_c.specs.Used.{is_used}
-use Rattle.rg_c.specs.StepTexts.{is_true, marked, mark_prefix, local_reads, enter_text, leave_text, section_note, step_text}
+use Rattle.rg_c.specs.StepTexts.{is_true, marked, local_reads, enter_text, leave_text, section_note, step_text}
 
 -- what the text of a part depends on: the words and their kinds, the part's place, from 0, and whether steps are marked
 pub record PageTree : Type 0 where
@@ -62,12 +62,12 @@ if_begins p i place way t =
 
 unfoldable pub bare_loop : PageTree → List ℕ → ℕ → List Read → CTest → List ℕ
 bare_loop p i place reads t =
-    if is_true t && not p.traced then forever_open i else while_open i (mark_prefix (mark_of p place)) (test_text p.words reads t)
+    loop_open i ++ (marked (inner i) (mark_of p place) ++ (if is_true t then [] else leave_unless (inner i) (test_text p.words reads t)))
 
 unfoldable pub loop_begins : PageTree → List ℕ → ℕ → Way → CTest → List ℕ
 loop_begins p i place way t =
     option_map_or (λ reads. bare_loop p i place reads t) (bare_reads p.words way t)
-    (forever_open i ++ (go_text p (inner i) place way t ++ go_leave (inner i) (decimal place)))
+    (loop_open i ++ (go_text p (inner i) place way t ++ go_leave (inner i) (decimal place)))
 
 -- a formula in the program's own words, after a text
 abbrev pub asked : List Word → List ℕ → Proposition → List ℕ

@@ -1,5 +1,6 @@
 -- The pieces of which a header is made, from their texts.
 use Rattle.std.specs.Prelude.{ℕ, List, [], ◌∷◌, codes}
+use Rattle.rg_c.specs.Functions.{runs, goes_round, function_name}
 use Rattle.rg_c.specs.Lines.{joined}
 
 -- the beginning of the comment at the top
@@ -109,9 +110,9 @@ struct_close = joined (
 -- a start of the words, as a macro
 unfoldable pub start_lines : List ℕ → List ℕ → List ℕ
 start_lines name members = joined (
-    codes "\n/* A start inside pre. */\n#define "
+    codes "\n/* A start inside pre. */\n#define RGC_START_"
     ∷ name
-    ∷ codes "_START { "
+    ∷ codes " { "
     ∷ members
     ∷ codes " }\n" ∷ [])
 
@@ -136,9 +137,7 @@ part_open name part = joined (
     codes "\n/* Part "
     ∷ part
     ∷ codes ". Where it returns, the part has ended. */\nstatic inline void "
-    ∷ name
-    ∷ codes "_run_"
-    ∷ part
+    ∷ function_name name (runs part)
     ∷ codes "(struct "
     ∷ name
     ∷ codes " *w)\n{\n    (void)w;\n" ∷ [])
@@ -149,9 +148,7 @@ round_open name part = joined (
     codes "\n/* One round of part "
     ∷ part
     ∷ codes ", for a caller that goes round by itself. */\nstatic inline void "
-    ∷ name
-    ∷ codes "_round_"
-    ∷ part
+    ∷ function_name name (goes_round part)
     ∷ codes "(struct "
     ∷ name
     ∷ codes " *w)\n{\n    (void)w;\n" ∷ [])
@@ -160,9 +157,7 @@ round_open name part = joined (
 unfoldable pub round_call : List ℕ → List ℕ → List ℕ
 round_call name part = joined (
     codes "        "
-    ∷ name
-    ∷ codes "_round_"
-    ∷ part
+    ∷ function_name name (goes_round part)
     ∷ codes "(w);\n" ∷ [])
 
 -- the end of a part

@@ -10,6 +10,7 @@ pub mod Used
 pub mod StepTexts
 pub mod Bodies
 pub mod Pages
+pub mod Functions
 pub mod Heads
 pub mod Starts
 pub mod Headers

@@ -46,10 +46,6 @@ exchange_line indent name = joined (indent ∷ codes "rgc_done = RGC_CAS(&w->" �
 unfoldable pub return_line : List ℕ → List ℕ → List ℕ
 return_line indent name = joined (indent ∷ codes "w->" ∷ name ∷ codes " = " ∷ name ∷ codes "_;\n" ∷ [])
 
--- a loop that waits until a test is true, with what stands before the test
-unfoldable pub wait_loop : List ℕ → List ℕ → List ℕ → List ℕ
-wait_loop indent prefix test = joined (indent ∷ codes "while (" ∷ prefix ∷ codes "!(" ∷ test ∷ codes ")) {\n" ∷ indent ∷ codes "    RGC_WAIT(w);\n" ∷ indent ∷ codes "}\n" ∷ [])
-
 -- the beginning of a block
 unfoldable pub block_open : List ℕ → List ℕ
 block_open indent = joined (indent ∷ codes "{\n" ∷ [])
@@ -58,17 +54,26 @@ block_open indent = joined (indent ∷ codes "{\n" ∷ [])
 unfoldable pub block_close : List ℕ → List ℕ
 block_close indent = joined (indent ∷ codes "}\n" ∷ [])
 
--- the beginning of a loop that goes on until the step is made
-unfoldable pub attempt_open : List ℕ → List ℕ
-attempt_open indent = joined (indent ∷ codes "for (bool rgc_done = false; !rgc_done;) {\n" ∷ [])
+-- the beginning of a loop; there is no other. It tests nothing, since of a loop with a test that isn't constant, and that accesses no atomic word, a compiler may take
+-- for granted that it ends (C11, 6.8.5, paragraph 6)
+unfoldable pub loop_open : List ℕ → List ℕ
+loop_open indent = joined (indent ∷ codes "for (;;) {\n" ∷ [])
+
+-- the end of the loop around it, where a test is true
+unfoldable pub leave_loop : List ℕ → List ℕ → List ℕ
+leave_loop indent test = joined (indent ∷ codes "if (" ∷ test ∷ codes ") {\n" ∷ indent ∷ codes "    break;\n" ∷ indent ∷ codes "}\n" ∷ [])
+
+-- and where a test is false
+unfoldable pub leave_unless : List ℕ → List ℕ → List ℕ
+leave_unless indent test = joined (indent ∷ codes "if (!(" ∷ test ∷ codes ")) {\n" ∷ indent ∷ codes "    break;\n" ∷ indent ∷ codes "}\n" ∷ [])
+
+-- a local that tells whether the step is made
+unfoldable pub attempt_line : List ℕ → List ℕ
+attempt_line indent = joined (indent ∷ codes "bool rgc_done = false;\n" ∷ [])
 
 -- whether the step is made
 unfoldable pub done_line : List ℕ → List ℕ → List ℕ
 done_line indent test = joined (indent ∷ codes "rgc_done = " ∷ test ∷ codes ";\n" ∷ [])
-
--- waiting where the step wasn't made
-unfoldable pub retry : List ℕ → List ℕ
-retry indent = joined (indent ∷ codes "if (!rgc_done) {\n" ∷ indent ∷ codes "    RGC_WAIT(w);\n" ∷ indent ∷ codes "}\n" ∷ [])
 
 -- the beginning of what is done where a test is true
 unfoldable pub if_open : List ℕ → List ℕ → List ℕ
@@ -86,14 +91,6 @@ else_wait indent = joined (indent ∷ codes "} else {\n" ∷ indent ∷ codes " 
 unfoldable pub done_open : List ℕ → List ℕ
 done_open indent = joined (indent ∷ codes "if (rgc_done) {\n" ∷ [])
 
--- the beginning of a loop, with what stands before its test
-unfoldable pub while_open : List ℕ → List ℕ → List ℕ → List ℕ
-while_open indent prefix test = joined (indent ∷ codes "while (" ∷ prefix ∷ test ∷ codes ") {\n" ∷ [])
-
--- the beginning of a loop without an end
-unfoldable pub forever_open : List ℕ → List ℕ
-forever_open indent = joined (indent ∷ codes "for (;;) {\n" ∷ [])
-
 -- the entry of a section
 unfoldable pub enter_line : List ℕ → List ℕ
 enter_line indent = joined (indent ∷ codes "RGC_ENTER(w);\n" ∷ [])
@@ -110,7 +107,7 @@ go_open indent place = joined (indent ∷ codes "bool rgc_go" ∷ place ∷ code
 unfoldable pub go_line : List ℕ → List ℕ → List ℕ → List ℕ
 go_line indent place test = joined (indent ∷ codes "rgc_go" ∷ place ∷ codes " = " ∷ test ∷ codes ";\n" ∷ [])
 
--- the end of a loop where the test was false
+-- the end of the loop around it where the test was false
 unfoldable pub go_leave : List ℕ → List ℕ → List ℕ
 go_leave indent place = joined (indent ∷ codes "if (!rgc_go" ∷ place ∷ codes ") {\n" ∷ indent ∷ codes "    break;\n" ∷ indent ∷ codes "}\n" ∷ [])
 

@@ -3,7 +3,7 @@ use Rattle.std.specs.Prelude.{ℕ, Bool, true, false, ◌&&◌, List, nat_eq, le
 use Rattle.rg_words.specs.Layout.{Word}
 use Rattle.rg_c_values.specs.declared.print.Read.{Read}
 use Rattle.rg_c_values.specs.declared.print.Read.TheVariants.{Plain, Load}
-use Rattle.rg_c_values.specs.CTrees.{CValue, CTest, c_literal, c_word, c_cast, c_inverse, c_binary, c_shifted, c_choice, c_truth, c_not, c_joined, c_compared}
+use Rattle.rg_c_values.specs.CTrees.{CValue, CTest, c_literal, c_word, c_cast, c_inverse, c_binary, c_rest, c_shifted, c_choice, c_truth, c_not, c_joined, c_compared}
 
 -- a test that loads this word once: it is compared with a number
 abbrev pub is_load_of : ℕ → CValue → Bool
@@ -12,6 +12,7 @@ is_load_of x (c_word g k) = nat_eq x k
 is_load_of x (c_cast n v) = false
 is_load_of x (c_inverse g v) = false
 is_load_of x (c_binary o g a b) = false
+is_load_of x (c_rest g v n) = false
 is_load_of x (c_shifted d g v k) = false
 is_load_of x (c_choice t a b) = false
 
@@ -21,6 +22,7 @@ is_literal (c_word g k) = false
 is_literal (c_cast n v) = false
 is_literal (c_inverse g v) = false
 is_literal (c_binary o g a b) = false
+is_literal (c_rest g v n) = false
 is_literal (c_shifted d g v k) = false
 is_literal (c_choice t a b) = false
 

@@ -1,7 +1,6 @@
 -- A start of a program: what plain equations of its pre say, where that is inside the pre.
 use Rattle.std.specs.Prelude.{◌≡◌, ℕ, ◌+◌, ◌^◌, nat_eq, nat_lt, true, List, [], ◌∷◌, ◌++◌, codes, map, Option, Some, None, IfSome, if◌then◌else◌}
 use Rattle.std.specs.Option.{option_or, option_map_or}
-use Rattle.std.specs.Char.{to_ascii_uppercase}
 use Rattle.std.specs.Fmt.{decimal}
 use Rattle.rg_words.specs.declared.operators.Connective.TheVariants.{And}
 use Rattle.rg_words.specs.declared.operators.Comparison.TheVariants.{Equal}
@@ -58,4 +57,4 @@ members_text words (n ∷ s) = member_text words 0 n ++ more_members words 1 s
 
 -- a start of a program with this name, as a macro; nothing where none is known
 unfoldable pub start_text : List ℕ → ProgramTree → List ℕ
-start_text name p = option_map_or (λ s. start_lines (map to_ascii_uppercase name) (members_text p.words s)) (start_of p) []
+start_text name p = option_map_or (λ s. start_lines name (members_text p.words s)) (start_of p) []

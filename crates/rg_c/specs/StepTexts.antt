@@ -14,7 +14,7 @@ use Rattle.rg_c.specs.Actions.{Action, CStep}
 use Rattle.rg_c_report.specs.Moving.{moving}
 use Rattle.rg_c_report.specs.Counts.{is_section}
 use Rattle.rg_c.specs.Steps.{targets_beside, step_by, test_of}
-use Rattle.rg_c.specs.Lines.{joined, inner, mark_line, wait_loop, block_open, block_close, attempt_open, done_line, retry, if_open, else_wait, done_open, enter_line, leave_line, load_line, discard_line, note_line}
+use Rattle.rg_c.specs.Lines.{inner, mark_line, loop_open, leave_loop, wait_line, block_open, block_close, attempt_line, done_line, if_open, else_wait, done_open, enter_line, leave_line, load_line, discard_line, note_line}
 use Rattle.rg_c.specs.Reads.{is_one_load, load_reads}
 use Rattle.rg_c.specs.Used.{is_used}
 use Rattle.rg_c.specs.Texts.{name_of, type_of, actions_text}
@@ -26,12 +26,9 @@ is_true (c_not t) = false
 is_true (c_joined j t u) = false
 is_true (c_compared c a b) = false
 
--- the mark of a step as a statement and before a test; nothing where there is none
+-- the mark of a step; nothing where there is none
 unfoldable pub marked : List ℕ → List ℕ → List ℕ
 marked i mark = if nat_eq (length mark) 0 then [] else mark_line i mark
-
-unfoldable pub mark_prefix : List ℕ → List ℕ
-mark_prefix mark = if nat_eq (length mark) 0 then [] else joined (mark ∷ codes ", " ∷ [])
 
 -- these words are read from locals, after those that are already
 abbrev pub with_locals : List Read → List ℕ → List Read
@@ -42,9 +39,14 @@ with_locals reads (k ∷ ks) = with_locals (slice_set reads k Local) ks
 abbrev pub local_reads : List Word → List ℕ → List Read
 local_reads words ks = with_locals (replicate (length words) Plain) ks
 
+-- waiting until a test is true, words read so
+unfoldable pub wait_text : List Word → List Read → List ℕ → List ℕ → CTest → List ℕ
+wait_text words reads i mark t =
+    loop_open i ++ (marked (inner i) mark ++ (leave_loop (inner i) (test_text words reads t) ++ (wait_line (inner i) ++ block_close i)))
+
 -- waiting until a test that reads plain words is true
 unfoldable pub waits : List Word → List ℕ → List ℕ → CTest → List ℕ
-waits words i mark t = if is_true t then marked i mark else wait_loop i (mark_prefix mark) (test_text words [] t)
+waits words i mark t = if is_true t then marked i mark else wait_text words [] i mark t
 
 -- how a step begins and ends that is done in a section, or over a local; a load has a local only where that is used
 unfoldable pub enter_text : List Word → List ℕ → Bool → Way → List ℕ
@@ -72,10 +74,10 @@ held_free words reads i mark way t actions =
 
 unfoldable pub held_begins : List Word → List Read → List ℕ → List ℕ → Way → CTest → List Action → List ℕ
 held_begins words reads i mark way t actions =
-    attempt_open i ++ (marked (inner i) mark ++ (enter_text words (inner i) (is_used way t actions) way ++ done_line (inner i) (test_text words reads t)))
+    loop_open i ++ (attempt_line (inner i) ++ (marked (inner i) mark ++ (enter_text words (inner i) (is_used way t actions) way ++ done_line (inner i) (test_text words reads t))))
 
 unfoldable pub held_ends : List ℕ → Way → List ℕ
-held_ends i way = leave_text (inner i) way ++ (retry (inner i) ++ block_close i)
+held_ends i way = leave_text (inner i) way ++ (leave_loop (inner i) (codes "rgc_done") ++ (wait_line (inner i) ++ block_close i))
 
 unfoldable pub held_tested : List Word → List Read → List ℕ → List ℕ → Way → CTest → List Action → List ℕ
 held_tested words reads i mark way t actions =
@@ -86,7 +88,7 @@ held_text words reads i mark way t actions = if is_true t then held_free words r
 
 -- a step that loads this word: where it assigns nothing and its test loads the word once, it waits; else it is done over a local
 unfoldable pub loaded_wait : List Word → List ℕ → List ℕ → ℕ → CTest → List ℕ
-loaded_wait words i mark x t = wait_loop i (mark_prefix mark) (test_text words (load_reads words x) t)
+loaded_wait words i mark x t = wait_text words (load_reads words x) i mark t
 
 unfoldable pub loaded_text : List Word → List ℕ → List ℕ → ℕ → CTest → List Action → List ℕ
 loaded_text words i mark x t actions =
@@ -108,7 +110,8 @@ before_text words i before = actions_text words [] i before
 -- a step that is done by an exchange, in a loop until it is made
 unfoldable pub exchange_text : List Word → List Read → List ℕ → List ℕ → CStep → List ℕ
 exchange_text words reads i mark c =
-    attempt_open i ++ (marked (inner i) mark ++ (before_text words (inner i) c.before ++ (tried_text words reads (inner i) c.test c.actions c.after ++ block_close i)))
+    loop_open i ++ (attempt_line (inner i) ++ (marked (inner i) mark ++ (before_text words (inner i) c.before ++ (tried_text words reads (inner i) c.test c.actions c.after
+    ++ (leave_loop (inner i) (codes "rgc_done") ++ block_close i)))))
 
 -- a step that is done in this way
 unfoldable pub done_text : List Word → List ℕ → List ℕ → Way → CTest → List Assignment → List ℕ

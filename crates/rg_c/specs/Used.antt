@@ -3,7 +3,7 @@ use Rattle.std.specs.Prelude.{ℕ, Bool, true, false, ◌||◌, nat_eq, List}
 use Rattle.std.specs.List.{list_any}
 use Rattle.rg_c_plan.specs.declared.way.Way.{Way}
 use Rattle.rg_c_plan.specs.declared.way.Way.TheVariants.{Direct, Load, Store, Exchange, Section}
-use Rattle.rg_c_values.specs.CTrees.{CValue, CTest, c_literal, c_word, c_cast, c_inverse, c_binary, c_shifted, c_choice, c_truth, c_not, c_joined, c_compared}
+use Rattle.rg_c_values.specs.CTrees.{CValue, CTest, c_literal, c_word, c_cast, c_inverse, c_binary, c_rest, c_shifted, c_choice, c_truth, c_not, c_joined, c_compared}
 use Rattle.rg_c.specs.Actions.{Action, loads, begins, copies, changes, writes, stores, exchanges, returns}
 
 abbrev mutual
@@ -14,6 +14,7 @@ abbrev mutual
   value_reads x (c_cast n v) = value_reads x v
   value_reads x (c_inverse g v) = value_reads x v
   value_reads x (c_binary o g a b) = value_reads x a || value_reads x b
+  value_reads x (c_rest g v n) = value_reads x v
   value_reads x (c_shifted d g v k) = value_reads x v
   value_reads x (c_choice t a b) = test_reads x t || (value_reads x a || value_reads x b)
 

@@ -210,9 +210,9 @@ pub(crate) fn push_start_lines(
     push_all(
         text,
         &[
-            "\n/* A start inside pre. */\n#define ",
+            "\n/* A start inside pre. */\n#define RGC_START_",
             name,
-            "_START { ",
+            " { ",
             members,
             " }\n",
         ],

@@ -1,5 +1,6 @@
 //! What holds of all steps, as laws: functions that do nothing, and whose contracts are the laws.
 
+ghost use Rattle.rg_c.specs.Functions.{FunctionsStayApart};
 ghost use Rattle.rg_c.specs.Laws.{StepsAreRight};
 ghost use Rattle.rg_c.specs.Starts.{StartsAreInside};
 
@@ -13,4 +14,10 @@ pub fn steps_are_right()
 #[tactic(auto, using(crate::proofs::Starts::starts_are_inside))]
 pub fn starts_are_inside()
     ensures { StartsAreInside }
+{}
+
+/// Functions of headers have different names, and so have those of one header, where no title has `_run` or `_round` in it.
+#[tactic(auto, using(crate::proofs::FunctionsApart::functions_stay_apart))]
+pub fn functions_stay_apart()
+    ensures { FunctionsStayApart }
 {}

@@ -15,4 +15,5 @@ mod start;
 mod statements;
 mod steps;
 mod tests;
+pub mod titles;
 mod used;

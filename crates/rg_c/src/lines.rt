@@ -2,7 +2,7 @@
 
 ghost use Rattle.std.specs.Prelude.{◌≡◌, ◌++◌, string_bytes, IfOk, OnOk};
 ghost use Rattle.std.specs.List.{flat_map};
-ghost use Rattle.rg_c.specs.Lines.{inner, load_line, discard_line, begin_lines, copy_line, change_line, write_line, store_line, exchange_line, return_line, wait_loop, block_open, block_close, attempt_open, done_line, retry, if_open, else_line, else_wait, done_open, while_open, forever_open, enter_line, leave_line, go_open, go_line, go_leave, go_if, mark_line, mark_call, comment_line, note_line, skip_line, wait_line};
+ghost use Rattle.rg_c.specs.Lines.{inner, load_line, discard_line, begin_lines, copy_line, change_line, write_line, store_line, exchange_line, return_line, block_open, block_close, done_line, if_open, else_line, else_wait, done_open, enter_line, leave_line, go_open, go_line, go_leave, go_if, mark_line, mark_call, comment_line, note_line, skip_line, wait_line, loop_open, leave_loop, leave_unless, attempt_line};
 
 use std::alloc::{AllocError, Global};
 
@@ -176,33 +176,6 @@ pub(crate) fn push_return_line(
     push_all(text, &[indent, "w->", name, " = ", name, "_;\n"])
 }
 
-/// Adds a loop that waits until a test is true, with what stands before the test.
-#[tactic(auto, unfolding(crate::specs::Lines::wait_loop))]
-pub(crate) fn push_wait_loop(
-    text: &mut String,
-    indent: &str,
-    prefix: &str,
-    test: &str,
-) -> Result<(), AllocError>
-    ensures { OnOk result (string_bytes text.new ≡ string_bytes text.old ++ wait_loop indent.now prefix.now test.now) }
-{
-    push_all(
-        text,
-        &[
-            indent,
-            "while (",
-            prefix,
-            "!(",
-            test,
-            ")) {\n",
-            indent,
-            "    RGC_WAIT(w);\n",
-            indent,
-            "}\n",
-        ],
-    )
-}
-
 /// Adds the beginning of a block.
 #[tactic(auto, unfolding(crate::specs::Lines::block_open))]
 pub(crate) fn push_block_open(text: &mut String, indent: &str) -> Result<(), AllocError>
@@ -219,15 +192,64 @@ pub(crate) fn push_block_close(text: &mut String, indent: &str) -> Result<(), Al
     push_all(text, &[indent, "}\n"])
 }
 
-/// Adds the beginning of a loop that goes on until the step is made.
-#[tactic(auto, unfolding(crate::specs::Lines::attempt_open))]
-pub(crate) fn push_attempt_open(text: &mut String, indent: &str) -> Result<(), AllocError>
-    ensures { OnOk result (string_bytes text.new ≡ string_bytes text.old ++ attempt_open indent.now) }
+/// Adds the beginning of a loop.
+#[tactic(auto, unfolding(crate::specs::Lines::loop_open))]
+pub(crate) fn push_loop_open(text: &mut String, indent: &str) -> Result<(), AllocError>
+    ensures { OnOk result (string_bytes text.new ≡ string_bytes text.old ++ loop_open indent.now) }
+{
+    push_all(text, &[indent, "for (;;) {\n"])
+}
+
+/// Adds the end of the loop around it, where a test is true.
+#[tactic(auto, unfolding(crate::specs::Lines::leave_loop))]
+pub(crate) fn push_leave_loop(text: &mut String, indent: &str, test: &str) -> Result<(), AllocError>
+    ensures { OnOk result (string_bytes text.new ≡ string_bytes text.old ++ leave_loop indent.now test.now) }
 {
     push_all(
         text,
-        &[indent, "for (bool rgc_done = false; !rgc_done;) {\n"],
+        &[
+            indent,
+            "if (",
+            test,
+            ") {\n",
+            indent,
+            "    break;\n",
+            indent,
+            "}\n",
+        ],
     )
+}
+
+/// Adds the end of the loop around it, where a test is false.
+#[tactic(auto, unfolding(crate::specs::Lines::leave_unless))]
+pub(crate) fn push_leave_unless(
+    text: &mut String,
+    indent: &str,
+    test: &str,
+) -> Result<(), AllocError>
+    ensures { OnOk result (string_bytes text.new ≡ string_bytes text.old ++ leave_unless indent.now test.now) }
+{
+    push_all(
+        text,
+        &[
+            indent,
+            "if (!(",
+            test,
+            ")) {\n",
+            indent,
+            "    break;\n",
+            indent,
+            "}\n",
+        ],
+    )
+}
+
+/// Adds a local that tells whether the step is made.
+#[tactic(auto, unfolding(crate::specs::Lines::attempt_line))]
+pub(crate) fn push_attempt_line(text: &mut String, indent: &str) -> Result<(), AllocError>
+    ensures { OnOk result (string_bytes text.new ≡ string_bytes text.old ++ attempt_line indent.now) }
+{
+    push_all(text, &[indent, "bool rgc_done = false;\n"])
 }
 
 /// Adds whether the step is made.
@@ -236,24 +258,6 @@ pub(crate) fn push_done_line(text: &mut String, indent: &str, test: &str) -> Res
     ensures { OnOk result (string_bytes text.new ≡ string_bytes text.old ++ done_line indent.now test.now) }
 {
     push_all(text, &[indent, "rgc_done = ", test, ";\n"])
-}
-
-/// Adds waiting where the step wasn't made.
-#[tactic(auto, unfolding(crate::specs::Lines::retry))]
-pub(crate) fn push_retry(text: &mut String, indent: &str) -> Result<(), AllocError>
-    ensures { OnOk result (string_bytes text.new ≡ string_bytes text.old ++ retry indent.now) }
-{
-    push_all(
-        text,
-        &[
-            indent,
-            "if (!rgc_done) {\n",
-            indent,
-            "    RGC_WAIT(w);\n",
-            indent,
-            "}\n",
-        ],
-    )
 }
 
 /// Adds the beginning of what is done where a test is true.
@@ -298,27 +302,6 @@ pub(crate) fn push_done_open(text: &mut String, indent: &str) -> Result<(), Allo
     push_all(text, &[indent, "if (rgc_done) {\n"])
 }
 
-/// Adds the beginning of a loop, with what stands before its test.
-#[tactic(auto, unfolding(crate::specs::Lines::while_open))]
-pub(crate) fn push_while_open(
-    text: &mut String,
-    indent: &str,
-    prefix: &str,
-    test: &str,
-) -> Result<(), AllocError>
-    ensures { OnOk result (string_bytes text.new ≡ string_bytes text.old ++ while_open indent.now prefix.now test.now) }
-{
-    push_all(text, &[indent, "while (", prefix, test, ") {\n"])
-}
-
-/// Adds the beginning of a loop without an end.
-#[tactic(auto, unfolding(crate::specs::Lines::forever_open))]
-pub(crate) fn push_forever_open(text: &mut String, indent: &str) -> Result<(), AllocError>
-    ensures { OnOk result (string_bytes text.new ≡ string_bytes text.old ++ forever_open indent.now) }
-{
-    push_all(text, &[indent, "for (;;) {\n"])
-}
-
 /// Adds the entry of a section.
 #[tactic(auto, unfolding(crate::specs::Lines::enter_line))]
 pub(crate) fn push_enter_line(text: &mut String, indent: &str) -> Result<(), AllocError>
@@ -356,7 +339,7 @@ pub(crate) fn push_go_line(
     push_all(text, &[indent, "rgc_go", place, " = ", test, ";\n"])
 }
 
-/// Adds the end of a loop where the test was false.
+/// Adds the end of the loop around it where the test was false.
 #[tactic(auto, unfolding(crate::specs::Lines::go_leave))]
 pub(crate) fn push_go_leave(text: &mut String, indent: &str, place: &str) -> Result<(), AllocError>
     ensures { OnOk result (string_bytes text.new ≡ string_bytes text.old ++ go_leave indent.now place.now) }

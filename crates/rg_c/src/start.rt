@@ -145,10 +145,9 @@ pub(crate) fn push_start(
     match start_of(alloc, program)? {
         None => Ok(()),
         Some(state) => {
-            let title = name.to_ascii_uppercase(alloc)?;
             let mut members = String::new(alloc);
             push_members(alloc, &mut members, &program.layout, &state)?;
-            push_start_lines(text, &title, &members)
+            push_start_lines(text, name, &members)
         }
     }
 }

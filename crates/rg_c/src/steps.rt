@@ -9,16 +9,16 @@ ghost use Rattle.rg_c_plan.specs.declared.way.Way.TheVariants.{Exchange};
 ghost use Rattle.rg_c.specs.Actions.{begins, copies, returns, exchanges};
 ghost use Rattle.rg_c.specs.Steps.{written, written_or_stored, changed, exchange_step};
 ghost use Rattle.rg_c.specs.Fitting.{AssignmentsFit};
-ghost use Rattle.rg_c.specs.StepTexts.{is_true, marked, mark_prefix, waits, enter_text, leave_text, held_free, held_begins, held_ends, held_tested, held_text, loaded_wait, loaded_text, after_text, changed_text, tried_text, before_text, exchange_text, done_text};
+ghost use Rattle.rg_c.specs.StepTexts.{is_true, marked, wait_text, waits, enter_text, leave_text, held_free, held_begins, held_ends, held_tested, held_text, loaded_wait, loaded_text, after_text, changed_text, tried_text, before_text, exchange_text, done_text};
 
 use crate::actions::{
     push_begin, push_changes, push_copies, push_discard, push_exchange, push_load, push_returns,
     push_writes, push_writes_or_stores,
 };
 use crate::lines::{
-    inner, push_attempt_open, push_block_close, push_block_open, push_done_line, push_done_open,
-    push_else_wait, push_enter_line, push_if_open, push_leave_line, push_mark_line, push_retry,
-    push_wait_loop,
+    inner, push_attempt_line, push_block_close, push_block_open, push_done_line, push_done_open,
+    push_else_wait, push_enter_line, push_if_open, push_leave_line, push_leave_loop,
+    push_loop_open, push_mark_line, push_wait_line,
 };
 use crate::moves::{local_reads, targets_beside};
 use crate::reads::{is_one_load, load_reads};
@@ -76,18 +76,18 @@ pub(crate) fn push_marked(text: &mut String, indent: &str, mark: &str) -> Result
     push_mark_line(text, indent, mark)
 }
 
-/// What stands before a test for the mark of its step.
-#[tactic(auto, unfolding(crate::specs::StepTexts::mark_prefix))]
-pub(crate) fn mark_prefix(alloc: Global, mark: &str) -> Result<String, AllocError>
-    ensures { IfOk result (λ text. string_bytes text ≡ mark_prefix mark.now) }
+/// Adds waiting until a test is true, words read so.
+#[tactic(auto, unfolding(crate::specs::StepTexts::wait_text))]
+fn push_wait(d: &Doing<'_>, text: &mut String, reads: &[Read]) -> Result<(), AllocError>
+    ensures { OnOk result (string_bytes text.new ≡ string_bytes text.old ++ wait_text d.now.layout.now reads.now d.now.indent.now d.now.mark.now (test d.now.test.now)) }
 {
-    let mut text = String::new(alloc);
-    if mark.len() == 0 {
-        return Ok(text);
-    }
-    text.push_str(mark)?;
-    text.push_str(", ")?;
-    Ok(text)
+    let inside = inner(d.alloc, d.indent)?;
+    let t = test_text(d.alloc, d.layout, reads, d.test)?;
+    push_loop_open(text, d.indent)?;
+    push_marked(text, &inside, d.mark)?;
+    push_leave_loop(text, &inside, &t)?;
+    push_wait_line(text, &inside)?;
+    push_block_close(text, d.indent)
 }
 
 /// Adds waiting until a test that reads plain words is true.
@@ -98,9 +98,7 @@ fn push_waits(d: &Doing<'_>, text: &mut String) -> Result<(), AllocError>
     if is_true(d.test) {
         return push_marked(text, d.indent, d.mark);
     }
-    let prefix = mark_prefix(d.alloc, d.mark)?;
-    let t = test_text(d.alloc, d.layout, &[], d.test)?;
-    push_wait_loop(text, d.indent, &prefix, &t)
+    push_wait(d, text, &[])
 }
 
 /// Adds what a step begins with that is done in a section or over a local; a load has a local only where that is used.
@@ -169,7 +167,8 @@ fn push_held_begins(
     let inside = inner(d.alloc, d.indent)?;
     let t = test_text(d.alloc, d.layout, reads, d.test)?;
     let used = is_used(d.alloc, d.layout, way, d.test, d.act)?;
-    push_attempt_open(text, d.indent)?;
+    push_loop_open(text, d.indent)?;
+    push_attempt_line(text, &inside)?;
     push_marked(text, &inside, d.mark)?;
     push_enter(d.alloc, text, d.layout, &inside, used, way)?;
     push_done_line(text, &inside, &t)
@@ -182,7 +181,8 @@ fn push_held_ends(d: &Doing<'_>, text: &mut String, way: Way) -> Result<(), Allo
 {
     let inside = inner(d.alloc, d.indent)?;
     push_leave(text, &inside, way)?;
-    push_retry(text, &inside)?;
+    push_leave_loop(text, &inside, "rgc_done")?;
+    push_wait_line(text, &inside)?;
     push_block_close(text, d.indent)
 }
 
@@ -242,9 +242,7 @@ fn push_loaded_wait(d: &Doing<'_>, text: &mut String, word: usize) -> Result<(),
     ensures { OnOk result (string_bytes text.new ≡ string_bytes text.old ++ loaded_wait d.now.layout.now d.now.indent.now d.now.mark.now word (test d.now.test.now)) }
 {
     let reads = load_reads(d.alloc, d.layout, word)?;
-    let prefix = mark_prefix(d.alloc, d.mark)?;
-    let t = test_text(d.alloc, d.layout, &reads, d.test)?;
-    push_wait_loop(text, d.indent, &prefix, &t)
+    push_wait(d, text, &reads)
 }
 
 /// Adds a step that loads this word.
@@ -348,10 +346,12 @@ fn push_attempts(
     ensures { OnOk result (string_bytes text.new ≡ string_bytes text.old ++ exchange_text d.now.layout.now reads.now d.now.indent.now d.now.mark.now (exchange_step (widths_of d.now.layout.now) word others.now (test d.now.test.now) (map assignment d.now.act.now))) }
 {
     let inside = inner(d.alloc, d.indent)?;
-    push_attempt_open(text, d.indent)?;
+    push_loop_open(text, d.indent)?;
+    push_attempt_line(text, &inside)?;
     push_marked(text, &inside, d.mark)?;
     push_before(d, text, &inside, word, others)?;
     push_tried(d, text, reads, &inside, word, others)?;
+    push_leave_loop(text, &inside, "rgc_done")?;
     push_block_close(text, d.indent)
 }
 

@@ -6,13 +6,13 @@ ghost use Rattle.rg_c.specs.Bodies.{bare_reads, go_reads, go_text, if_begins, ba
 ghost use Rattle.rg_c.specs.Pages.{page as page_tree};
 
 use crate::lines::{
-    inner, push_block_close, push_forever_open, push_go_if, push_go_leave, push_go_line,
-    push_go_open, push_if_open, push_while_open,
+    inner, push_block_close, push_go_if, push_go_leave, push_go_line, push_go_open, push_if_open,
+    push_leave_unless, push_loop_open,
 };
 use crate::moves::local_reads;
 use crate::page::{Page, digits, mark_of};
 use crate::reads::{is_one_load, load_reads};
-use crate::steps::{is_true, mark_prefix, push_enter, push_leave, push_marked, test_text};
+use crate::steps::{is_true, push_enter, push_leave, push_marked, test_text};
 use crate::used::is_used;
 use rg_c_plan::way::Way;
 use rg_c_values::print::Read;
@@ -116,13 +116,15 @@ fn push_bare_loop(
 ) -> Result<(), AllocError>
     ensures { OnOk result (string_bytes text.new ≡ string_bytes text.old ++ bare_loop (page_tree page.now) indent.now place reads.now (test t.now)) }
 {
-    if is_true(t) && !page.is_traced {
-        return push_forever_open(text, indent);
-    }
     let mark = mark_of(page, place)?;
-    let prefix = mark_prefix(page.alloc, &mark)?;
+    let inside = inner(page.alloc, indent)?;
+    push_loop_open(text, indent)?;
+    push_marked(text, &inside, &mark)?;
+    if is_true(t) {
+        return Ok(());
+    }
     let asked = test_text(page.alloc, page.layout, reads, t)?;
-    push_while_open(text, indent, &prefix, &asked)
+    push_leave_unless(text, &inside, &asked)
 }
 
 /// Adds how a loop begins.
@@ -142,7 +144,7 @@ pub(crate) fn push_loop_begins(
         None => {
             let number = digits(page.alloc, place as u64)?;
             let inside = inner(page.alloc, indent)?;
-            push_forever_open(text, indent)?;
+            push_loop_open(text, indent)?;
             push_go(page, text, &inside, place, way, t)?;
             push_go_leave(text, &inside, &number)
         }

@@ -27,6 +27,7 @@ fn value_reads(word: usize, v: &Value) -> bool
         Value::Cast(_, v) => value_reads(word, v),
         Value::Inverse(_, v) => value_reads(word, v),
         Value::Binary(_, _, a, b) => value_reads(word, a) || value_reads(word, b),
+        Value::Rest(_, v, _) => value_reads(word, v),
         Value::Shifted(_, _, v, _) => value_reads(word, v),
         Value::Choice(t, a, b) => {
             test_reads(word, t) || value_reads(word, a) || value_reads(word, b)

@@ -89,7 +89,7 @@ fn code_form<'a>(alloc: Global, settings: &Settings<'a>) -> Result<Form<'a>, Sto
     match is_title(alloc, name) {
         Ok(true) => Ok(Form::C(HeaderOptions { name, is_traced })),
         Ok(false) => Err(Stop::Usage(
-            "error: --name takes a name that C has no use for: a letter, and then letters, digits and _\n",
+            "error: --name takes a letter, and then letters, digits and _, a small letter among them; none that C or its headers may use, and without _run and _round, as functions are named so\n",
         )),
         Err(error) => Err(Stop::Refused(error.into())),
     }

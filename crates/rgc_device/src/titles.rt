@@ -1,10 +1,11 @@
 //! Names under which headers of C are printed.
 
-ghost use Rattle.std.specs.Prelude.{◌≡◌, ◌&&◌, IfOk};
+ghost use Rattle.std.specs.Prelude.{◌≡◌, ◌&&◌, not, IfOk};
 ghost use Rattle.std.specs.List.{list_all};
 ghost use Rattle.rg_words.specs.Names.{is_word_byte, is_word};
 ghost use Rattle.rgc_device.specs.Titles.{is_free, is_title};
 
+use rg_c::titles::has_role;
 use rg_c_values::names::push_c_name;
 use rg_words::names::{is_word_byte, is_word_start};
 use std::alloc::{AllocError, Global};
@@ -35,11 +36,12 @@ fn is_free(alloc: Global, name: &str) -> Result<bool, AllocError>
     Ok(written.as_str() == name)
 }
 
-/// Whether a header of C may be printed under a name: a letter, and then letters, digits and `_`, and nothing that C or its headers have a use for.
+/// Whether a header of C may be printed under a name: a letter, and then letters, digits and `_`, nothing that C or its headers have a use for, and without
+/// `_run` and `_round`, which stand in the names of its functions.
 ///
 /// An error comes only where memory was refused.
 pub fn is_title(alloc: Global, name: &str) -> Result<bool, AllocError>
     ensures { IfOk result (λ r. r ≡ is_title name.now) }
 {
-    Ok(is_word(name) && is_free(alloc, name)?)
+    Ok(is_word(name) && !has_role(name) && is_free(alloc, name)?)
 }
