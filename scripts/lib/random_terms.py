@@ -104,7 +104,8 @@ class Terms:
         family = self.rng.choice([it for it in self.families if it.width == width])
         choosing = self.rng.randrange(len(family.ranges)) if depth and family.ranges and self.happens(0.4) else None
         primed = self.primes and self.happens(0.5)
-        indices = [self.chosen(family, at, depth) if at == choosing else self.among(*it) for at, it in enumerate(family.ranges)]
+        maker = self.having(primes=self.primes and not primed)
+        indices = [maker.chosen(family, at, depth) if at == choosing else self.among(*it) for at, it in enumerate(family.ranges)]
         text = family.name + "".join(f"[{it.text}]" for it in indices) + "'" * primed
 
         def code(env):
