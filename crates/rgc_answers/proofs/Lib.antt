@@ -1,9 +1,7 @@
 pub mod Listed
 pub mod PartNames
-pub mod Found
 pub mod ConditionLines
 pub mod Listings
-pub mod NumberLines
 pub mod Assigned
 pub mod Equal
 pub mod Fitting
@@ -14,5 +12,3 @@ pub mod Floats
 pub mod Values
 pub mod Items
 pub mod Stops
-pub mod Passed
-pub mod Proving

@@ -7,7 +7,7 @@ use Rattle.rg_tree.specs.ProgramView.{part}
 use Rattle.rg_tree.specs.Statements.{PartTree}
 use Rattle.rg_code.specs.declared.code.Code.{Code}
 use Rattle.rg_code.specs.Lawful.{IsLawful}
-use Rattle.rgc_answers.specs.Printed.{IsOver}
+use Rattle.rgc_answers.specs.Accepted.{IsOver}
 
 -- lawful code is over the words of its program, and its parts have the names of the program's
 pub lawful_over : (p : Program) (code : Code) → IsLawful p code → IsOver (program p) code

@@ -1,16 +1,15 @@
 -- Why a run stopped.
-use Rattle.std.proofs.Common.{◌≡◌, ◌⊎◌, ◌+◌, ℕ, List, [], Option, Some, None, Result, Ok, Err, true, refl, sym, ap, ◌∙◌, subst, inl, inr, ⊎_elim, arith}
-use Rattle.std.specs.Prelude.{IfErr, IfSome}
+use Rattle.std.proofs.Common.{◌≡◌, ◌⊎◌, ◌+◌, ℕ, List, [], Option, Some, None, Err, true, refl, sym, ap, ◌∙◌, subst, inl, inr, arith}
+use Rattle.std.specs.Prelude.{IfSome}
 use Rattle.std.specs.Io.KnownBytes.{Appends}
 use Rattle.rg_words.specs.declared.refusal.Refusal.{Refusal}
 use Rattle.rg_words.specs.declared.refusal.RefusalNumber.{RefusalNumber}
 use Rattle.rg_words.specs.declared.refusal.RefusalNumber.TheVariants.{Write, Mismatch, Stranger, Memory}
 use Rattle.rg_words.specs.Refusals.{no_memory, refused}
-use Rattle.rg_words.specs.Stopped.{IsFailure, IsStopped}
 use Rattle.rg_words.proofs.Written.{appends_none}
 use Rattle.rg_runner.specs.Faults.{failures_after, is_run_fault}
 use Rattle.rg_runner.specs.Running.{IsPlayed}
-use Rattle.rgc_answers.specs.Refused.{opening_refusal, IsUnlike, IsRunStopped}
+use Rattle.rgc_answers.specs.Refused.{opening_refusal, IsRunStopped}
 
 -- files that are refused, or memory, before anything went out
 pub unread_stops : (Unread Refuses : Refusal → Type 0) (old : Option (List ℕ)) (m : ℕ) (e : Refusal) → (Unread e → Refuses e) → (Unread e ⊎ (e ≡ no_memory)) → IsRunStopped Refuses old old m m e
@@ -19,25 +18,6 @@ unread_stops Unread Refuses old m e f (inr why) = inl (inr (inr (why, refl)))
 
 pub refused_run : (Refuses : Refusal → Type 0) (old : Option (List ℕ)) (m : ℕ) (e : Refusal) → Refuses e → IsRunStopped Refuses old old m m e
 refused_run Refuses old m e why = inl (inl (why, appends_none old, refl))
-
--- a call after what was printed is refused, or isn't
-pub failure_of_run : {A : Type 0} (Refuses : Refusal → Type 0) (old new : Option (List ℕ)) (m k n : ℕ) (r : Result A Refusal) → k ≡ m → IfErr r (IsFailure k n) → IfErr r (IsRunStopped Refuses old new m n)
-failure_of_run Refuses old new m k n (Ok x) same h = tt
-failure_of_run Refuses old new m k n (Err e) same h = inl (inr (rw (← same) h))
-
--- one refusal is a kind of another
-pub run_stops_weaker : {A : Type 0} (P Q : Refusal → Type 0) (old new : Option (List ℕ)) (m n : ℕ) (r : Result A Refusal) → ((e : Refusal) → P e → Q e) → IfErr r (IsRunStopped P old new m n) → IfErr r (IsRunStopped Q old new m n)
-run_stops_weaker P Q old new m n (Ok x) f h = tt
-run_stops_weaker P Q old new m n (Err e) f (inl (inl why)) = inl (inl (f e why.0, why.1, why.2))
-run_stops_weaker P Q old new m n (Err e) f (inl (inr why)) = inl (inr why)
-run_stops_weaker P Q old new m n (Err e) f (inr why) = inr why
-
--- a run that printed for nobody, whose writer counts no failure
-pub unread_run : (P : Refusal → Type 0) (x y old : Option (List ℕ)) (k m : ℕ) (e : Refusal) → IsRunStopped P x y k k e → IsRunStopped P old old m m e
-unread_run P x y old k m e (inl (inl why)) = inl (inl (why.0, appends_none old, refl))
-unread_run P x y old k m e (inl (inr (inl why))) = absurd (omega (arith, why.1))
-unread_run P x y old k m e (inl (inr (inr why))) = inl (inr (inr (why.0, refl)))
-unread_run P x y old k m e (inr why) = inr (why.0, refl)
 
 module _ (Refuses : Refusal → Type 0) (old new : Option (List ℕ)) (m n : ℕ) where
   -- a fault of a run that was begun

@@ -6,18 +6,32 @@ use Rattle.rg_words.specs.Layout.{Word}
 use Rattle.rg_words.specs.States.{Valuation}
 use Rattle.rg_find.specs.declared.judgement.Judged.{Judged}
 use Rattle.rg_find.specs.declared.judgement.Judged.TheVariants.{Holds, Fails, GaveUp, TooLarge}
-use Rattle.rgc.specs.Failures.{name_at}
+use Rattle.rgc.specs.Failures.{name_at, failures_text}
 use Rattle.rgc.specs.declared.proofs_found.Unproved.{Unproved}
 use Rattle.rgc_answers.specs.Lines.{json_line}
+use Rattle.rgc_answers.specs.declared.proof_lines.Range.{Range}
+use Rattle.rgc_answers.specs.declared.proof_lines.Range.TheVariants.{All, Part}
+use Rattle.rgc_line.specs.declared.command.Format.{Format}
+use Rattle.rgc_line.specs.declared.command.Format.TheVariants.{Plain, Json}
+use Rattle.rg_tree.specs.Statements.{ProgramTree}
+use Rattle.rg_tree.specs.Lines.{LineTree}
+use Rattle.rg_accept.specs.Names.{names_of_conditions}
 use Rattle.rgc_answers.specs.States.{state_data}
 
--- proofs of so many conditions, as the text of a proofs file
-abbrev pub proofs_data : ℕ → List ℕ → Data
-proofs_data count text = object (member (codes "conditions") (number (unsigned count)) (member (codes "kind") (string (codes "proofs")) (member (codes "text") (string text) no_members)))
+-- proofs of these conditions, as the text of a proofs file: of all, with their count, or with the first and the last number
+abbrev pub proofs_data : Range → List ℕ → Data
+proofs_data (All count) text = object (member (codes "conditions") (number (unsigned count)) (member (codes "kind") (string (codes "proofs")) (member (codes "text") (string text) no_members)))
+proofs_data (Part first last) text =
+    object (member (codes "first") (number (unsigned first)) (member (codes "kind") (string (codes "proofs")) (member (codes "last") (number (unsigned last)) (member (codes "text") (string text) no_members))))
 
--- proofs of the conditions from one number to another
-abbrev pub part_proofs_data : ℕ → ℕ → List ℕ → Data
-part_proofs_data first last text = object (member (codes "first") (number (unsigned first)) (member (codes "kind") (string (codes "proofs")) (member (codes "last") (number (unsigned last)) (member (codes "text") (string text) no_members))))
+-- a piece of them
+abbrev pub piece_text : Format → Range → List ℕ → List ℕ
+piece_text Plain range piece = piece
+piece_text Json range piece = json_line (proofs_data range piece)
+
+-- all pieces, one after another
+abbrev pub proofs_text : Format → Range → List (List ℕ) → List ℕ
+proofs_text format range = flat_map (piece_text format range)
 
 -- why a condition has no proof
 abbrev pub why_text : Judged → List ℕ
@@ -50,3 +64,8 @@ unproved_data words name u = object (with_states words u.judged (unproved_member
 -- conditions without a proof, of those with these names, a line each
 abbrev pub unproved_lines : List Word → List (List ℕ) → List Unproved → List ℕ
 unproved_lines words names = flat_map (λ u. json_line (unproved_data words (name_at names u.number) u))
+
+-- conditions without a proof, of a program and the lines of its derivation
+abbrev pub unproved_text : Format → ProgramTree → List LineTree → List Unproved → List ℕ
+unproved_text Plain p lines unproved = failures_text p.words (names_of_conditions p lines) unproved
+unproved_text Json p lines unproved = unproved_lines p.words (names_of_conditions p lines) unproved

@@ -1,4 +1,4 @@
--- Why a run of an accepted program is refused, and what went out until then.
+-- Why a run of a program is refused, and what went out until then.
 use Rattle.std.specs.Prelude.{◌≡◌, ◌⊎◌, ℕ, List, Option, Some, None}
 use Rattle.std.specs.Borrow.{Bor}
 use Rattle.rg_words.specs.declared.refusal.Refusal.{Refusal}
@@ -11,10 +11,8 @@ use Rattle.rg_words.specs.Stopped.{IsStopped}
 use Rattle.rg_tree.specs.Moves.{MoveTree}
 use Rattle.rg_tree.specs.Statements.{ProgramTree}
 use Rattle.rg_tree.specs.Traces.{State}
-use Rattle.rg_code.specs.Code.{BlockTree}
 use Rattle.rg_parse.specs.Inputs.{IsStartRefusal, IsMovesRefusal}
 use Rattle.rg_floor.specs.Turns.{open_fault}
-use Rattle.rgc.specs.Pieces.{IsAcceptInPiecesRefusal, IsBuiltInPieces}
 use Rattle.rgc_answers.specs.Running.{StartsAt, AreTheMoves}
 
 -- the first fault of the bytes of a start, where there are any
@@ -48,12 +46,6 @@ IsUnbegun program start moves limit e =
     IsUnreadStart program.words start e
     ⊎ ((first : State) × StartsAt program.words start first × AreUnreadMoves program.words moves e)
     ⊎ IsUnopened program start moves limit e
-
--- the same of the program that files are accepted for; or they aren't accepted
-abbrev pub IsRunRefusal : List ℕ → List (List ℕ) → List (List ℕ) → Option (Bor (List ℕ)) → Option (Bor (List ℕ)) → ℕ → Refusal → Type 0
-IsRunRefusal text derivation proofs start moves limit e =
-    IsAcceptInPiecesRefusal text derivation proofs e
-    ⊎ ((program : ProgramTree) × (blocks : List (List BlockTree)) × IsBuiltInPieces text derivation proofs program blocks × IsUnbegun program start moves limit e)
 
 -- what a run left isn't as it was printed, or a record came twice: each run is looked at after its end, and none has been seen to be so
 abbrev pub IsUnlike : Refusal → Type 0

@@ -1,22 +1,16 @@
 //! The conditions of a derivation as texts to show.
 
-ghost use Rattle.std.specs.Prelude.{◌≡◌, ◌<◌, [], false, length, map, slice_index, slice_index_or, string_bytes, IfOk, IfErr, OnOk};
-ghost use Rattle.std.specs.Io.KnownBytes.{Appends};
+ghost use Rattle.std.specs.Prelude.{◌≡◌, ◌<◌, [], false, length, map, slice_index, slice_index_or, string_bytes, IfOk};
 ghost use Rattle.rg_words.specs.Layout.{names_of, widths_of, fixed_of};
-ghost use Rattle.rg_words.specs.Written.{CanCount};
-ghost use Rattle.rg_words.specs.Stopped.{IsFailure, IsStopped};
 ghost use Rattle.rg_tree.specs.Conditions.{condition_tree};
 ghost use Rattle.rg_accept.specs.Stages.{derived_program, derived_lines};
-ghost use Rattle.rgc.specs.Pieces.{bytes_of, IsDeriveRefusal};
-ghost use Rattle.rgc_answers.specs.Failures.{NoFailure};
 ghost use Rattle.rgc_answers.specs.Blocks.{fixed_text, word_text, words_text, shown_text, block_text, blocks_text, formulas_text};
-ghost use Rattle.rgc_answers.specs.FormulasPrinted.{HasPrintedFormulas};
 
 use crate::formulas::formula_of;
 use rg_tree::condition::Condition;
 use rg_tree::print::print;
-use rg_words::{Layout, Out, Refusal, write_all};
-use rgc::{Derived, derive_program};
+use rg_words::Layout;
+use rgc::Derived;
 use std::alloc::{AllocError, Global};
 
 /// What stands before the name of a word.
@@ -67,55 +61,29 @@ fn block_text(alloc: Global, number: usize, name: &str, c: &Condition) -> Result
     format!(in alloc; "{number} {name}\n{shown}\n")
 }
 
-/// Writes conditions with their names, which are numbered from 1: as many as there are of both.
-fn write_blocks<W: Out>(
+/// Conditions with their names, which are numbered from 1: as many as there are of both.
+fn blocks_text(
     alloc: Global,
     names: &[String],
     conditions: &[Condition],
-    out: &mut W,
-) -> Result<(), Refusal>
-    requires { CanCount (W.failures out.old) }
-    ensures printed { OnOk result (Appends (W.contents out.old) (W.contents out.new) (blocks_text 1 (map string_bytes names.now) (map condition_tree conditions.now))) }
-    ensures failures { NoFailure result (W.failures out.old) (W.failures out.new) }
-    ensures stopped { IfErr result (IsFailure (W.failures out.old) (W.failures out.new)) }
+) -> Result<String, AllocError>
+    ensures { IfOk result (λ text. string_bytes text ≡ blocks_text 1 (map string_bytes names.now) (map condition_tree conditions.now)) }
 {
+    let mut text = String::new(alloc);
     let count = names.len().min(conditions.len());
     for i in 0..count {
         let block = block_text(alloc, i + 1, &names[i], &conditions[i])?;
-        write_all(out, block.as_bytes())?;
+        text.push_str(&block)?;
     }
-    Ok(())
+    Ok(text)
 }
 
-/// Writes the conditions of a derivation that was read.
-fn write_formulas<W: Out>(alloc: Global, derived: &Derived, out: &mut W) -> Result<(), Refusal>
-    requires { CanCount (W.failures out.old) }
-    ensures printed { OnOk result (Appends (W.contents out.old) (W.contents out.new) (formulas_text (derived_program derived.now) (derived_lines derived.now))) }
-    ensures failures { NoFailure result (W.failures out.old) (W.failures out.new) }
-    ensures stopped { IfErr result (IsFailure (W.failures out.old) (W.failures out.new)) }
+/// Each condition of a program's derivation as a text to show: a line with its number, from 1, and its name, then a line with the words
+/// and a line with the formula, which `rgc find`, `rgc valid` and `rgc clauses` read, and an empty line.
+pub fn formulas_text(alloc: Global, derived: &Derived) -> Result<String, AllocError>
+    ensures { IfOk result (λ text. string_bytes text ≡ formulas_text (derived_program derived.now) (derived_lines derived.now)) }
 {
     let names = derived.names(alloc)?;
     let conditions = derived.conditions(alloc)?;
-    write_blocks(alloc, names.as_slice(), conditions.as_slice(), out)
-}
-
-/// Prints each condition of a program's derivation as a text to show: a line with its number, from 1, and its name, then a line with the words
-/// and a line with the formula, which `rgc find`, `rgc valid` and `rgc clauses` read, and an empty line.
-///
-/// # Errors
-///
-/// The first fault of the text, then of the derivation; `Write` where the writer failed. `Memory` where memory is refused.
-pub fn print_formulas<W: Out>(
-    alloc: Global,
-    text: &[u8],
-    derivation: &[&[u8]],
-    out: &mut W,
-) -> Result<(), Refusal>
-    requires { CanCount (W.failures out.old) }
-    ensures printed { OnOk result (HasPrintedFormulas text.now (bytes_of derivation.now) (W.contents out.old) (W.contents out.new)) }
-    ensures failures { NoFailure result (W.failures out.old) (W.failures out.new) }
-    ensures stopped { IfErr result (IsStopped (IsDeriveRefusal text.now (bytes_of derivation.now)) (W.contents out.old) (W.contents out.new) (W.failures out.old) (W.failures out.new)) }
-{
-    let derived = derive_program(alloc, text, derivation)?;
-    write_formulas(alloc, &derived, out)
+    blocks_text(alloc, names.as_slice(), conditions.as_slice())
 }

@@ -1,15 +1,11 @@
 //! What is printed of a program that has a derivation, and of one that has code.
 
-ghost use Rattle.std.specs.Prelude.{◌≡◌, ◌++◌, [], map, codes, string_bytes, IfOk, IfErr, OnOk};
-ghost use Rattle.std.specs.Io.KnownBytes.{Appends};
-ghost use Rattle.rg_words.specs.Written.{CanCount};
+ghost use Rattle.std.specs.Prelude.{◌≡◌, ◌++◌, [], map, codes, string_bytes, IfOk};
 ghost use Rattle.serde_json.specs.View.{view};
 ghost use Rattle.serde_json.specs.Written.{compact_text};
 ghost use Rattle.rg_tree.specs.ProgramTrees.{program as program_tree};
 ghost use Rattle.rg_tree.specs.Printed.{formula_text};
-ghost use Rattle.rgc_answers.specs.Failures.{NoFailure};
 ghost use Rattle.rgc_answers.specs.Listing.{listing_data};
-ghost use Rattle.rg_words.specs.Stopped.{IsCut};
 ghost use Rattle.rgc_answers.specs.Conditions.{pre_data, pre_line, condition_data, condition_line, condition_lines, conditions_text};
 ghost use Rattle.rg_accept.specs.Stages.{derived_program, derived_lines};
 
@@ -19,28 +15,18 @@ use rg_code::code::Code;
 use rg_tree::print::print;
 use rg_tree::program::Program;
 use rg_tree::typing::typed_trees_fit;
-use rg_words::{Out, Refusal, write_all};
 use rgc::Derived;
 use rgc_line::Format;
 use serde_json::{Value, json};
 use std::alloc::{AllocError, Global};
 
-/// Writes the listing of code and a line end.
-///
-/// # Errors
-///
-/// As `write_conditions`.
-pub fn write_listing<W: Out>(alloc: Global, code: &Code, out: &mut W) -> Result<(), Refusal>
-    requires { CanCount (W.failures out.old) }
-    ensures printed { OnOk result (Appends (W.contents out.old) (W.contents out.new) (compact_text (listing_data code.now) ++ codes "\n")) }
-    ensures failures { NoFailure result (W.failures out.old) (W.failures out.new) }
-    // A beginning of the text went out: `Write` where the writer failed, and else memory was refused.
-    ensures stopped { IfErr result (IsCut (W.contents out.old) (W.contents out.new) (W.failures out.old) (W.failures out.new) (compact_text (listing_data code.now) ++ codes "\n")) }
+/// The listing of code and a line end.
+pub fn listing_text(alloc: Global, code: &Code) -> Result<String, AllocError>
+    ensures { IfOk result (λ text. string_bytes text ≡ compact_text (listing_data code.now) ++ codes "\n") }
 {
-    let mut listed = listing(alloc, code)?;
-    listed.push_str("\n")?;
-    write_all(out, listed.as_bytes())?;
-    Ok(())
+    let mut text = listing(alloc, code)?;
+    text.push_str("\n")?;
+    Ok(text)
 }
 
 /// The text of a program's pre.
@@ -98,46 +84,31 @@ fn condition_line(
     }
 }
 
-/// Writes the lines of conditions with these names, which are numbered from 1.
-fn write_names<W: Out>(
-    alloc: Global,
-    names: &[String],
-    format: Format,
-    out: &mut W,
-) -> Result<(), Refusal>
-    requires { CanCount (W.failures out.old) }
-    ensures printed { OnOk result (Appends (W.contents out.old) (W.contents out.new) (condition_lines format 1 (map string_bytes names.now))) }
-    ensures failures { NoFailure result (W.failures out.old) (W.failures out.new) }
-    ensures stopped { IfErr result (IsCut (W.contents out.old) (W.contents out.new) (W.failures out.old) (W.failures out.new) (condition_lines format 1 (map string_bytes names.now))) }
+/// The lines of conditions with these names, which are numbered from 1.
+fn names_text(alloc: Global, names: &[String], format: Format) -> Result<String, AllocError>
+    ensures { IfOk result (λ text. string_bytes text ≡ condition_lines format 1 (map string_bytes names.now)) }
 {
+    let mut text = String::new(alloc);
     for (i, name) in names.iter().enumerate() {
         let line = condition_line(alloc, format, i + 1, name)?;
-        write_all(out, line.as_bytes())?;
+        text.push_str(&line)?;
     }
-    Ok(())
+    Ok(text)
 }
 
-/// Writes the pre of a program, and then each of its conditions with its number and its name, a line each.
-///
-/// # Errors
-///
-/// `Write` where the writer failed, `Memory` where memory was refused, both without a file and a place. What went out is then a beginning of
-/// the text.
-pub fn write_conditions<W: Out>(
+/// The pre of a program, and then each of its conditions with its number and its name, a line each; as JSON a value of kind `pre` and then one of
+/// kind `condition` each.
+pub fn conditions_text(
     alloc: Global,
     derived: &Derived,
     format: Format,
-    out: &mut W,
-) -> Result<(), Refusal>
-    requires { CanCount (W.failures out.old) }
-    ensures printed { OnOk result (Appends (W.contents out.old) (W.contents out.new) (conditions_text format (derived_program derived.now) (derived_lines derived.now))) }
-    ensures failures { NoFailure result (W.failures out.old) (W.failures out.new) }
-    // A beginning of the text went out: `Write` where the writer failed, and else memory was refused.
-    ensures stopped { IfErr result (IsCut (W.contents out.old) (W.contents out.new) (W.failures out.old) (W.failures out.new) (conditions_text format (derived_program derived.now) (derived_lines derived.now))) }
+) -> Result<String, AllocError>
+    ensures { IfOk result (λ text. string_bytes text ≡ conditions_text format (derived_program derived.now) (derived_lines derived.now)) }
 {
     let names = derived.names(alloc)?;
-    let text = pre_text(alloc, derived.program())?;
-    let pre = pre_line(alloc, format, &text)?;
-    write_all(out, pre.as_bytes())?;
-    write_names(alloc, names.as_slice(), format, out)
+    let pre = pre_text(alloc, derived.program())?;
+    let mut text = pre_line(alloc, format, &pre)?;
+    let lines = names_text(alloc, names.as_slice(), format)?;
+    text.push_str(&lines)?;
+    Ok(text)
 }

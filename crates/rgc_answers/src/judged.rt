@@ -1,77 +1,38 @@
 //! What is printed of a condition that was searched.
 
-ghost use Rattle.std.specs.Prelude.{IfOk, IfErr, OnOk};
-ghost use Rattle.std.specs.Io.KnownBytes.{Appends};
-ghost use Rattle.rg_words.specs.Written.{CanCount};
-ghost use Rattle.rg_hints.specs.Normal.{section_text};
-ghost use Rattle.rg_words.specs.Stopped.{IsFailure};
-ghost use Rattle.rgc_answers.specs.Failures.{NoFailure};
-ghost use Rattle.rgc_answers.specs.Inner.Lines.{Answers, GivesUp};
+ghost use Rattle.std.specs.Prelude.{◌≡◌, string_bytes, IfOk};
+ghost use Rattle.rgc_answers.specs.Found.{found_text, reason_text};
 
 use rg_find::Judged;
-use rg_hints::Lines;
 use rg_tree::condition::Condition;
-use rg_words::{Out, Refusal, write_all};
 use rgc::failure_text;
-use std::alloc::Global;
+use std::alloc::{AllocError, Global};
 
-/// What was printed of a formula or a condition that was searched.
-#[derive(Clone, Copy)]
-pub enum Answer {
-    /// Lines that prove it.
-    Proved,
-    /// The states at which it fails.
-    Failed,
-    /// That the search gave up. The line that says why, which isn't printed.
-    Unknown(&'static str),
-}
-
-/// Prints hint lines.
-fn print_lines<W: Out>(alloc: Global, lines: &Lines, out: &mut W) -> Result<(), Refusal>
-    requires { CanCount (W.failures out.old) }
-    ensures printed { OnOk result (Appends (W.contents out.old) (W.contents out.new) (section_text lines.now)) }
-    ensures failures { NoFailure result (W.failures out.old) (W.failures out.new) }
-    ensures stopped { IfErr result (IsFailure (W.failures out.old) (W.failures out.new)) }
-{
-    let text = lines.text(alloc)?;
-    write_all(out, text.as_bytes())?;
-    Ok(())
-}
-
-/// Prints that the search gave up, for which this line is the reason.
-fn give_up<W: Out>(why: &'static str, out: &mut W) -> Result<Answer, Refusal>
-    requires { CanCount (W.failures out.old) }
-    ensures printed { IfOk result (GivesUp why.now (W.contents out.old) (W.contents out.new)) }
-    ensures failures { NoFailure result (W.failures out.old) (W.failures out.new) }
-    ensures stopped { IfErr result (IsFailure (W.failures out.old) (W.failures out.new)) }
-{
-    write_all(out, b"gave up\n")?;
-    Ok(Answer::Unknown(why))
-}
-
-/// Prints the lines that prove a condition, or the states at which it fails, or that the search gave up.
-pub(crate) fn print_judged<W: Out>(
+/// The lines that prove a condition, or the states at which it fails, or that the search gave up.
+pub fn found_text(
     alloc: Global,
     condition: &Condition,
     judged: &Judged,
-    out: &mut W,
-) -> Result<Answer, Refusal>
-    requires { CanCount (W.failures out.old) }
-    ensures printed { IfOk result (Answers condition.now.layout judged.now (W.contents out.old) (W.contents out.new)) }
-    ensures failures { NoFailure result (W.failures out.old) (W.failures out.new) }
-    ensures stopped { IfErr result (IsFailure (W.failures out.old) (W.failures out.new)) }
+) -> Result<String, AllocError>
+    ensures { IfOk result (λ text. string_bytes text ≡ found_text condition.now.layout judged.now) }
 {
     match judged {
-        Judged::Holds(lines) => {
-            print_lines(alloc, lines, out)?;
-            Ok(Answer::Proved)
-        }
-        Judged::Fails(first, second) => {
-            let reported = failure_text(alloc, &condition.layout, first, second)?;
-            write_all(out, reported.as_bytes())?;
-            Ok(Answer::Failed)
-        }
-        Judged::GaveUp => give_up("no answer was found within the steps\n", out),
-        Judged::TooLarge => give_up("its proof is too large to be kept\n", out),
+        Judged::Holds(lines) => match lines.text(alloc) {
+            Ok(text) => Ok(text),
+            Err(_) => Err(AllocError),
+        },
+        Judged::Fails(first, second) => failure_text(alloc, &condition.layout, first, second),
+        Judged::GaveUp | Judged::TooLarge => String::from_str(alloc, "gave up\n"),
+    }
+}
+
+/// The line that says why a search gave up; nothing where it didn't.
+pub fn reason(judged: &Judged) -> &'static str
+    ensures { result.now ≡ reason_text judged.now }
+{
+    match judged {
+        Judged::GaveUp => "no answer was found within the steps\n",
+        Judged::TooLarge => "its proof is too large to be kept\n",
+        _ => "",
     }
 }

@@ -1,6 +1,8 @@
-//! What the commands over texts print, as lines or as JSON: numbered statements, conditions, proofs, listings, runs and refusals; and the picture of a run.
+//! The texts of answers, as lines or as JSON: numbered statements, conditions, proofs, listings, runs and refusals; and the picture of a run. Of a run
+//! the lines go out as its steps are made.
 #![tactic(auto)]
 
+mod accepted;
 mod blocks;
 mod conditions;
 mod context;
@@ -15,7 +17,6 @@ pub mod listing;
 mod numbers;
 mod picture;
 mod pieces;
-mod printed;
 mod proof_lines;
 mod records;
 mod refusals;
@@ -24,19 +25,16 @@ mod rows;
 mod run_json;
 mod running;
 
-pub use blocks::print_formulas;
-pub use conditions::{write_conditions, write_listing};
+pub use accepted::accepted_text;
+pub use blocks::formulas_text;
+pub use conditions::{conditions_text, listing_text};
 pub use context::Context;
 pub use formulas::formula_of;
-pub use judged::Answer;
+pub use judged::{found_text, reason};
 pub use label::Shown;
-pub use numbers::{kind_text, part_name};
+pub use numbers::{kind_text, numbers_text, part_name};
 pub use picture::{MOST_DRAWN, draw};
-pub use printed::{
-    RangeSearch, print_accepted, print_clauses, print_condition_clauses, print_condition_found,
-    print_conditions, print_found, print_listing, print_numbers, print_proofs, print_proofs_part,
-    print_valid,
-};
+pub use proof_lines::{Range, proofs_text, unproved_text};
 pub use refusals::{refusal_json, refusal_value};
-pub use run_json::{print_emitted_json, print_run_json, write_closed};
-pub use running::{RunFiles, Unread, end_run, play_files, print_emitted, print_run};
+pub use run_json::run_text;
+pub use running::{Run, Unread, draw_run, passed_lines, play_run, why_line};

@@ -1,19 +1,14 @@
 //! The statements of a program with their numbers, a line each.
 
-ghost use Rattle.std.specs.Prelude.{◌≡◌, map, string_bytes, IfOk, IfErr, OnOk};
-ghost use Rattle.std.specs.Io.KnownBytes.{Appends};
-ghost use Rattle.rg_words.specs.Written.{CanCount};
+ghost use Rattle.std.specs.Prelude.{◌≡◌, map, string_bytes, IfOk};
 ghost use Rattle.rg_tree.specs.ProgramView.{part};
-ghost use Rattle.rg_words.specs.Stopped.{IsCut};
 ghost use Rattle.serde_json.specs.View.{view};
-ghost use Rattle.rgc_answers.specs.Failures.{NoFailure};
 ghost use Rattle.rgc_answers.specs.Numbers.{kind_text, part_name, statement_data, statement_line, lines_text, numbers_text};
 
 use crate::json_line::line_of;
 use rg_tree::numbered::{Numbered, StatementKind};
 use rg_tree::part::Part;
 use rg_tree::program::Program;
-use rg_words::{Out, Refusal, write_all};
 use rgc_line::Format;
 use serde_json::{Value, json};
 use std::alloc::{AllocError, Global};
@@ -79,46 +74,29 @@ fn statement_line(
     }
 }
 
-/// Writes the lines of numbered statements of these parts.
-fn write_lines<W: Out>(
+/// The lines of numbered statements of these parts.
+fn lines_text(
     alloc: Global,
     parts: &[Part],
     statements: &[Numbered],
     format: Format,
-    out: &mut W,
-) -> Result<(), Refusal>
-    requires { CanCount (W.failures out.old) }
-    ensures printed { OnOk result (Appends (W.contents out.old) (W.contents out.new) (lines_text format (map part parts.now) statements.now)) }
-    ensures failures { NoFailure result (W.failures out.old) (W.failures out.new) }
-    ensures stopped { IfErr result (IsCut (W.contents out.old) (W.contents out.new) (W.failures out.old) (W.failures out.new) (lines_text format (map part parts.now) statements.now)) }
+) -> Result<String, AllocError>
+    ensures { IfOk result (λ text. string_bytes text ≡ lines_text format (map part parts.now) statements.now) }
 {
+    let mut text = String::new(alloc);
     for statement in statements {
         let name = part_name(parts, statement.part);
         let line = statement_line(alloc, format, name, statement)?;
-        write_all(out, line.as_bytes())?;
+        text.push_str(&line)?;
     }
-    Ok(())
+    Ok(text)
 }
 
-/// Writes for each statement of a program its number, its part's name, the line of its first token and its kind, in the order of
-/// the numbers, a line each.
-///
-/// # Errors
-///
-/// `Write` where the writer failed, `Memory` where memory was refused, both without a file and a place. What went out is then a beginning of
-/// the text.
-pub(crate) fn write_numbers<W: Out>(
-    alloc: Global,
-    program: &Program,
-    format: Format,
-    out: &mut W,
-) -> Result<(), Refusal>
-    requires { CanCount (W.failures out.old) }
-    ensures printed { OnOk result (Appends (W.contents out.old) (W.contents out.new) (numbers_text format (map part program.now.parts.items))) }
-    ensures failures { NoFailure result (W.failures out.old) (W.failures out.new) }
-    // A beginning of the text went out: `Write` where the writer failed, and else memory was refused.
-    ensures stopped { IfErr result (IsCut (W.contents out.old) (W.contents out.new) (W.failures out.old) (W.failures out.new) (numbers_text format (map part program.now.parts.items))) }
+/// For each statement of a program its number, its part's name, the line of its first token and its kind, in the order of the numbers, a line
+/// each; as JSON a value of kind `statement` each. As with all calls that give a text, an error comes only where memory is refused.
+pub fn numbers_text(alloc: Global, program: &Program, format: Format) -> Result<String, AllocError>
+    ensures { IfOk result (λ text. string_bytes text ≡ numbers_text format (map part program.now.parts.items)) }
 {
     let statements = program.numbered(alloc)?;
-    write_lines(alloc, &program.parts, &statements, format, out)
+    lines_text(alloc, &program.parts, &statements, format)
 }

@@ -1,69 +1,78 @@
 //! Proofs of conditions, and conditions without a proof, a line each.
 
-ghost use Rattle.std.specs.Prelude.{◌≡◌, map, string_bytes, IfOk, IfErr, OnOk};
-ghost use Rattle.std.specs.Io.KnownBytes.{Appends};
-ghost use Rattle.rg_words.specs.Written.{CanCount};
-ghost use Rattle.rg_words.specs.Stopped.{IsFailure};
+ghost use Rattle.std.specs.Prelude.{◌≡◌, map, string_bytes, IfOk, OnOk};
 ghost use Rattle.rg_words.specs.Layout.{names_of};
+ghost use Rattle.rg_accept.specs.Stages.{derived_program, derived_lines};
 ghost use Rattle.serde_json.specs.Data.{put, number};
 ghost use Rattle.serde_json.specs.View.{view, members_view};
-ghost use Rattle.rgc_answers.specs.Failures.{NoFailure};
 ghost use Rattle.rgc_answers.specs.States.{with_values, state_data};
 ghost use Rattle.rgc_answers.specs.Lines.{json_line};
-ghost use Rattle.rgc_answers.specs.Proofs.{proofs_data, part_proofs_data, why_text, with_pair, with_states, unproved_members, unproved_data, unproved_lines};
+ghost use Rattle.rgc_answers.specs.Proofs.{proofs_data, piece_text, proofs_text, why_text, with_pair, with_states, unproved_members, unproved_data, unproved_lines, unproved_text};
 
-use crate::json_line::write_value;
+use crate::json_line::line_of;
 use rg_find::Judged;
-use rg_words::{Layout, Out, Refusal, State};
-use rgc::{Unproved, name_at};
+use rg_words::{Layout, State};
+use rgc::{Derived, Unproved, failures_text, name_at};
+use rgc_line::Format;
 use serde_json::{Map, Value, json, put};
 use std::alloc::{AllocError, Global};
 
-/// Proofs of so many conditions.
-fn proofs_value(alloc: Global, conditions: usize, text: &str) -> Result<Value, AllocError>
-    ensures { IfOk result (λ v. view v ≡ proofs_data conditions text.now) }
-{
-    json!(in alloc; {"conditions": conditions, "kind": "proofs", "text": text})
+/// Which conditions of a derivation some proofs are of.
+#[derive(Clone, Copy)]
+pub enum Range {
+    /// All, which are so many.
+    All(usize),
+    /// Those from the first of these numbers to the last.
+    Part(u64, u64),
 }
 
-/// Writes the line of proofs of so many conditions.
-pub(crate) fn write_proofs<W: Out>(
+/// Proofs of these conditions, as a JSON value.
+fn proofs_value(alloc: Global, range: Range, text: &str) -> Result<Value, AllocError>
+    ensures { IfOk result (λ v. view v ≡ proofs_data range text.now) }
+{
+    match range {
+        Range::All(count) => {
+            json!(in alloc; {"conditions": count, "kind": "proofs", "text": text})
+        }
+        Range::Part(first, last) => {
+            json!(in alloc; {"first": first, "kind": "proofs", "last": last, "text": text})
+        }
+    }
+}
+
+/// A piece of the proofs of these conditions.
+fn piece_text(
     alloc: Global,
-    conditions: usize,
-    text: &str,
-    out: &mut W,
-) -> Result<(), Refusal>
-    requires { CanCount (W.failures out.old) }
-    ensures printed { OnOk result (Appends (W.contents out.old) (W.contents out.new) (json_line (proofs_data conditions text.now))) }
-    ensures failures { NoFailure result (W.failures out.old) (W.failures out.new) }
-    ensures stopped { IfErr result (IsFailure (W.failures out.old) (W.failures out.new)) }
+    range: Range,
+    piece: &str,
+    format: Format,
+) -> Result<String, AllocError>
+    ensures { IfOk result (λ text. string_bytes text ≡ piece_text format range piece.now) }
 {
-    let value = proofs_value(alloc, conditions, text)?;
-    write_value(alloc, &value, out)
+    match format {
+        Format::Plain => String::from_str(alloc, piece),
+        Format::Json => {
+            let value = proofs_value(alloc, range, piece)?;
+            line_of(alloc, &value)
+        }
+    }
 }
 
-/// Proofs of the conditions from one number to another.
-fn part_value(alloc: Global, first: u64, last: u64, text: &str) -> Result<Value, AllocError>
-    ensures { IfOk result (λ v. view v ≡ part_proofs_data first last text.now) }
-{
-    json!(in alloc; {"first": first, "kind": "proofs", "last": last, "text": text})
-}
-
-/// Writes the line of proofs of the conditions from one number to another.
-pub(crate) fn write_part<W: Out>(
+/// Pieces of the proofs of these conditions, one after another; as JSON a value of kind `proofs` each.
+pub fn proofs_text(
     alloc: Global,
-    first: u64,
-    last: u64,
-    text: &str,
-    out: &mut W,
-) -> Result<(), Refusal>
-    requires { CanCount (W.failures out.old) }
-    ensures printed { OnOk result (Appends (W.contents out.old) (W.contents out.new) (json_line (part_proofs_data first last text.now))) }
-    ensures failures { NoFailure result (W.failures out.old) (W.failures out.new) }
-    ensures stopped { IfErr result (IsFailure (W.failures out.old) (W.failures out.new)) }
+    range: Range,
+    pieces: &[String],
+    format: Format,
+) -> Result<String, AllocError>
+    ensures { IfOk result (λ text. string_bytes text ≡ proofs_text format range (map string_bytes pieces.now)) }
 {
-    let value = part_value(alloc, first, last, text)?;
-    write_value(alloc, &value, out)
+    let mut text = String::new(alloc);
+    for piece in pieces {
+        let one = piece_text(alloc, range, piece, format)?;
+        text.push_str(&one)?;
+    }
+    Ok(text)
 }
 
 /// Adds each word's value.
@@ -170,39 +179,51 @@ fn unproved_value(
     Ok(Value::Object(map))
 }
 
-/// Writes the line of a condition without a proof.
-fn write_one<W: Out>(
+/// The line of a condition of this name without a proof.
+fn unproved_line(
     alloc: Global,
     words: &Layout,
     name: &str,
     unproved: &Unproved,
-    out: &mut W,
-) -> Result<(), Refusal>
-    requires { CanCount (W.failures out.old) }
-    ensures printed { OnOk result (Appends (W.contents out.old) (W.contents out.new) (json_line (unproved_data words.now name.now unproved.now))) }
-    ensures failures { NoFailure result (W.failures out.old) (W.failures out.new) }
-    ensures stopped { IfErr result (IsFailure (W.failures out.old) (W.failures out.new)) }
+) -> Result<String, AllocError>
+    ensures { IfOk result (λ line. string_bytes line ≡ json_line (unproved_data words.now name.now unproved.now)) }
 {
     let value = unproved_value(alloc, words, name, unproved)?;
-    write_value(alloc, &value, out)
+    line_of(alloc, &value)
 }
 
-/// Writes the lines of conditions without a proof, of those with these names.
-pub(crate) fn write_unproved<W: Out>(
+/// The lines of conditions without a proof, of those with these names.
+fn unproved_lines(
     alloc: Global,
     words: &Layout,
     names: &[String],
     unproved: &[Unproved],
-    out: &mut W,
-) -> Result<(), Refusal>
-    requires { CanCount (W.failures out.old) }
-    ensures printed { OnOk result (Appends (W.contents out.old) (W.contents out.new) (unproved_lines words.now (map string_bytes names.now) unproved.now)) }
-    ensures failures { NoFailure result (W.failures out.old) (W.failures out.new) }
-    ensures stopped { IfErr result (IsFailure (W.failures out.old) (W.failures out.new)) }
+) -> Result<String, AllocError>
+    ensures { IfOk result (λ text. string_bytes text ≡ unproved_lines words.now (map string_bytes names.now) unproved.now) }
 {
+    let mut text = String::new(alloc);
     for one in unproved {
-        let name = name_at(names, one.number);
-        write_one(alloc, words, name, one, out)?;
+        let line = unproved_line(alloc, words, name_at(names, one.number), one)?;
+        text.push_str(&line)?;
     }
-    Ok(())
+    Ok(text)
+}
+
+/// Which conditions of a derivation have no proof, and why; as JSON a value of kind `unproved` each.
+pub fn unproved_text(
+    alloc: Global,
+    derived: &Derived,
+    unproved: &[Unproved],
+    format: Format,
+) -> Result<String, AllocError>
+    ensures { IfOk result (λ text. string_bytes text ≡ unproved_text format (derived_program derived.now) (derived_lines derived.now) unproved.now) }
+{
+    match format {
+        Format::Plain => failures_text(alloc, derived, unproved),
+        Format::Json => {
+            let names = derived.names(alloc)?;
+            let words = &derived.program().layout;
+            unproved_lines(alloc, words, names.as_slice(), unproved)
+        }
+    }
 }

@@ -1,5 +1,8 @@
-mod Mapping
-mod Texts
-pub mod PerformStopping
+pub mod Answering
+mod Lost
+pub mod Outlining
+mod Places
+pub mod Printing
+pub mod Proving
 pub mod Stopping
 pub mod Telling

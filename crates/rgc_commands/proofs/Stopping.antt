@@ -1,97 +1,148 @@
--- Why a command isn't done, from why its files or its library's call stopped it.
-use Rattle.std.proofs.Common.{◌≡◌, ◌⊎◌, ℕ, List, Option, Some, None, Result, Ok, Err, Bool, false, refl, inl, inr}
-use Rattle.std.specs.Prelude.{IfErr}
+-- Why a command has no answer, from why a part of it isn't there.
+use Rattle.std.proofs.Common.{◌≡◌, ℕ, List, Option, Some, None, Result, false, refl, inl, inr}
 use Rattle.std.specs.Borrow.{Bor}
-use Rattle.rg_words.proofs.Written.{appends_none}
-use Rattle.rg_words.specs.declared.refusal.Refusal.{Refusal}
-use Rattle.rg_words.specs.Stopped.{IsStopped}
+use Rattle.rg_words.specs.Refusals.{no_memory}
+use Rattle.rg_outline_reports.specs.declared.files.NoFiles.{NoFiles}
+use Rattle.rg_outline_reports.specs.declared.files.OutlineFiles.{OutlineFiles}
+use Rattle.rg_outline_reports.specs.declared.outlined.Outlined.{Outlined}
+use Rattle.rg_tree.specs.Lines.{LineTree}
+use Rattle.rg_tree.specs.Statements.{ProgramTree}
+use Rattle.rgc_outlines.specs.Proved.{IsProvedOutline}
+use Rattle.rgc_outlines.specs.Refused.{IsVerifyRefusal}
 use Rattle.rgc_line.specs.declared.command.Command.{Command}
-use Rattle.rgc_line.specs.declared.command.Command.TheVariants.{Number, Check, Conditions, Prove, Emit, EmitOutline, Accesses, AccessesOutline, Run, RunOutline, Valid, Clauses, Find, Outline as the_outline, Verify, Challenge, Explain}
-use Rattle.rgc_line.specs.declared.command.Chosen.{Chosen}
-use Rattle.rgc_line.specs.declared.command.Format.{Format}
-use Rattle.rgc.specs.Proofs.{IsProvePartRefusal}
-use Rattle.rgc_answers.specs.Refused.{IsRunRefusal, IsRunStopped}
-use Rattle.rgc_answers.specs.Running.{IsRead}
+use Rattle.rgc_line.specs.declared.command.Command.TheVariants.{Emit, EmitOutline, Accesses, AccessesOutline, Run, RunOutline, Verify}
+use Rattle.rgc_line.specs.declared.command.Outlines.{Outlines}
+use Rattle.rgc_line.specs.declared.command.Settings.{Settings}
 use Rattle.rgc_commands.specs.declared.files.Files.{Files}
+use Rattle.rgc_commands.specs.declared.outlines.TheConstants.{MOST_STEPS}
 use Rattle.rgc_commands.specs.declared.stops.Stop.{Stop}
-use Rattle.rgc_commands.specs.declared.stops.Stop.TheVariants.{Device, Refused, Outline, Usage, Reported, GaveUp}
-use Rattle.rgc.specs.Pieces.{bytes_of}
-use Rattle.rgc_commands.specs.Done.{Pieces, SpellsRange}
-use Rattle.rgc_commands.specs.Stopped.{unread_line, unless_read, TellsWhy, IsOverRun, IsRunUnlike, IsMisfit, IsUntouched, RefusesProofs, RefusesRun}
-use Rattle.rgc_commands.specs.Inner.TextStops.{IsDevice, IsOverTexts, Stops}
-use Rattle.rgc_commands.specs.Inner.Answers.{IsStopOf}
-use Rattle.rgc_answers.specs.Answered.{AnswersCondition, AnswersFormula}
-use Rattle.rgc_answers.specs.declared.judged.Answer.{Answer}
-use Rattle.rgc_answers.specs.declared.judged.Answer.TheVariants.{Proved, Failed, Unknown}
+use Rattle.rgc_commands.specs.declared.stops.Stop.TheVariants.{Device, Refused, Unverified, Fault, Usage}
+use Rattle.rgc_commands.specs.Of.{outline_files, Pieces}
+use Rattle.rgc_commands.specs.Stops.{IsStop, search_steps, unread_line, unless_read, text_line, derivation_line, proofs_line}
+use Rattle.rgc_commands.specs.Inner.Stops.{IsDevice, IsCodeStop, IsFormStop, IsFilesStop, IsProofStop, IsOutlineStop}
 
--- a file can't be read, before anything went out
-pub device_stops : (format : Format) (command : Command) (files : Files) (old : Option (List ℕ)) (m : ℕ) (stop : Stop) → IsDevice (unread_line command files) stop → Stops format command files old old m m stop
-device_stops format command files old m (Device line) h = (h, (appends_none old, refl))
-device_stops format command files old m (Refused e) h = absurd h
-device_stops format command files old m (Outline lines) h = absurd h
-device_stops format command files old m (Usage line) h = absurd h
-device_stops format command files old m Reported h = absurd h
-device_stops format command files old m (GaveUp why) h = absurd h
-
--- no proof was found, and the output tells why
-pub reported_stops : (format : Format) (command : Command) (files : Files) (old new : Option (List ℕ)) (m n : ℕ) (is_found : Bool) (r : Result (Unit {0}) Stop) → IfErr r (λ stop. (stop ≡ Reported) × (is_found ≡ false)) → n ≡ m → (is_found ≡ false → TellsWhy format command files old new) → IfErr r (Stops format command files old new m n)
-reported_stops format command files old new m n is_found (Ok x) h same why = tt
-reported_stops format command files old new m n is_found (Err stop) h same why = rw h.0 (why h.1, same)
-
--- the formula isn't proved, and the output tells that
-pub formula_stops : (f : Format) (t : Bor (List ℕ)) (steps : ℕ) (files : Files) (text : Bor (List ℕ)) (old new : Option (List ℕ)) (m n : ℕ) (answer : Answer) (r : Result (Unit {0}) Stop) → files.text ≡ Some text → AnswersFormula text.now old new answer → n ≡ m → IfErr r (IsStopOf answer) → IfErr r (Stops f (Find t steps None) files old new m n)
-formula_stops f t steps files text old new m n answer (Ok x) is answers same h = tt
-formula_stops f t steps files text old new m n Proved (Err stop) is answers same h = absurd h
-formula_stops f t steps files text old new m n Failed (Err stop) is answers same h = rw (h, is) (answers, same)
-formula_stops f t steps files text old new m n (Unknown why) (Err stop) is answers same h = rw (h, is) (answers, same)
-
--- the same of a condition
-pub condition_stops : (f : Format) (t : Bor (List ℕ)) (steps : ℕ) (chosen : Chosen) (files : Files) (text : Bor (List ℕ)) (derivation : Pieces) (old new : Option (List ℕ)) (m n : ℕ) (answer : Answer) (r : Result (Unit {0}) Stop) → files.text ≡ Some text → files.derivation ≡ Some derivation → AnswersCondition text.now (bytes_of derivation.now) chosen.condition old new answer → n ≡ m → IfErr r (IsStopOf answer) → IfErr r (Stops f (Find t steps (Some chosen)) files old new m n)
-condition_stops f t steps chosen files text derivation old new m n answer (Ok x) is from answers same h = tt
-condition_stops f t steps chosen files text derivation old new m n Proved (Err stop) is from answers same h = absurd h
-condition_stops f t steps chosen files text derivation old new m n Failed (Err stop) is from answers same h = rw (h, is, from) (answers, same)
-condition_stops f t steps chosen files text derivation old new m n (Unknown why) (Err stop) is from answers same h = rw (h, is, from) (answers, same)
-
--- the words don't fit
-pub usage_stops : (format : Format) (command : Command) (files : Files) (old : Option (List ℕ)) (m : ℕ) → IsMisfit format command → IsMisfit format command × IsUntouched old old m m
-usage_stops format command files old m h = (h, (appends_none old, refl))
-
--- the proofs of a range are refused
-pub range_stops : (text : List ℕ) (derivation : List (List ℕ)) (range : Bor (List ℕ)) (first last steps : ℕ) (old new : Option (List ℕ)) (m n : ℕ) (e : Refusal) → SpellsRange range.now first last → IsStopped (IsProvePartRefusal text derivation first last steps) old new m n e → IsStopped (RefusesProofs (Some range) text derivation steps) old new m n e
-range_stops text derivation range first last steps old new m n e spells (inl why) = inl ((first, last, spells, why.0), why.1, why.2)
-range_stops text derivation range first last steps old new m n e spells (inr why) = inr why
-
--- a run is refused, with a start and with moves where the command names such files
-pub named_run_stops : {A : Type 0} (command : Command) (text : List ℕ) (derivation proofs : List (List ℕ)) (start moves : Option A) (limit : ℕ) (start_bytes moves_bytes first moving : Option (Bor (List ℕ))) (old new : Option (List ℕ)) (m n : ℕ) (e : Refusal)
-    → IsOverRun command → IsRead start start_bytes first → IsRead moves moves_bytes moving → IsRunStopped (IsRunRefusal text derivation proofs first moving limit) old new m n e
-    → IsStopped (RefusesRun text derivation proofs start moves limit start_bytes moves_bytes) old new m n e ⊎ IsRunUnlike command m n e
-named_run_stops command text derivation proofs start moves limit start_bytes moves_bytes first moving old new m n e over read read_moves (inl (inl why)) =
-    inl (inl (record { first = first; first_read = read; moving = moving; moving_read = read_moves; refusal = why.0 }, why.1, why.2))
-named_run_stops command text derivation proofs start moves limit start_bytes moves_bytes first moving old new m n e over read read_moves (inl (inr why)) = inl (inr why)
-named_run_stops command text derivation proofs start moves limit start_bytes moves_bytes first moving old new m n e over read read_moves (inr why) = inr (over, why.0, why.1)
+-- a file can't be read
+pub device_stop : (s : Settings) (of : Command) (files : Files) (stop : Stop) → IsDevice (unread_line of files) stop → IsStop s of files stop
+device_stop s of files (Device line) h = h
+device_stop s of files (Refused e) h = absurd h
+device_stop s of files (Unverified report) h = absurd h
+device_stop s of files (Fault lines) h = absurd h
+device_stop s of files (Usage line) h = absurd h
 
 -- the next file can't be read, where this one can
 pub read_past : {A : Type 0} (file : Option A) (bytes : A) (line : List ℕ) (rest : Option (List ℕ)) (stop : Stop) → file ≡ Some bytes → IsDevice rest stop → IsDevice (unless_read file line rest) stop
 read_past file bytes line rest stop is h = rw is h
 
--- a command that none of these matches isn't over texts
-pub no_other : (command : Command) → ((a : Bor (List ℕ)) → command ≡ Number a → ⊥) → ((a b c : Bor (List ℕ)) → command ≡ Check a b c → ⊥) → ((a b : Bor (List ℕ)) (c : Bool) → command ≡ Conditions a b c → ⊥) → ((a b : Bor (List ℕ)) (d : ℕ) (e : Option (Bor (List ℕ))) → command ≡ Prove a b d e → ⊥)
-    → ((a b c : Bor (List ℕ)) → command ≡ Emit a b c → ⊥) → ((a b c : Bor (List ℕ)) (d e : Option (Bor (List ℕ))) (f : ℕ) (i : Option (Bor (List ℕ))) → command ≡ Run a b c d e f i → ⊥) → ((a b : Bor (List ℕ)) → command ≡ Valid a b → ⊥) → ((a : Bor (List ℕ)) (b : Option Chosen) → command ≡ Clauses a b → ⊥)
-    → ((a : Bor (List ℕ)) (b : ℕ) (c : Option Chosen) → command ≡ Find a b c → ⊥) → ((a : ℕ) → command ≡ Explain a → ⊥) → IsOverTexts command → ⊥
-no_other (Number a) number check conditions prove emit run valid clauses find explain over = number a refl
-no_other (Check a b d) number check conditions prove emit run valid clauses find explain over = check a b d refl
-no_other (Conditions a b d) number check conditions prove emit run valid clauses find explain over = conditions a b d refl
-no_other (Prove a b d e) number check conditions prove emit run valid clauses find explain over = prove a b d e refl
-no_other (Emit a b d) number check conditions prove emit run valid clauses find explain over = emit a b d refl
-no_other (Run a b d e f i j) number check conditions prove emit run valid clauses find explain over = run a b d e f i j refl
-no_other (Valid a b) number check conditions prove emit run valid clauses find explain over = valid a b refl
-no_other (Clauses a b) number check conditions prove emit run valid clauses find explain over = clauses a b refl
-no_other (Find a b d) number check conditions prove emit run valid clauses find explain over = find a b d refl
-no_other (Explain a) number check conditions prove emit run valid clauses find explain over = explain a refl
-no_other (EmitOutline a) number check conditions prove emit run valid clauses find explain over = over
-no_other (Accesses a b d) number check conditions prove emit run valid clauses find explain over = over
-no_other (AccessesOutline a) number check conditions prove emit run valid clauses find explain over = over
-no_other (RunOutline a b d e f) number check conditions prove emit run valid clauses find explain over = over
-no_other (the_outline a b d e f) number check conditions prove emit run valid clauses find explain over = over
-no_other (Verify a b d e) number check conditions prove emit run valid clauses find explain over = over
-no_other (Challenge a b) number check conditions prove emit run valid clauses find explain over = over
+-- no code of files is had: of a command that prints it, or how its steps are done
+pub emit_stop : (s : Settings) (t d p : Bor (List ℕ)) (files : Files) (stop : Stop) → IsFilesStop files stop → IsStop s (Emit t d p) files stop
+emit_stop s t d p files (Device line) h = h
+emit_stop s t d p files (Refused e) h = h
+emit_stop s t d p files (Unverified report) h = absurd h
+emit_stop s t d p files (Fault lines) h = inr tt
+emit_stop s t d p files (Usage line) h = absurd h
+
+pub accesses_stop : (s : Settings) (t d p : Bor (List ℕ)) (files : Files) (stop : Stop) → IsFilesStop files stop → IsStop s (Accesses t d p) files stop
+accesses_stop s t d p files (Device line) h = h
+accesses_stop s t d p files (Refused e) h = h
+accesses_stop s t d p files (Unverified report) h = absurd h
+accesses_stop s t d p files (Fault lines) h = inr tt
+accesses_stop s t d p files (Usage line) h = absurd h
+
+-- or of one that runs it, whose files can be read
+pub run_stop : (s : Settings) (t d p : Bor (List ℕ)) (start moves : Option (Bor (List ℕ))) (limit : ℕ) (draw : Option (Bor (List ℕ))) (files : Files) (text : Bor (List ℕ)) (derivation proofs : Pieces) (stop : Stop)
+    → files.text ≡ Some text → files.derivation ≡ Some derivation → files.proofs ≡ Some proofs → IsFilesStop files stop → IsStop s (Run t d p start moves limit draw) files stop
+run_stop s t d p start moves limit draw files text derivation proofs (Device line) a b c h = absurd (cc (rw (a, b, c) at h))
+run_stop s t d p start moves limit draw files text derivation proofs (Refused e) a b c h = h
+run_stop s t d p start moves limit draw files text derivation proofs (Unverified report) a b c h = absurd h
+run_stop s t d p start moves limit draw files text derivation proofs (Fault lines) a b c h = inr tt
+run_stop s t d p start moves limit draw files text derivation proofs (Usage line) a b c h = absurd h
+
+-- the form of the code that is asked for doesn't fit
+pub form_stop : (s : Settings) (t d p : Bor (List ℕ)) (files : Files) (stop : Stop) → IsFormStop stop → IsStop s (Emit t d p) files stop
+form_stop s t d p files (Device line) h = absurd h
+form_stop s t d p files (Refused e) h = inr h
+form_stop s t d p files (Unverified report) h = absurd h
+form_stop s t d p files (Fault lines) h = absurd h
+form_stop s t d p files (Usage line) h = inr tt
+
+pub outline_form_stop : (s : Settings) (o : Bor (List ℕ)) (files : Files) (stop : Stop) → IsFormStop stop → IsStop s (EmitOutline o) files stop
+outline_form_stop s o files (Device line) h = absurd h
+outline_form_stop s o files (Refused e) h = inr h
+outline_form_stop s o files (Unverified report) h = absurd h
+outline_form_stop s o files (Fault lines) h = absurd h
+outline_form_stop s o files (Usage line) h = inr tt
+
+-- a part of code isn't had, of files, or of an outline
+pub code_stop : (files : Files) (stop : Stop) → IsCodeStop stop → IsFilesStop files stop
+code_stop files (Device line) h = absurd h
+code_stop files (Refused e) h = inr h
+code_stop files (Unverified report) h = absurd h
+code_stop files (Fault lines) h = tt
+code_stop files (Usage line) h = absurd h
+
+pub outline_code_stop : (files : Files) (stop : Stop) → IsCodeStop stop → IsOutlineStop files stop
+outline_code_stop files (Device line) h = absurd h
+outline_code_stop files (Refused e) h = inr h
+outline_code_stop files (Unverified report) h = absurd h
+outline_code_stop files (Fault lines) h = tt
+outline_code_stop files (Usage line) h = absurd h
+
+-- an outline of a command isn't proved
+pub proof_stop : (files : Files) (outline : OutlineFiles) (stop : Stop) → outline_files files.outline ≡ Some outline → IsProofStop outline MOST_STEPS stop → IsOutlineStop files stop
+proof_stop files outline (Device line) is h = absurd h
+proof_stop files outline (Refused e) is h = inl (rw is h)
+proof_stop files outline (Unverified report) is h = rw is h
+proof_stop files outline (Fault lines) is h = tt
+proof_stop files outline (Usage line) is h = absurd h
+
+-- no code of an outline is had: of a command that prints it, or how its steps are done, or of one that runs it, whose files can be read
+pub emit_outline_stop : (s : Settings) (o : Bor (List ℕ)) (files : Files) (stop : Stop) → IsOutlineStop files stop → IsStop s (EmitOutline o) files stop
+emit_outline_stop s o files (Device line) h = h
+emit_outline_stop s o files (Refused e) h = h
+emit_outline_stop s o files (Unverified report) h = (tt, h)
+emit_outline_stop s o files (Fault lines) h = inl tt
+emit_outline_stop s o files (Usage line) h = absurd h
+
+pub accesses_outline_stop : (s : Settings) (o : Bor (List ℕ)) (files : Files) (stop : Stop) → IsOutlineStop files stop → IsStop s (AccessesOutline o) files stop
+accesses_outline_stop s o files (Device line) h = h
+accesses_outline_stop s o files (Refused e) h = h
+accesses_outline_stop s o files (Unverified report) h = (tt, h)
+accesses_outline_stop s o files (Fault lines) h = inl tt
+accesses_outline_stop s o files (Usage line) h = absurd h
+
+pub verify_stop : (s : Settings) (outlines : Outlines) (steps : Option ℕ) (text : Option (Bor (List ℕ))) (files : Files) (outline : OutlineFiles) (stop : Stop)
+    → outline_files files.outline ≡ Some outline → IsProofStop outline (search_steps steps) stop → IsStop s (Verify outlines steps false text) files stop
+verify_stop s outlines steps text files outline (Device line) is h = absurd h
+verify_stop s outlines steps text files outline (Refused e) is h = inl (rw is h)
+verify_stop s outlines steps text files outline (Unverified report) is h = (refl, rw is h)
+verify_stop s outlines steps text files outline (Fault lines) is h = inl tt
+verify_stop s outlines steps text files outline (Usage line) is h = absurd h
+
+-- the first of three files can't be read
+pub files_stop : (files : Files) (stop : Stop) → IsDevice (text_line files (derivation_line files (proofs_line files None))) stop → IsFilesStop files stop
+files_stop files (Device line) h = h
+files_stop files (Refused e) h = absurd h
+files_stop files (Unverified report) h = absurd h
+files_stop files (Fault lines) h = absurd h
+files_stop files (Usage line) h = absurd h
+
+-- memory was refused for a part of an outline that is proved
+pub no_memory_verify : (outline : OutlineFiles) (steps : ℕ) {program : ProgramTree} {lines : List LineTree} {proofs : List (List ℕ)} → IsProvedOutline outline program lines proofs → IsVerifyRefusal outline steps no_memory
+no_memory_verify outline steps o = inr (_, _, o.derived, inl refl)
+
+-- its code isn't had
+pub proof_code_stop : (outline : OutlineFiles) (steps : ℕ) {program : ProgramTree} {lines : List LineTree} {proofs : List (List ℕ)} → IsProvedOutline outline program lines proofs → (stop : Stop) → IsCodeStop stop → IsProofStop outline steps stop
+proof_code_stop outline steps o (Device line) h = absurd h
+proof_code_stop outline steps o (Refused e) h = rw h (no_memory_verify outline steps o)
+proof_code_stop outline steps o (Unverified report) h = absurd h
+proof_code_stop outline steps o (Fault lines) h = tt
+proof_code_stop outline steps o (Usage line) h = absurd h
+
+-- an outline that can be read isn't had
+pub run_outline_stop : (s : Settings) (o : Bor (List ℕ)) (start moves : Option (Bor (List ℕ))) (limit : ℕ) (draw : Option (Bor (List ℕ))) (files : Files) (e : Bor (Result Outlined NoFiles)) (stop : Stop)
+    → files.outline ≡ Some e → IsOutlineStop files stop → IsStop s (RunOutline o start moves limit draw) files stop
+run_outline_stop s o start moves limit draw files e (Device line) is h = absurd (cc (rw is at h))
+run_outline_stop s o start moves limit draw files e (Refused r) is h = h
+run_outline_stop s o start moves limit draw files e (Unverified report) is h = (tt, h)
+run_outline_stop s o start moves limit draw files e (Fault lines) is h = inl tt
+run_outline_stop s o start moves limit draw files e (Usage line) is h = absurd h

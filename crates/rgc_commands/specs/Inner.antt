@@ -1,4 +1,5 @@
 -- What only contracts of private functions and proofs speak of: no public contract reaches it.
 pub mod Answers
 pub mod Stops
-pub mod TextStops
+pub mod Wordings
+pub mod Reported

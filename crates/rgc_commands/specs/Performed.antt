@@ -1,36 +1,126 @@
--- What a line has done, or what is reported where it isn't done.
-use Rattle.std.specs.Prelude.{ℕ, List, Option, Bool, true, false}
+-- What a line has done: its answer went out, whole or not, or it has none; and what is reported of that.
+use Rattle.std.specs.Prelude.{◌≡◌, ◌⊎◌, ◌+◌, ◌++◌, ℕ, List, [], Option, Bool, true, false, if◌then◌else◌, codes}
+use Rattle.std.specs.Io.KnownBytes.{Appends}
+use Rattle.rg_words.specs.declared.refusal.Refusal.{Refusal}
+use Rattle.rg_words.specs.declared.refusal.RefusalNumber.{RefusalNumber}
+use Rattle.rg_words.specs.declared.refusal.RefusalNumber.TheVariants.{Write, Memory}
+use Rattle.rg_words.specs.Refusals.{refusal_text, refused}
+use Rattle.rg_words.specs.Written.{AppendsBeginning}
+use Rattle.rgc_answers.specs.Found.{reason_text}
+use Rattle.rgc_answers.specs.Lines.{json_line}
+use Rattle.rgc_answers.specs.Refusals.{refusal_data}
+use Rattle.rgc_line.specs.declared.command.Format.{Format}
+use Rattle.rgc_line.specs.declared.command.Format.TheVariants.{Plain, Json}
+use Rattle.rgc_line.specs.declared.command.Settings.{Settings}
 use Rattle.rgc_line.specs.declared.line.Line.{Line}
-use Rattle.rgc_outlines.specs.declared.write.Sides.{Sides}
+use Rattle.rgc_commands.specs.Answers.{IsAnswer, AreNotesOf, has_succeeded}
+use Rattle.rgc_commands.specs.Delivered.{IsDelivered, IsCutOff}
+use Rattle.rgc_commands.specs.Stops.{IsStop, fits}
+use Rattle.rgc_commands.specs.declared.answers.Answer.{Answer}
+use Rattle.rgc_commands.specs.declared.answers.Answer.TheVariants.{Found, Run}
 use Rattle.rgc_commands.specs.declared.files.Files.{Files}
-use Rattle.rgc_commands.specs.Device.{is_on_device, IsDeviceDone}
-use Rattle.rgc_commands.specs.PerformDone.{IsLineDone}
-use Rattle.rgc_commands.specs.PerformStopped.{Writes, IsRefused, HasReportedMisfit, HasFailed}
+use Rattle.rgc_commands.specs.declared.stops.Stop.{Stop}
+use Rattle.rgc_commands.specs.declared.stops.Stop.TheVariants.{Device, Refused, Unverified, Fault, Usage}
 
--- by whether the line is about a device: it is done
-abbrev pub IsPerformedBy : Bool → Line → Files → Sides → Sides → Option (List ℕ) → Option (List ℕ) → Type 0
-IsPerformedBy true line files before after old new = IsDeviceDone line files old new
-IsPerformedBy false line files before after old new = IsLineDone line files before after old new
+-- a text went out; or a beginning of it, and then the writer failed, once more than before
+abbrev pub Writes : Option (List ℕ) → Option (List ℕ) → ℕ → ℕ → List ℕ → Type 0
+Writes old new failed after text = (Appends old new text × (after ≡ failed)) ⊎ (AppendsBeginning old new text × (after ≡ failed + 1))
 
--- the line is done
-abbrev pub IsPerformed : Line → Files → Sides → Sides → Option (List ℕ) → Option (List ℕ) → Type 0
-IsPerformed line files before after old new = IsPerformedBy (is_on_device line) line files before after old new
+-- the refusals of writers that fail and of memory, which aren't of files
+abbrev pub is_failure : RefusalNumber → Bool
+is_failure Write = true
+is_failure Memory = true
+is_failure _ = false
 
--- a text is reported
-abbrev pub IsTextReported : Option (List ℕ) → Option (List ℕ) → ℕ → ℕ → Type 0
-IsTextReported quiet reported quiet_failed reported_failed = (words : List ℕ) × Writes quiet reported quiet_failed reported_failed words
+-- the status of a refusal
+abbrev pub refusal_status : RefusalNumber → ℕ
+refusal_status number = if is_failure number then 3 else 1
 
--- the files are refused, or there is no proof
-abbrev pub IsRefusedBy : Bool → Line → Files → Option (List ℕ) → Option (List ℕ) → ℕ → ℕ → Option (List ℕ) → Option (List ℕ) → ℕ → ℕ → Type 0
-IsRefusedBy true line files old new failed after quiet reported quiet_failed reported_failed = IsTextReported quiet reported quiet_failed reported_failed
-IsRefusedBy false line files old new failed after quiet reported quiet_failed reported_failed = IsRefused line files old new failed after quiet reported quiet_failed reported_failed
+-- the line that tells a refusal
+abbrev pub reported_line : Format → Refusal → List ℕ
+reported_line Plain e = refusal_text e ++ codes "\n"
+reported_line Json e = json_line (refusal_data e)
 
--- the words don't fit
-abbrev pub IsMisfitBy : Bool → Line → Option (List ℕ) → Option (List ℕ) → ℕ → ℕ → Option (List ℕ) → Option (List ℕ) → ℕ → ℕ → Type 0
-IsMisfitBy true line old new failed after quiet reported quiet_failed reported_failed = IsTextReported quiet reported quiet_failed reported_failed
-IsMisfitBy false line old new failed after quiet reported quiet_failed reported_failed = HasReportedMisfit line old new failed after quiet reported quiet_failed reported_failed
+-- what explains a refusal below its line: nothing, where that isn't asked, or where the refusal is reported as JSON
+pub record IsBelow (settings : Settings) (text : List ℕ) : Type 0 where
+  pub unasked : settings.is_explained ≡ false → text ≡ []
+  pub as_json : settings.format ≡ Json → text ≡ []
 
--- a file can't be read, or the writer failed, or memory was refused
-abbrev pub IsFailedBy : Bool → Line → Files → Option (List ℕ) → Option (List ℕ) → ℕ → ℕ → Option (List ℕ) → Option (List ℕ) → ℕ → ℕ → Type 0
-IsFailedBy true line files old new failed after quiet reported quiet_failed reported_failed = IsTextReported quiet reported quiet_failed reported_failed
-IsFailedBy false line files old new failed after quiet reported quiet_failed reported_failed = HasFailed line files old new failed after quiet reported quiet_failed reported_failed
+-- a refusal is reported by its line, and has its own status; or there was no memory for the line, and that is reported
+abbrev pub TellsRefusal : Settings → Refusal → ℕ → Option (List ℕ) → Option (List ℕ) → ℕ → ℕ → Type 0
+TellsRefusal settings e status old new failed after =
+    ((below : List ℕ) × IsBelow settings below × (status ≡ refusal_status e.number) × Writes old new failed after (reported_line settings.format e ++ below))
+    ⊎ ((status ≡ 3) × Writes old new failed after (codes "refused 99\n"))
+
+-- what is reported of an answer that went out, before its notes: why a search gave up; of a run the moves that were passed over, of which nothing is
+-- promised
+abbrev pub IsFirst : Answer → List ℕ → Type 0
+IsFirst (Found condition judged) first = first ≡ reason_text judged
+IsFirst (Run ready) first = Unit {0}
+IsFirst answer first = first ≡ []
+
+-- the status of an answer that went out: whether it is what the command is asked for
+abbrev pub answer_status : Answer → ℕ
+answer_status answer = if has_succeeded answer then 0 else 1
+
+-- the answer went out, and what is noted of it is reported
+pub record HasAnswered (status : ℕ) (line : Line) (files : Files) (old new : Option (List ℕ)) (failed after : ℕ) (quiet reported : Option (List ℕ)) (quiet_failed reported_failed : ℕ) : Type 0 where
+  pub answer : Answer
+  pub fit : fits line.settings line.command ≡ true
+  pub is : IsAnswer line.settings line.command files answer
+  pub status_is : status ≡ answer_status answer
+  pub delivered : IsDelivered line.settings.format answer old new
+  pub failures : after ≡ failed
+  pub notes : List ℕ
+  pub noted : AreNotesOf line.command notes
+  pub first : List ℕ
+  pub is_first : IsFirst answer first
+  pub tells : Writes quiet reported quiet_failed reported_failed (first ++ notes)
+
+-- the answer didn't go out whole, or a run of it isn't begun, and the refusal that says so is reported
+pub record WasCutOff (status : ℕ) (line : Line) (files : Files) (old new : Option (List ℕ)) (failed after : ℕ) (quiet reported : Option (List ℕ)) (quiet_failed reported_failed : ℕ) : Type 0 where
+  pub answer : Answer
+  pub fit : fits line.settings line.command ≡ true
+  pub is : IsAnswer line.settings line.command files answer
+  pub refusal : Refusal
+  pub cut : IsCutOff answer old new failed after refusal
+  pub tells : TellsRefusal line.settings refusal status quiet reported quiet_failed reported_failed
+
+-- nothing went out
+abbrev pub IsUntouched : Option (List ℕ) → Option (List ℕ) → ℕ → ℕ → Type 0
+IsUntouched old new failed after = (new ≡ old) × (after ≡ failed)
+
+-- what is found of the conditions of an outline that isn't verified went out, and a text is reported; or the writer failed, and that is reported
+abbrev pub IsUnverifiedReported : Settings → List ℕ → ℕ → Option (List ℕ) → Option (List ℕ) → ℕ → ℕ → Option (List ℕ) → Option (List ℕ) → ℕ → ℕ → Type 0
+IsUnverifiedReported s report status old new failed after quiet reported quiet_failed reported_failed =
+    ((status ≡ 1) × Appends old new report × (after ≡ failed) × (notes : List ℕ) × Writes quiet reported quiet_failed reported_failed notes)
+    ⊎ (AppendsBeginning old new report × (after ≡ failed + 1) × TellsRefusal s (refused Write) status quiet reported quiet_failed reported_failed)
+
+-- what went out where a command has no answer, and what is reported
+abbrev pub IsReported : Settings → Stop → ℕ → Option (List ℕ) → Option (List ℕ) → ℕ → ℕ → Option (List ℕ) → Option (List ℕ) → ℕ → ℕ → Type 0
+IsReported s (Device line) status old new failed after quiet reported quiet_failed reported_failed = (status ≡ 3) × IsUntouched old new failed after × Writes quiet reported quiet_failed reported_failed line.now
+IsReported s (Usage line) status old new failed after quiet reported quiet_failed reported_failed = (status ≡ 2) × IsUntouched old new failed after × Writes quiet reported quiet_failed reported_failed line.now
+IsReported s (Fault lines) status old new failed after quiet reported quiet_failed reported_failed = (status ≡ 1) × IsUntouched old new failed after × Writes quiet reported quiet_failed reported_failed lines.items
+IsReported s (Refused e) status old new failed after quiet reported quiet_failed reported_failed = IsUntouched old new failed after × TellsRefusal s e status quiet reported quiet_failed reported_failed
+IsReported s (Unverified report) status old new failed after quiet reported quiet_failed reported_failed = IsUnverifiedReported s report.items status old new failed after quiet reported quiet_failed reported_failed
+
+-- the command has no answer, and why is reported
+pub record HasNoAnswer (status : ℕ) (line : Line) (files : Files) (old new : Option (List ℕ)) (failed after : ℕ) (quiet reported : Option (List ℕ)) (quiet_failed reported_failed : ℕ) : Type 0 where
+  pub stop : Stop
+  pub why : IsStop line.settings line.command files stop
+  pub tells : IsReported line.settings stop status old new failed after quiet reported quiet_failed reported_failed
+
+-- what a line has done, by its status
+abbrev pub IsPerformed : ℕ → Line → Files → Option (List ℕ) → Option (List ℕ) → ℕ → ℕ → Option (List ℕ) → Option (List ℕ) → ℕ → ℕ → Type 0
+IsPerformed status line files old new failed after quiet reported quiet_failed reported_failed =
+    HasAnswered status line files old new failed after quiet reported quiet_failed reported_failed
+    ⊎ WasCutOff status line files old new failed after quiet reported quiet_failed reported_failed
+    ⊎ HasNoAnswer status line files old new failed after quiet reported quiet_failed reported_failed
+
+-- the line is done: its answer is what it is asked for, is so of the files, and went out
+pub record IsDone (line : Line) (files : Files) (old new : Option (List ℕ)) : Type 0 where
+  pub answer : Answer
+  pub fit : fits line.settings line.command ≡ true
+  pub is : IsAnswer line.settings line.command files answer
+  pub has : has_succeeded answer ≡ true
+  pub delivered : IsDelivered line.settings.format answer old new

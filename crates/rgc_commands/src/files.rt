@@ -4,9 +4,9 @@ ghost use Rattle.std.specs.Prelude.{◌≡◌, ℕ, List, Option, Some, IfOk, If
 ghost use Rattle.std.specs.List.{concat};
 ghost use Rattle.rg_words.specs.Refusals.{no_memory};
 ghost use Rattle.rgc.specs.Pieces.{bytes_of};
-ghost use Rattle.rgc_answers.specs.Running.{IsRead};
-ghost use Rattle.rgc_commands.specs.Stopped.{unless_read, where_named, text_line, derivation_line, proofs_line, input_lines};
-ghost use Rattle.rgc_commands.specs.Inner.TextStops.{IsDevice};
+ghost use Rattle.rgc_commands.specs.Of.{IsRead};
+ghost use Rattle.rgc_commands.specs.Stops.{unless_read, where_named, text_line, derivation_line, proofs_line, input_lines};
+ghost use Rattle.rgc_commands.specs.Inner.Stops.{IsDevice};
 
 use crate::stops::Stop;
 use rg_outline_reports::{NoFiles, Outlined};

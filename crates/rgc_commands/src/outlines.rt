@@ -1,37 +1,39 @@
-//! The commands over an outline.
+//! The answers of the commands over an outline.
 
-ghost use Rattle.std.specs.Prelude.{◌≡◌, ℕ, List, Option, Some, true, false, IfOk, OnOk, OnErr, IfErr};
-ghost use Rattle.rgc_outlines.specs.declared.write.Sides.{Sides as OutlineSides};
+ghost use Rattle.std.specs.Prelude.{◌≡◌, ℕ, List, Option, Some, true, false, is_some, string_bytes, map, IfOk, IfErr, OnOk};
 ghost use Rattle.std.specs.Borrow.{Bor};
-ghost use Rattle.rg_words.specs.Written.{CanCount};
-ghost use Rattle.rgc_line.specs.declared.command.Command.TheVariants.{Challenge, Outline, RunOutline, Verify};
-ghost use Rattle.rgc_line.specs.declared.command.Format.{Format as LineFormat};
-ghost use Rattle.rgc_commands.specs.Stopped.{outline_line};
-ghost use Rattle.rgc_commands.specs.Inner.TextStops.{IsDevice};
-ghost use Rattle.rgc_commands.specs.PerformDone.{IsDoneOver, IsVerifyDone, files_of, outline_files, wanted_of};
-ghost use Rattle.rgc_commands.specs.PerformStopped.{search_steps};
-ghost use Rattle.rgc_commands.specs.Inner.Stops.{IsNotOutlined, IsWithoutFiles, StopsLine, StopsVerify};
-ghost use Rattle.rgc_answers.specs.Failures.{NoFailure};
+ghost use Rattle.rg_accept.specs.Stages.{derived_program, derived_lines};
+ghost use Rattle.rgc_line.specs.declared.command.Command.TheVariants.{Challenge, Outline, Verify};
+ghost use Rattle.rgc_line.specs.declared.command.Settings.{Settings as LineSettings};
+ghost use Rattle.rgc_outlines.specs.Cut.{IsOfPieces};
+ghost use Rattle.rgc_outlines.specs.Proved.{IsProvedOf};
+ghost use Rattle.rgc_commands.specs.Answers.{IsAnswer, IsTextOf, HasMore};
+ghost use Rattle.rgc_commands.specs.Of.{files_of, outline_files};
+ghost use Rattle.rgc_commands.specs.Put.{AreProofs, ArePut, IsPut};
+ghost use Rattle.rgc_commands.specs.Inner.Stops.{IsDevice, IsNoOutline, IsOutlineStop, IsProofStop, IsUnexpanded, IsVerifiedStop, IsExpandStop};
+ghost use Rattle.rgc_commands.specs.Stops.{IsStop, outline_line, search_steps};
 
-use crate::commands::{RunOptions, proved};
-use crate::files::{Expanded, Files, inputs};
+use crate::answers::{Answer, Verified};
+use crate::code::{Form, code_text};
+use crate::coding::left_of_outline;
+use crate::files::{Expanded, Files};
 use crate::sides::Sides;
 use crate::stops::Stop;
 use rg_find::Watcher;
 use rg_outline_reports::{NoFiles, Outlined};
-use rg_words::{Out, Refusal, Taker, write_all};
+use rgc::{Derived, Unproved};
 use rgc_answers::Context;
-use rgc_line::Outlines;
+use rgc_line::{Format, Outlines, Settings};
 use rgc_outlines::{
-    Options, RunOutline as OutlineRun, VerdictForm, Wanted, challenge, put_file, run_outline,
-    runs_only, verify_outline, write_outline,
+    Options, Proved, VerdictForm, challenge_changes, derive_outline, prove_outline, push_name,
+    push_stuck_warning, runs_only, unproved_report, walk_report, warnings_of,
 };
 use std::alloc::{AllocError, Global};
 use std::sync::Wait;
 use std::thread::Threads;
 
 /// What the outline of a command was worked out to.
-fn expanded_of<'a>(files: &Files<'a>) -> Result<&'a Expanded<'a>, Stop>
+pub(crate) fn expanded_of<'a>(files: &Files<'a>) -> Result<&'a Expanded<'a>, Stop>
     ensures expanded { IfOk result (λ e. files.now.outline ≡ Some e) }
     ensures unread { (rest : Option (List ℕ)) → IfErr result (IsDevice (outline_line files.now rest)) }
 {
@@ -41,37 +43,25 @@ fn expanded_of<'a>(files: &Files<'a>) -> Result<&'a Expanded<'a>, Stop>
     }
 }
 
-/// The stop of an outline that is refused, with these lines.
-fn refused(alloc: Global, lines: &[u8]) -> Stop
-    ensures { IsWithoutFiles result }
-{
-    match Vec::from_slice(alloc, lines) {
-        Ok(lines) => Stop::Outline(lines),
-        Err(AllocError) => Stop::Refused(Refusal::from(AllocError)),
-    }
-}
-
 /// The outline, where it stands for files.
 fn outlined_in<'a>(alloc: Global, expanded: &'a Expanded<'a>) -> Result<&'a Outlined<'a>, Stop>
     ensures files { IfOk result (λ o. files_of expanded.now ≡ Some o.now.files) }
-    ensures none { IfErr result IsWithoutFiles }
+    ensures none { IfErr result IsUnexpanded }
 {
     match expanded {
         Ok(outlined) => Ok(outlined),
-        Err(NoFiles::Reported(lines)) => Err(refused(alloc, lines)),
-        Err(NoFiles::Memory) => Err(Stop::Refused(Refusal::from(AllocError))),
+        Err(NoFiles::Reported(lines)) => Err(Stop::Fault(Vec::from_slice(alloc, lines)?)),
+        Err(NoFiles::Memory) => Err(Stop::from(AllocError)),
     }
 }
 
 /// The outline of a command, where it stands for files.
 pub(crate) fn outlined_of<'a>(alloc: Global, files: &Files<'a>) -> Result<&'a Outlined<'a>, Stop>
     ensures files { IfOk result (λ o. outline_files files.now.outline ≡ Some o.now.files) }
-    ensures none { (rest : Option (List ℕ)) → IfErr result (IsNotOutlined (outline_line files.now rest)) }
+    ensures none { IfErr result (IsNoOutline files.now) }
+    ensures stopped { IfErr result (IsOutlineStop files.now) }
 {
-    let expanded = match expanded_of(files) {
-        Ok(expanded) => expanded,
-        Err(stop) => return Err(stop),
-    };
+    let expanded = expanded_of(files)?;
     outlined_in(alloc, expanded)
 }
 
@@ -81,17 +71,251 @@ pub(crate) const MOST_STEPS: u64 = 1_000_000;
 /// The most decisions of each search for a changed program.
 const MOST_STEPS_FOR_CHANGES: u64 = 10_000;
 
+/// What is printed of conditions of an outline that have no proof; and, in this form, what a walk of its program finds.
+fn unverified(
+    alloc: Global,
+    outlined: &Outlined<'_>,
+    unproved: &[Unproved],
+    form: Option<VerdictForm<'_>>,
+) -> Result<Vec<u8>, Stop>
+    ensures { (steps : ℕ) → IfErr result (IsProofStop outlined.now.files steps) }
+{
+    let mut report = unproved_report(alloc, outlined, unproved)?;
+    if let Some(form) = form {
+        push_name(form, &mut report)?;
+        let walked = walk_report(alloc, outlined, unproved)?;
+        report.extend_from_slice(&walked.reported)?;
+    }
+    Ok(report)
+}
+
+/// Proofs of all conditions of an outline, each found with at most so many decisions. Where some have none, what a walk finds is printed too, where a form
+/// is given for it.
+pub(crate) fn prove<R: Threads + Wait + Sync, P: Watcher + Copy + Sync>(
+    context: &Context<'_, R, P>,
+    outlined: &Outlined<'_>,
+    steps: u64,
+    form: Option<VerdictForm<'_>>,
+) -> Result<Proved, Stop>
+    ensures proved { IfOk result (IsProvedOf outlined.now.files) }
+    ensures stopped { IfErr result (IsProofStop outlined.now.files steps) }
+{
+    match prove_outline(context, outlined, steps)? {
+        Ok(proved) => Ok(proved),
+        Err(unproved) => {
+            let report = unverified(context.alloc, outlined, &unproved, form)?;
+            Err(Stop::Unverified(report))
+        }
+    }
+}
+
+/// The most decisions of each search, where a command says so or not.
+pub(crate) fn search_steps(steps: Option<u64>) -> u64
+    ensures { result ≡ search_steps steps }
+{
+    steps.unwrap_or(MOST_STEPS)
+}
+
+/// How it is said that an outline is verified: after its name, where it is one of several.
+pub(crate) fn form_of<'a>(format: Format, outlines: Outlines<'a>) -> VerdictForm<'a> {
+    match format {
+        Format::Json => VerdictForm::Json(outlines.outline),
+        Format::Plain if outlines.count > 1 => VerdictForm::Named(outlines.outline),
+        Format::Plain => VerdictForm::Alone,
+    }
+}
+
+/// How an outline is verified.
+#[derive(Clone, Copy)]
+pub(crate) struct Verification<'a> {
+    outlines: Outlines<'a>,
+    /// The most decisions of each search, or steps of runs.
+    steps: Option<u64>,
+    /// Whether its runs alone are followed.
+    is_runs_only: bool,
+    /// The file for the program's text.
+    text: Option<&'a str>,
+}
+
+impl<'a> Verification<'a> {
+    pub(crate) fn new(
+        outlines: Outlines<'a>,
+        steps: Option<u64>,
+        is_runs_only: bool,
+        text: Option<&'a str>,
+    ) -> Verification<'a>
+        ensures { result ≡ record { outlines = outlines.entry; steps = steps; is_runs_only = is_runs_only; text = text.entry } }
+    {
+        Verification {
+            outlines,
+            steps,
+            is_runs_only,
+            text,
+        }
+    }
+}
+
+/// The outline that is verified; its text is put beside the output where that is asked for.
+fn verified_outline<'a>(
+    alloc: Global,
+    asked: Verification<'_>,
+    files: &Files<'a>,
+    sides: &mut Sides,
+) -> Result<&'a Outlined<'a>, Stop>
+    ensures files { IfOk result (λ o. outline_files files.now.outline ≡ Some o.now.files) }
+    ensures text { IfOk result (λ o. IsPut asked.entry.text o.now.files.text.items sides.old.text.items sides.new.text.items) }
+    ensures stopped { IfErr result (IsVerifiedStop asked.entry.outlines asked.entry.text files.now) }
+{
+    if asked.text.is_some() && asked.outlines.count != 1 {
+        return Err(Stop::Usage("error: --text takes one outline\n"));
+    }
+    let outlined = outlined_of(alloc, files)?;
+    if asked.text.is_some() {
+        sides.text.extend_from_slice(&outlined.files.text)?;
+    }
+    Ok(outlined)
+}
+
+/// What is printed after a verdict: how each step is done in C, where that is asked for.
+fn more_of<R: Threads + Wait + Sync, P>(
+    context: &Context<'_, R, P>,
+    settings: &Settings<'_>,
+    outlined: &Outlined<'_>,
+    proved: Proved,
+    notes: &mut Vec<u8>,
+) -> Result<Vec<u8>, Stop>
+    requires { IsProvedOf outlined.now.files proved }
+    ensures more { IfOk result (λ more. HasMore settings.now outlined.now.files more.items) }
+    ensures stopped { (steps : ℕ) → IfErr result (IsProofStop outlined.now.files steps) }
+{
+    let alloc = context.alloc;
+    if !settings.has_accesses {
+        return Ok(Vec::new(context.alloc));
+    }
+    let (names, keeps_aux) = (settings.erase, settings.keeps_aux);
+    let code = left_of_outline(context, names, keeps_aux, outlined, proved, notes)?;
+    let text = code_text(context.alloc, &code, Form::Accesses)?;
+    Ok(text.into_bytes())
+}
+
+/// The verdict on an outline. Its warnings are noted.
+fn verify_conditions<'a, R: Threads + Wait + Sync, P: Watcher + Copy + Sync>(
+    context: &Context<'_, R, P>,
+    settings: &Settings<'a>,
+    asked: Verification<'a>,
+    files: &Files<'a>,
+    notes: &mut Vec<u8>,
+    sides: &mut Sides,
+) -> Result<Answer<'a>, Stop>
+    ensures answer { IfOk result (IsAnswer settings.now (Verify asked.entry.outlines asked.entry.steps false asked.entry.text) files.now) }
+    ensures put { OnOk result (ArePut (Verify asked.entry.outlines asked.entry.steps false asked.entry.text) files.now sides.old sides.new) }
+    ensures stopped { IfErr result (IsStop settings.now (Verify asked.entry.outlines asked.entry.steps false asked.entry.text) files.now) }
+{
+    let alloc = context.alloc;
+    let outlined = verified_outline(alloc, asked, files, sides)?;
+    let warnings = warnings_of(alloc, outlined)?;
+    notes.extend_from_slice(&warnings)?;
+    let form = form_of(settings.format, asked.outlines);
+    let proved = prove(context, outlined, search_steps(asked.steps), Some(form))?;
+    push_stuck_warning(alloc, outlined, notes);
+    let counts = proved.counts(alloc)?;
+    let more = more_of(context, settings, outlined, proved, notes)?;
+    Ok(Answer::Verified(Verified {
+        form,
+        conditions: counts.conditions,
+        found: counts.found,
+        more,
+    }))
+}
+
+/// What is found of the runs of an outline's program alone. Where none breaks its specification, the warning of one that gets stuck is noted.
+fn walk<'a>(
+    alloc: Global,
+    settings: &Settings<'a>,
+    asked: Verification<'a>,
+    files: &Files<'a>,
+    notes: &mut Vec<u8>,
+    sides: &mut Sides,
+) -> Result<Answer<'a>, Stop>
+    ensures answer { IfOk result (IsAnswer settings.now (Verify asked.entry.outlines asked.entry.steps true asked.entry.text) files.now) }
+    ensures put { OnOk result (ArePut (Verify asked.entry.outlines asked.entry.steps true asked.entry.text) files.now sides.old sides.new) }
+    ensures stopped { IfErr result (IsStop settings.now (Verify asked.entry.outlines asked.entry.steps true asked.entry.text) files.now) }
+{
+    let outlined = verified_outline(alloc, asked, files, sides)?;
+    let runs = runs_only(alloc, outlined, asked.steps)?;
+    let mut text = Vec::new(alloc);
+    push_name(form_of(settings.format, asked.outlines), &mut text)?;
+    text.extend_from_slice(&runs.reported)?;
+    if !runs.is_broken {
+        notes.extend_from_slice(&runs.warnings)?;
+    }
+    Ok(Answer::Walked(runs.is_broken, text))
+}
+
+/// The verdict on an outline, or what is found of its program's runs alone.
+pub(crate) fn verify<'a, R: Threads + Wait + Sync, P: Watcher + Copy + Sync>(
+    context: &Context<'_, R, P>,
+    settings: &Settings<'a>,
+    asked: Verification<'a>,
+    files: &Files<'a>,
+    notes: &mut Vec<u8>,
+    sides: &mut Sides,
+) -> Result<Answer<'a>, Stop>
+    ensures answer { IfOk result (IsAnswer settings.now (Verify asked.entry.outlines asked.entry.steps asked.entry.is_runs_only asked.entry.text) files.now) }
+    ensures put { OnOk result (ArePut (Verify asked.entry.outlines asked.entry.steps asked.entry.is_runs_only asked.entry.text) files.now sides.old sides.new) }
+    ensures stopped { IfErr result (IsStop settings.now (Verify asked.entry.outlines asked.entry.steps asked.entry.is_runs_only asked.entry.text) files.now) }
+{
+    if asked.is_runs_only {
+        walk(context.alloc, settings, asked, files, notes, sides)
+    } else {
+        verify_conditions(context, settings, asked, files, notes, sides)
+    }
+}
+
+/// The verdict on an outline, and which small changes of its program its specification doesn't see. Its warnings are noted where it isn't verified.
+pub(crate) fn challenge_outline<'a, R: Threads + Wait + Sync, P: Watcher + Copy + Sync>(
+    context: &Context<'_, R, P>,
+    settings: &Settings<'a>,
+    has_refused: bool,
+    files: &Files<'a>,
+    notes: &mut Vec<u8>,
+) -> Result<Answer<'a>, Stop>
+    ensures answer { (o : Bor (List ℕ)) → IfOk result (IsAnswer settings.now (Challenge o has_refused) files.now) }
+    ensures stopped { (o : Bor (List ℕ)) → IfErr result (IsStop settings.now (Challenge o has_refused) files.now) }
+{
+    let alloc = context.alloc;
+    let outlined = outlined_of(alloc, files)?;
+    let form = match settings.format {
+        Format::Json => VerdictForm::Json(outlined.outline.name),
+        Format::Plain => VerdictForm::Alone,
+    };
+    *notes = warnings_of(alloc, outlined)?;
+    let proved = prove(context, outlined, MOST_STEPS, Some(form))?;
+    notes.clear();
+    let counts = proved.counts(alloc)?;
+    let options = Options {
+        steps_for_changes: MOST_STEPS_FOR_CHANGES,
+        with_refused: has_refused,
+    };
+    let found = challenge_changes(context, outlined, &proved, options)?;
+    Ok(Answer::Verified(Verified {
+        form,
+        conditions: counts.conditions,
+        found: counts.found,
+        more: found.lines,
+    }))
+}
+
 /// The files that a command over an outline names to write to.
 #[derive(Clone, Copy)]
 pub(crate) struct Written<'a> {
-    pub(crate) text: Option<&'a str>,
-    pub(crate) derivation: Option<&'a str>,
-    pub(crate) proofs: Option<&'a str>,
-    pub(crate) map: Option<&'a str>,
+    text: Option<&'a str>,
+    derivation: Option<&'a str>,
+    proofs: Option<&'a str>,
+    map: Option<&'a str>,
 }
 
 impl<'a> Written<'a> {
-    /// These files.
     pub(crate) fn new(
         text: Option<&'a str>,
         derivation: Option<&'a str>,
@@ -107,283 +331,79 @@ impl<'a> Written<'a> {
             map,
         }
     }
+}
 
-    /// What is wanted for them.
-    fn wanted(self) -> Wanted
-        ensures { result ≡ wanted_of self.entry.text self.entry.derivation self.entry.proofs self.entry.map }
-    {
-        Wanted {
-            has_text: self.text.is_some(),
-            has_derivation: self.derivation.is_some(),
-            has_proofs: self.proofs.is_some(),
-            has_map: self.map.is_some(),
-        }
+/// Puts what is named of an outline beside the output, but for its text and its proofs.
+fn put(outlined: &Outlined<'_>, written: Written<'_>, sides: &mut Sides) -> Result<(), AllocError>
+    ensures derivation { OnOk result (IsPut written.entry.derivation outlined.now.files.derivation.items sides.old.derivation.items sides.new.derivation.items) }
+    ensures text { OnOk result (sides.new.text.items ≡ sides.old.text.items) }
+    ensures proofs { OnOk result (sides.new.proofs.items ≡ sides.old.proofs.items) }
+{
+    if written.derivation.is_some() {
+        let derivation = &outlined.files.derivation;
+        sides.derivation.extend_from_slice(derivation)?;
     }
-}
-
-/// Writes what stands for an outline: into `sides` what is wanted there, and the text to the output where it isn't.
-pub(crate) fn outline<R: Threads + Wait + Sync, W: Out, P: Watcher + Copy + Sync>(
-    context: &Context<'_, R, P>,
-    written: Written<'_>,
-    files: &Files<'_>,
-    out: &mut W,
-    sides: &mut Sides,
-) -> Result<(), Stop>
-    requires { CanCount (W.failures out.old) }
-    ensures done { (o : Bor (List ℕ)) → OnOk result (IsDoneOver (Outline o written.entry.text written.entry.derivation written.entry.proofs written.entry.map) files.now sides.old.outline sides.new.outline (W.contents out.old) (W.contents out.new)) }
-    ensures failures { NoFailure result (W.failures out.old) (W.failures out.new) }
-    ensures stopped { (f : LineFormat) → (o : Bor (List ℕ)) → IfErr result (StopsLine f (Outline o written.entry.text written.entry.derivation written.entry.proofs written.entry.map) files.now (W.contents out.old) (W.contents out.new) (W.failures out.old) (W.failures out.new)) }
-{
-    let outlined = outlined_of(context.alloc, files)?;
-    let side = &mut sides.outline;
-    let wanted = written.wanted();
-    proved(write_outline(context, outlined, wanted, MOST_STEPS, out, side)?)
-}
-
-/// Verifies an outline, and runs its program.
-pub(crate) fn run_outline_of<R: Threads + Wait + Sync, W: Out, F: Out, P: Watcher + Copy + Sync>(
-    context: &Context<'_, R, P>,
-    options: RunOptions<'_>,
-    files: &Files<'_>,
-    out: &mut W,
-    faults: &mut F,
-    sides: &mut Sides,
-) -> Result<(), Stop>
-    requires out { CanCount (W.failures out.old) }
-    requires faults { CanCount (F.failures faults.old) }
-    ensures done { (o : Bor (List ℕ)) → (w : Option (Bor (List ℕ))) → OnOk result (IsDoneOver (RunOutline o options.entry.start options.entry.moves options.entry.limit w) files.now sides.old.outline sides.new.outline (W.contents out.old) (W.contents out.new)) }
-    ensures failures { NoFailure result (W.failures out.old) (W.failures out.new) }
-    ensures stopped { (f : LineFormat) → (o : Bor (List ℕ)) → (w : Option (Bor (List ℕ))) → IfErr result (StopsLine f (RunOutline o options.entry.start options.entry.moves options.entry.limit w) files.now (W.contents out.old) (W.contents out.new) (W.failures out.old) (W.failures out.new)) }
-    ensures quiet { OnErr result (F.failures faults.new ≡ F.failures faults.old) }
-    ensures silent { OnErr result (F.contents faults.new ≡ F.contents faults.old) }
-{
-    let expanded = expanded_of(files)?;
-    let (first, moving) = inputs(options.start, options.moves, files)?;
-    let outlined = outlined_in(context.alloc, expanded)?;
-    let how = OutlineRun {
-        start: first,
-        moves: moving,
-        limit: options.limit,
-        seed: options.seed,
-        is_drawn: options.is_drawn,
-        steps: MOST_STEPS,
-    };
-    let picture = &mut sides.picture;
-    // What is reported of moves goes out only after a run.
-    let mut passed = Taker::new(context.alloc, usize::MAX);
-    let reported = &mut passed;
-    proved(run_outline(context, outlined, how, out, reported, picture)?)?;
-    let _ = write_all(faults, passed.bytes());
+    if written.map.is_some() {
+        sides.map = outlined.map()?;
+    }
     Ok(())
 }
 
-/// What is wanted of the verification of an outline.
-#[derive(Clone, Copy)]
-pub(crate) struct Wish<'a> {
-    /// The most decisions of each search, or steps of runs.
-    pub(crate) steps: Option<u64>,
-    /// Whether runs of its program are followed alone.
-    pub(crate) is_runs_only: bool,
-    /// The file for the program's text.
-    pub(crate) text: Option<&'a str>,
-}
-
-impl<'a> Wish<'a> {
-    /// This is wanted.
-    pub(crate) fn new(steps: Option<u64>, is_runs_only: bool, text: Option<&'a str>) -> Wish<'a>
-        ensures { result ≡ record { steps = steps; is_runs_only = is_runs_only; text = text.entry } }
-    {
-        Wish {
-            steps,
-            is_runs_only,
-            text,
-        }
-    }
-}
-
-/// What is asked of the verification of an outline, which may be one of several.
-#[derive(Clone, Copy)]
-pub(crate) struct Verification<'a> {
-    pub(crate) outlines: Outlines<'a>,
-    pub(crate) format: rgc_line::Format,
-    pub(crate) wish: Wish<'a>,
-}
-
-impl<'a> Verification<'a> {
-    /// What a command asks for.
-    pub(crate) fn new(
-        outlines: Outlines<'a>,
-        format: rgc_line::Format,
-        wish: Wish<'a>,
-    ) -> Verification<'a>
-        ensures { result ≡ record { outlines = outlines.entry; format = format; wish = wish.entry } }
-    {
-        Verification {
-            outlines,
-            format,
-            wish,
-        }
-    }
-
-    /// How it is said that the outline is verified: after its name, where it is one of several.
-    fn form(self) -> VerdictForm<'a> {
-        let name = self.outlines.outline;
-        match self.format {
-            rgc_line::Format::Json => VerdictForm::Json(name),
-            rgc_line::Format::Plain if self.outlines.count > 1 => VerdictForm::Named(name),
-            rgc_line::Format::Plain => VerdictForm::Alone,
-        }
-    }
-}
-
-/// The most decisions of each search, where a command says so or not.
-pub(crate) fn search_steps(steps: Option<u64>) -> u64
-    ensures { result ≡ search_steps steps }
-{
-    match steps {
-        Some(steps) => steps,
-        None => MOST_STEPS,
-    }
-}
-
-/// Prints how many conditions of an outline's program were proved; else which have no proof, and a run that breaks the specification or that
-/// none was found. Its warnings go to the faults.
-pub(crate) fn prove_outline<R: Threads + Wait + Sync, W: Out, F: Out, P: Watcher + Copy + Sync>(
-    context: &Context<'_, R, P>,
-    asked: Verification<'_>,
-    outlined: &Outlined<'_>,
-    out: &mut W,
-    faults: &mut F,
-) -> Result<(), Stop>
-    requires out { CanCount (W.failures out.old) }
-    requires faults { CanCount (F.failures faults.old) }
-    ensures done { OnOk result (IsVerifyDone false outlined.now.files (W.contents out.old) (W.contents out.new)) }
-    ensures failures { NoFailure result (W.failures out.old) (W.failures out.new) }
-    ensures stopped { IfErr result (StopsVerify false asked.entry.wish.steps outlined.now.files (W.contents out.old) (W.contents out.new) (W.failures out.old) (W.failures out.new)) }
-    ensures quiet { OnErr result (F.failures faults.new ≡ F.failures faults.old) }
-    ensures silent { OnErr result (F.contents faults.new ≡ F.contents faults.old) }
-{
-    let form = asked.form();
-    let steps = search_steps(asked.wish.steps);
-    let mut reported = Vec::new(context.alloc);
-    let warnings = &mut reported;
-    let is_verified = verify_outline(context, outlined, form, steps, out, warnings)?;
-    if is_verified {
-        let _ = write_all(faults, &reported);
-        return Ok(());
-    }
-    Err(Stop::Outline(reported))
-}
-
-/// Prints a run of an outline's program that breaks its specification, or that none was found; then the warning of a run that gets stuck goes to
-/// the faults.
-fn walk_outline<W: Out, F: Out>(
+/// Puts the text of an outline beside the output where a file is named for it; else it is what is printed.
+fn printed_text(
     alloc: Global,
-    asked: Verification<'_>,
     outlined: &Outlined<'_>,
-    out: &mut W,
-    faults: &mut F,
-) -> Result<(), Stop>
-    requires out { CanCount (W.failures out.old) }
-    requires faults { CanCount (F.failures faults.old) }
-    ensures done { OnOk result (IsVerifyDone true outlined.now.files (W.contents out.old) (W.contents out.new)) }
-    ensures failures { NoFailure result (W.failures out.old) (W.failures out.new) }
-    ensures stopped { IfErr result (StopsVerify true asked.entry.wish.steps outlined.now.files (W.contents out.old) (W.contents out.new) (W.failures out.old) (W.failures out.new)) }
-    ensures quiet { OnErr result (F.failures faults.new ≡ F.failures faults.old) }
-    ensures silent { OnErr result (F.contents faults.new ≡ F.contents faults.old) }
-{
-    let steps = asked.wish.steps;
-    let mut reported = Vec::new(alloc);
-    let warnings = &mut reported;
-    proved(runs_only(alloc, outlined, steps, asked.form(), out, warnings)?)?;
-    let _ = write_all(faults, &reported);
-    Ok(())
-}
-
-/// Verifies an outline, or follows the runs of its program alone.
-fn verify_outlined<R: Threads + Wait + Sync, W: Out, F: Out, P: Watcher + Copy + Sync>(
-    context: &Context<'_, R, P>,
-    asked: Verification<'_>,
-    outlined: &Outlined<'_>,
-    out: &mut W,
-    faults: &mut F,
-) -> Result<(), Stop>
-    requires out { CanCount (W.failures out.old) }
-    requires faults { CanCount (F.failures faults.old) }
-    ensures done { OnOk result (IsVerifyDone asked.entry.wish.is_runs_only outlined.now.files (W.contents out.old) (W.contents out.new)) }
-    ensures failures { NoFailure result (W.failures out.old) (W.failures out.new) }
-    ensures stopped { IfErr result (StopsVerify asked.entry.wish.is_runs_only asked.entry.wish.steps outlined.now.files (W.contents out.old) (W.contents out.new) (W.failures out.old) (W.failures out.new)) }
-    ensures quiet { OnErr result (F.failures faults.new ≡ F.failures faults.old) }
-    ensures silent { OnErr result (F.contents faults.new ≡ F.contents faults.old) }
-{
-    if asked.wish.is_runs_only {
-        return walk_outline(context.alloc, asked, outlined, out, faults);
-    }
-    prove_outline(context, asked, outlined, out, faults)
-}
-
-/// Verifies an outline, or follows the runs of its program alone. Where a file is named for it, the program's text is put after what is there.
-pub(crate) fn verify<R: Threads + Wait + Sync, W: Out, F: Out, P: Watcher + Copy + Sync>(
-    context: &Context<'_, R, P>,
-    asked: Verification<'_>,
-    files: &Files<'_>,
-    out: &mut W,
-    faults: &mut F,
+    written: Written<'_>,
     sides: &mut Sides,
-) -> Result<(), Stop>
-    requires out { CanCount (W.failures out.old) }
-    requires faults { CanCount (F.failures faults.old) }
-    ensures done { OnOk result (IsDoneOver (Verify asked.entry.outlines asked.entry.wish.steps asked.entry.wish.is_runs_only asked.entry.wish.text) files.now sides.old.outline sides.new.outline (W.contents out.old) (W.contents out.new)) }
-    ensures failures { NoFailure result (W.failures out.old) (W.failures out.new) }
-    ensures stopped { (f : LineFormat) → IfErr result (StopsLine f (Verify asked.entry.outlines asked.entry.wish.steps asked.entry.wish.is_runs_only asked.entry.wish.text) files.now (W.contents out.old) (W.contents out.new) (W.failures out.old) (W.failures out.new)) }
-    ensures quiet { OnErr result (F.failures faults.new ≡ F.failures faults.old) }
-    ensures silent { OnErr result (F.contents faults.new ≡ F.contents faults.old) }
+) -> Result<Vec<u8>, AllocError>
+    ensures printed { IfOk result (λ text. IsTextOf (is_some written.entry.text) outlined.now.files text.items) }
+    ensures text { OnOk result (IsPut written.entry.text outlined.now.files.text.items sides.old.text.items sides.new.text.items) }
+    ensures derivation { OnOk result (sides.new.derivation.items ≡ sides.old.derivation.items) }
+    ensures proofs { OnOk result (sides.new.proofs.items ≡ sides.old.proofs.items) }
 {
-    if let Some(_) = asked.wish.text {
-        if asked.outlines.count != 1 {
-            return Err(Stop::Usage("error: --text takes one outline\n"));
-        }
+    let text = &outlined.files.text;
+    if written.text.is_none() {
+        return Vec::from_slice(alloc, text);
     }
-    let outlined = outlined_of(context.alloc, files)?;
-    let is_wanted = asked.wish.text.is_some();
-    match put_file(is_wanted, &outlined.files.text, &mut sides.outline.text) {
-        Ok(()) => verify_outlined(context, asked, outlined, out, faults),
-        Err(AllocError) => Err(Stop::Refused(Refusal::from(AllocError))),
-    }
+    sides.text.extend_from_slice(text)?;
+    Ok(Vec::new(alloc))
 }
 
-/// How it is said that the outline of a challenge is verified.
-fn challenge_form(format: rgc_line::Format, name: &str) -> VerdictForm<'_> {
-    match format {
-        rgc_line::Format::Json => VerdictForm::Json(name),
-        rgc_line::Format::Plain => VerdictForm::Alone,
-    }
-}
-
-/// Verifies an outline, and then reports which small changes of its program its specification doesn't see.
-pub(crate) fn challenge_outline<R: Threads + Wait + Sync, W: Out, P: Watcher + Copy + Sync>(
+/// What an outline's files derive; the proofs of all conditions, where a file is named for them, are put beside the output.
+fn derive<R: Threads + Wait + Sync, P: Watcher + Copy + Sync>(
     context: &Context<'_, R, P>,
-    has_refused: bool,
-    format: rgc_line::Format,
-    files: &Files<'_>,
-    out: &mut W,
-) -> Result<(), Stop>
-    requires { CanCount (W.failures out.old) }
-    ensures done { (o : Bor (List ℕ)) → (before after : OutlineSides) → OnOk result (IsDoneOver (Challenge o has_refused) files.now before after (W.contents out.old) (W.contents out.new)) }
-    ensures failures { NoFailure result (W.failures out.old) (W.failures out.new) }
-    ensures stopped { (f : LineFormat) → (o : Bor (List ℕ)) → IfErr result (StopsLine f (Challenge o has_refused) files.now (W.contents out.old) (W.contents out.new) (W.failures out.old) (W.failures out.new)) }
+    outlined: &Outlined<'_>,
+    written: Written<'_>,
+    sides: &mut Sides,
+) -> Result<Derived, Stop>
+    ensures derived { IfOk result (λ d. IsOfPieces outlined.now.files.text.items outlined.now.files.derivation.items (derived_program d) (derived_lines d)) }
+    ensures proofs { OnOk result (AreProofs written.entry.proofs outlined.now.files (map string_bytes sides.new.proofs.items)) }
+    ensures text { OnOk result (sides.new.text.items ≡ sides.old.text.items) }
+    ensures derivation { OnOk result (sides.new.derivation.items ≡ sides.old.derivation.items) }
+    ensures stopped { IfErr result (IsExpandStop (is_some written.entry.proofs) outlined.now.files) }
+{
+    if written.proofs.is_none() {
+        return Ok(derive_outline(context.alloc, &outlined.files)?);
+    }
+    let Proved { derived, proofs } = prove(context, outlined, MOST_STEPS, None)?;
+    sides.proofs = proofs;
+    Ok(derived)
+}
+
+/// What an outline stands for: into `sides` what is named for files, and the text to the output where it isn't.
+pub(crate) fn expand<'a, R: Threads + Wait + Sync, P: Watcher + Copy + Sync>(
+    context: &Context<'_, R, P>,
+    written: Written<'a>,
+    files: &Files<'a>,
+    sides: &mut Sides,
+) -> Result<Answer<'a>, Stop>
+    ensures answer { (s : LineSettings) → (o : Bor (List ℕ)) → IfOk result (IsAnswer s (Outline o written.entry.text written.entry.derivation written.entry.proofs written.entry.map) files.now) }
+    ensures put { (o : Bor (List ℕ)) → OnOk result (ArePut (Outline o written.entry.text written.entry.derivation written.entry.proofs written.entry.map) files.now sides.old sides.new) }
+    ensures stopped { (s : LineSettings) → (o : Bor (List ℕ)) → IfErr result (IsStop s (Outline o written.entry.text written.entry.derivation written.entry.proofs written.entry.map) files.now) }
 {
     let outlined = outlined_of(context.alloc, files)?;
-    let options = Options {
-        steps: MOST_STEPS,
-        steps_for_changes: MOST_STEPS_FOR_CHANGES,
-        with_refused: has_refused,
-    };
-    let mut reported = Vec::new(context.alloc);
-    let warnings = &mut reported;
-    let form = challenge_form(format, outlined.outline.name);
-    match challenge(context, outlined, options, form, out, warnings)? {
-        Some(_) => Ok(()),
-        None => Err(Stop::Outline(reported)),
-    }
+    let _ = derive(context, outlined, written, sides)?;
+    put(outlined, written, sides)?;
+    let text = printed_text(context.alloc, outlined, written, sides)?;
+    Ok(Answer::Expanded(text))
 }

@@ -1,20 +1,23 @@
 //! A line that is carried out over files in memory, and the status and the faults that report how that went.
 
-ghost use Rattle.std.specs.Prelude.{◌≡◌, ◌≤◌, ◌++◌, string_bytes, IfOk};
+ghost use Rattle.std.specs.Prelude.{◌≡◌, ◌≤◌, ◌++◌, [], string_bytes, IfOk, IfErr, OnOk};
 ghost use Rattle.rg_words.specs.Written.{CanCount};
-ghost use Rattle.rgc_commands.specs.Device.{is_on_device, IsDeviceDone};
-ghost use Rattle.rgc_commands.specs.Performed.{IsPerformed, IsTextReported, IsRefusedBy, IsMisfitBy, IsFailedBy};
-ghost use Rattle.rgc_commands.specs.PerformStopped.{IsBelow, Writes, TellsRefusal, refusal_status, reported_line};
-ghost use Rattle.rgc_commands.specs.Inner.Stops.{IsReported};
+ghost use Rattle.rgc_answers.specs.Failures.{NoFailure};
+ghost use Rattle.rgc_commands.specs.Delivered.{IsDelivered, IsCutOff};
+ghost use Rattle.rgc_commands.specs.Performed.{IsBelow, IsDone, IsFirst, IsPerformed, IsReported, IsUnverifiedReported, TellsRefusal, Writes, answer_status, refusal_status, reported_line};
+ghost use Rattle.rgc_commands.specs.Put.{ArePut};
+ghost use Rattle.rgc_commands.specs.Inner.Reported.{IsPassed};
 
-use crate::device::{carry_out_device, is_on_device};
-use crate::dispatch::carry_out_line;
+use crate::answered::answer;
+use crate::answers::{Answer, has_succeeded};
 use crate::explained::explained;
+use crate::rendered::render;
+use crate::runs::print_ready;
 use crate::sides::Sides;
 use crate::{Files, Stop};
 use rg_find::Watcher;
 use rg_words::{Out, Refusal, RefusalNumber, write_all};
-use rgc_answers::{Context, refusal_json};
+use rgc_answers::{Context, reason, refusal_json};
 use rgc_line::{Format, Line, Settings};
 use std::alloc::{AllocError, Global};
 use std::sync::Wait;
@@ -96,30 +99,103 @@ fn below_of(alloc: Global, line: &Line<'_>, files: &Files<'_>, refusal: Refusal)
     }
 }
 
-/// Reports why a command isn't done; the status.
-fn tell<F: Out>(
-    alloc: Global,
+/// Prints an answer; the lines that report moves of a run that were passed over.
+fn deliver<R: Threads + Wait + Sync, P, W: Out>(
+    context: &Context<'_, R, P>,
+    format: Format,
+    answer: &Answer<'_>,
+    out: &mut W,
+    picture: &mut Vec<u8>,
+) -> Result<String, Refusal>
+    requires { CanCount (W.failures out.old) }
+    ensures delivered { OnOk result (IsDelivered format answer.now (W.contents out.old) (W.contents out.new)) }
+    ensures passed { IfOk result (λ passed. IsPassed answer.now (string_bytes passed)) }
+    ensures failures { NoFailure result (W.failures out.old) (W.failures out.new) }
+    ensures stopped { IfErr result (IsCutOff answer.now (W.contents out.old) (W.contents out.new) (W.failures out.old) (W.failures out.new)) }
+{
+    match answer {
+        Answer::Clauses(clauses) => clauses.write_cnf(out)?,
+        Answer::Run(ready) => return print_ready(context, format, ready, out, picture),
+        _ => {
+            let text = render(context.alloc, format, answer)?;
+            write_all(out, &text)?;
+        }
+    }
+    Ok(String::new(context.alloc))
+}
+
+/// What is reported of an answer before its notes: why a search gave up, or the moves of a run that were passed over.
+fn first_of<'a>(answer: &'a Answer<'_>, passed: &'a str) -> &'a str
+    requires { IsPassed answer.now passed.now }
+    ensures { IsFirst answer.now result.now }
+{
+    match answer {
+        Answer::Found(_, judged) => reason(judged),
+        _ => passed,
+    }
+}
+
+/// The status of an answer that went out.
+fn answer_status(answer: &Answer<'_>) -> u8
+    ensures high { result ≤ 1 }
+    ensures is { result ≡ answer_status answer.now }
+{
+    if has_succeeded(answer) { 0 } else { 1 }
+}
+
+/// Prints what is found of conditions that have no proof, and reports what is noted of it, or that it didn't go out whole; the status.
+fn tell_unverified<W: Out, F: Out>(
+    settings: &Settings<'_>,
+    report: &[u8],
+    notes: &Vec<u8>,
+    out: &mut W,
+    faults: &mut F,
+) -> u8
+    requires out { CanCount (W.failures out.old) }
+    requires faults { CanCount (F.failures faults.old) }
+    ensures low { 1 ≤ result }
+    ensures high { result ≤ 3 }
+    ensures told { IsUnverifiedReported settings.now report.now result (W.contents out.old) (W.contents out.new) (W.failures out.old) (W.failures out.new) (F.contents faults.old) (F.contents faults.new) (F.failures faults.old) (F.failures faults.new) }
+{
+    match write_all(out, report) {
+        Ok(()) => {
+            tell_text(notes, faults);
+            1
+        }
+        Err(fault) => {
+            tell_refusal(
+                *notes.allocator(),
+                settings,
+                Refusal::from(fault),
+                &[],
+                faults,
+            )
+        }
+    }
+}
+
+/// Reports why a command has no answer; the status. What is found of an outline that isn't verified goes out.
+fn tell<W: Out, F: Out>(
     line: &Line<'_>,
     files: &Files<'_>,
     stop: &Stop,
+    notes: &Vec<u8>,
+    out: &mut W,
     faults: &mut F,
 ) -> u8
-    requires { CanCount (F.failures faults.old) }
+    requires out { CanCount (W.failures out.old) }
+    requires faults { CanCount (F.failures faults.old) }
     ensures low { 1 ≤ result }
     ensures high { result ≤ 3 }
-    ensures reported { IsReported line.now.settings stop.now result (F.contents faults.old) (F.contents faults.new) (F.failures faults.old) (F.failures faults.new) }
+    ensures told { IsReported line.now.settings stop.now result (W.contents out.old) (W.contents out.new) (W.failures out.old) (W.failures out.new) (F.contents faults.old) (F.contents faults.new) (F.failures faults.old) (F.failures faults.new) }
 {
+    let alloc = *notes.allocator();
     match stop {
         Stop::Device(words) => {
             tell_text(words.as_bytes(), faults);
             3
         }
-        Stop::Reported => 1,
-        Stop::GaveUp(why) => {
-            tell_text(why.as_bytes(), faults);
-            1
-        }
-        Stop::Outline(lines) => {
+        Stop::Fault(lines) => {
             tell_text(lines, faults);
             1
         }
@@ -127,6 +203,7 @@ fn tell<F: Out>(
             tell_text(words.as_bytes(), faults);
             2
         }
+        Stop::Unverified(report) => tell_unverified(&line.settings, report, notes, out, faults),
         Stop::Refused(refusal) => {
             let below = below_of(alloc, line, files, *refusal);
             tell_refusal(alloc, &line.settings, *refusal, &below, faults)
@@ -134,35 +211,12 @@ fn tell<F: Out>(
     }
 }
 
-/// Does what a line about a device asks for; the status, as `perform` gives it.
-fn perform_on_device<R: Threads + Wait + Sync, W: Out, F: Out, P: Watcher + Copy + Sync>(
-    context: &Context<'_, R, P>,
-    line: &Line<'_>,
-    files: &Files<'_>,
-    out: &mut W,
-    faults: &mut F,
-    picture: &mut Vec<u8>,
-) -> u8
-    requires out { CanCount (W.failures out.old) }
-    requires faults { CanCount (F.failures faults.old) }
-    ensures status { result ≤ 3 }
-    ensures failures { result ≡ 0 → W.failures out.new ≡ W.failures out.old }
-    ensures done { result ≡ 0 → IsDeviceDone line.now files.now (W.contents out.old) (W.contents out.new) }
-    ensures reported { 1 ≤ result → IsTextReported (F.contents faults.old) (F.contents faults.new) (F.failures faults.old) (F.failures faults.new) }
-{
-    match carry_out_device(context, line, files, out, faults, picture) {
-        Ok(()) => 0,
-        Err(stop) => tell(context.alloc, line, files, &stop, faults),
-    }
-}
-
 /// Does the command over the bytes of its files in the threads of the context (a run has one for each part besides), and answers the program's
 /// status: 0 done, 1 refused or no proof found, 2 where the words don't fit (a range of conditions that isn't one, no refusal of the number to
 /// explain), 3 where a file can't be read, where the output can't be written, or where memory is refused. A refusal is one line on `faults`,
-/// and what explains it below, where that is asked; why the search of `find` gave up is one line there. Moves of a run that were passed over are
-/// reported there too, and change no status. Of a line about a device (words are erased, or code is that of an outline) whose status isn't 0 it is
-/// promised alone that a text is reported. Each search has a copy of the watcher, which hears of a long one. A run that is drawn has its picture
-/// put after what `sides` holds, and an outline the files that it stands for and its map; of the picture and the map nothing is promised.
+/// and what explains it below, where that is asked; why the search of `find` gave up is one line there. Warnings, what is lost where words are erased, and
+/// moves of a run that were passed over are reported there too, and change no status. Each search has a copy of the watcher, which hears of a long one.
+/// What is written beside the output is put into `sides`.
 pub fn perform<R: Threads + Wait + Sync, W: Out, F: Out, P: Watcher + Copy + Sync>(
     context: &Context<'_, R, P>,
     line: &Line<'_>,
@@ -175,24 +229,40 @@ pub fn perform<R: Threads + Wait + Sync, W: Out, F: Out, P: Watcher + Copy + Syn
     requires faults { CanCount (F.failures faults.old) }
     ensures status { result ≤ 3 }
     ensures failures { result ≡ 0 → W.failures out.new ≡ W.failures out.old }
-    // What is said to be proved of an outline is so of the files that it stands for, which are those that are written.
-    ensures done { result ≡ 0 → IsPerformed line.now files.now sides.old.outline sides.new.outline (W.contents out.old) (W.contents out.new) }
 
-    // There is no proof, and the output says why; or it says that the search gave up, and the faults why; or the files are refused, nothing
-    // went out, and the refusal is reported; or an outline is refused.
-    ensures refused { result ≡ 1 → IsRefusedBy (is_on_device line.now) line.now files.now (W.contents out.old) (W.contents out.new) (W.failures out.old) (W.failures out.new) (F.contents faults.old) (F.contents faults.new) (F.failures faults.old) (F.failures faults.new) }
+    // What is said to be so is so of the files, and went out; what is wanted beside it was put.
+    ensures done { result ≡ 0 → IsDone line.now files.now (W.contents out.old) (W.contents out.new) }
+    ensures sides { result ≡ 0 → ArePut line.now.command files.now sides.old sides.new }
 
-    // The words don't fit, nothing went out, and that is reported.
-    ensures misfit { result ≡ 2 → IsMisfitBy (is_on_device line.now) line.now (W.contents out.old) (W.contents out.new) (W.failures out.old) (W.failures out.new) (F.contents faults.old) (F.contents faults.new) (F.failures faults.old) (F.failures faults.new) }
-
-    // A file can't be read; or the writer failed, or memory was refused; and that is reported.
-    ensures failed { result ≡ 3 → IsFailedBy (is_on_device line.now) line.now files.now (W.contents out.old) (W.contents out.new) (W.failures out.old) (W.failures out.new) (F.contents faults.old) (F.contents faults.new) (F.failures faults.old) (F.failures faults.new) }
+    // By the status: what went out and what is reported, and why.
+    ensures performed { IsPerformed result line.now files.now (W.contents out.old) (W.contents out.new) (W.failures out.old) (W.failures out.new) (F.contents faults.old) (F.contents faults.new) (F.failures faults.old) (F.failures faults.new) }
 {
-    if is_on_device(line) {
-        return perform_on_device(context, line, files, out, faults, &mut sides.picture);
-    }
-    match carry_out_line(context, line, files, out, faults, sides) {
-        Ok(()) => 0,
-        Err(stop) => tell(context.alloc, line, files, &stop, faults),
+    let alloc = context.alloc;
+    let mut notes = Vec::new(alloc);
+    let answer = match answer(context, line, files, &mut notes, sides) {
+        Ok(answer) => answer,
+        Err(stop) => {
+            let status = tell(line, files, &stop, &notes, out, faults);
+            drop(stop);
+            return status;
+        }
+    };
+    match deliver(
+        context,
+        line.settings.format,
+        &answer,
+        out,
+        &mut sides.picture,
+    ) {
+        Ok(passed) => {
+            tell_both(first_of(&answer, &passed).as_bytes(), &notes, faults);
+            let status = answer_status(&answer);
+            drop(answer);
+            status
+        }
+        Err(refusal) => {
+            drop(answer);
+            tell_refusal(alloc, &line.settings, refusal, &[], faults)
+        }
     }
 }

@@ -1,6 +1,5 @@
 //! What a command writes beside its output.
 
-use rgc_outlines::Sides as OutlineSides;
 use std::alloc::Global;
 
 /// What a command writes beside its output, to files that it names.
@@ -8,8 +7,14 @@ use std::alloc::Global;
 pub struct Sides {
     /// The picture of a run.
     pub picture: Vec<u8>,
-    /// What stands for an outline.
-    pub outline: OutlineSides,
+    /// The text that an outline stands for.
+    pub text: Vec<u8>,
+    /// Its derivation, which may be longer than a file may be.
+    pub derivation: Vec<u8>,
+    /// The pieces of the proofs that were found of it.
+    pub proofs: Vec<String>,
+    /// Which place of the outline each line of its derivation and each condition comes from.
+    pub map: Vec<u8>,
 }
 
 impl Sides {
@@ -17,7 +22,10 @@ impl Sides {
     pub fn new(alloc: Global) -> Sides {
         Sides {
             picture: Vec::new(alloc),
-            outline: OutlineSides::new(alloc),
+            text: Vec::new(alloc),
+            derivation: Vec::new(alloc),
+            proofs: Vec::new(alloc),
+            map: Vec::new(alloc),
         }
     }
 }

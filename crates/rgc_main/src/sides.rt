@@ -1,7 +1,7 @@
 //! What goes to files beside the output of a command, and how large proofs and derivations are spread over several files.
 
 use crate::largest::{Kind, largest_told};
-use crate::pieces::{cut_at, cut_proofs};
+use crate::pieces::cut_at;
 use crate::replace::{Output, write_outputs};
 use crate::{Means, reported};
 use rg_words::limits::MOST_TEXT_BYTES;
@@ -17,6 +17,15 @@ pub fn can_hold(rt: &HostRuntime, names: &[&str], pieces: &[&[u8]], option: &str
         return false;
     }
     true
+}
+
+/// The bytes of pieces of proofs.
+pub fn slices_of(alloc: Global, pieces: &[String]) -> Result<Vec<&[u8]>, AllocError> {
+    let mut slices = Vec::new(alloc);
+    for piece in pieces {
+        slices.push(piece.as_bytes())?;
+    }
+    Ok(slices)
 }
 
 /// Adds a file that may not be named.
@@ -80,12 +89,15 @@ fn can_hold_all<R>(
     }
     let map = map_of(alloc, files)?;
     if !holds_derivation {
-        let whole = sides.outline.derivation.as_slice();
+        let whole = sides.derivation.as_slice();
         reported(rt, &largest_told(alloc, Kind::Derivation, whole, &map)?);
     }
     if !holds_proofs {
-        let proofs = sides.outline.proofs.as_slice();
-        reported(rt, &largest_told(alloc, Kind::Proofs, proofs, &map)?);
+        let mut whole = Vec::new(alloc);
+        for piece in proofs {
+            whole.extend_from_slice(piece)?;
+        }
+        reported(rt, &largest_told(alloc, Kind::Proofs, &whole, &map)?);
     }
     Ok(false)
 }
@@ -100,9 +112,9 @@ fn write_outline<R>(
     map: Option<&str>,
 ) -> Result<u8, AllocError> {
     let (rt, alloc) = (means.rt, means.rt.alloc());
-    let side = &sides.outline;
+    let side = sides;
     let derivation = cut_at(alloc, &side.derivation, cuts_of(files, &side.derivation))?;
-    let proofs = cut_proofs(alloc, &side.proofs)?;
+    let proofs = slices_of(alloc, &side.proofs)?;
     if !can_hold_all(means, files, &derivation, &proofs, sides)? {
         return Ok(1);
     }
@@ -130,7 +142,7 @@ pub fn write_sides<R>(
             return write_outline(means, files, sides, text, map);
         }
         Command::Verify { text, .. } => {
-            add_output(&mut outputs, text, &sides.outline.text, "text")?;
+            add_output(&mut outputs, text, &sides.text, "text")?;
         }
         _ => {}
     }

@@ -1,5 +1,3 @@
 -- What only contracts of private functions and proofs speak of: no public contract reaches it.
-pub mod Counts
 pub mod Proved
 pub mod Answers
-pub mod OutlinedProved

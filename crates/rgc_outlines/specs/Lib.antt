@@ -3,14 +3,10 @@ pub mod Cut
 pub mod Unproved
 pub mod Refuted
 pub mod WalkedRefuted
-pub mod Verified
+pub mod Proved
+pub mod Verdict
 pub mod Refused
 pub mod Inner
 pub mod Changed
-pub mod Challenged
 pub mod ChallengeUnproved
-pub mod Outlined
 pub mod Built
-pub mod Written
-pub mod Stopped
-pub mod RunStopped

@@ -1,5 +1,5 @@
 -- Why nothing is said of an outline.
-use Rattle.std.specs.Prelude.{◌⊎◌, ℕ, List}
+use Rattle.std.specs.Prelude.{◌⊎◌, ℕ, List, Bool, true, false}
 use Rattle.rg_words.specs.declared.refusal.Refusal.{Refusal}
 use Rattle.rg_outline_reports.specs.declared.files.OutlineFiles.{OutlineFiles}
 use Rattle.rg_tree.specs.Lines.{LineTree}
@@ -14,3 +14,8 @@ abbrev pub IsVerifyRefusal : OutlineFiles → ℕ → Refusal → Type 0
 IsVerifyRefusal files steps e =
     IsOfPiecesRefusal files.text.items files.derivation.items e
     ⊎ ((program : ProgramTree) × (lines : List LineTree) × IsOfPieces files.text.items files.derivation.items program lines × IsSearchRefusal (conditions_of program lines) steps e)
+
+-- why an outline isn't expanded: for such a fault; else, where proofs are wanted, of the search for them
+abbrev pub IsExpandRefusal : Bool → OutlineFiles → ℕ → Refusal → Type 0
+IsExpandRefusal true files steps e = IsVerifyRefusal files steps e
+IsExpandRefusal false files steps e = IsOfPiecesRefusal files.text.items files.derivation.items e

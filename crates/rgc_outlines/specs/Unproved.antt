@@ -1,6 +1,5 @@
--- What is reported of an outline that isn't verified.
-use Rattle.std.specs.Prelude.{ℕ, ◌+◌, List, length, Option}
-use Rattle.std.specs.Io.KnownBytes.{Appends}
+-- Outlines of which some conditions have no proof.
+use Rattle.std.specs.Prelude.{◌+◌, List, length}
 use Rattle.rg_outline_reports.specs.declared.files.OutlineFiles.{OutlineFiles}
 use Rattle.rg_tree.specs.Lines.{LineTree}
 use Rattle.rg_tree.specs.Statements.{ProgramTree}
@@ -16,10 +15,3 @@ pub record AreUnprovedOf (files : OutlineFiles) (unproved : List Unproved) : Typ
   pub lines : List LineTree
   pub derived : IsOfPieces files.text.items files.derivation.items program lines
   pub are : AreUnproved (conditions_of program lines) 1 (length (conditions_of program lines) + 1) unproved
-
--- the same of some conditions; and a text went out
-pub record HasReportedUnverified (files : OutlineFiles) (old new : Option (List ℕ)) : Type 0 where
-  pub unproved : List Unproved
-  pub are : AreUnprovedOf files unproved
-  pub reported : List ℕ
-  pub printed : Appends old new reported

@@ -204,9 +204,9 @@ fn answer_at<R: Threads + Wait + Sync, P: Watcher + Copy>(
 }
 
 /// Adds what is known of a changed program.
-fn keep(answers: &mut Vec<Answered>, answered: Answered) -> Result<(), AllocError>
-    requires kept { All IsAnswered answers.old.items }
-    requires said { IsAnswered answered }
+fn add_answer(answers: &mut Vec<Answered>, answered: Answered) -> Result<(), AllocError>
+    requires before { All IsAnswered answers.old.items }
+    requires one { IsAnswered answered }
     ensures { OnOk result (All IsAnswered answers.new.items) }
 {
     answers.push(answered)?;
@@ -227,7 +227,7 @@ pub(crate) fn answers_of<R: Threads + Wait + Sync, P: Watcher + Copy + Sync>(
     let mut answers = Vec::new(context.alloc);
     for index in 0..candidates.len() {
         let answered = answer_at(context, subject, candidates, places, index)?;
-        keep(&mut answers, answered)?;
+        add_answer(&mut answers, answered)?;
     }
     Ok(answers)
 }

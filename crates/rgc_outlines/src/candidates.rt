@@ -124,7 +124,7 @@ fn read_at(
 }
 
 /// Adds a candidate, unless its program is that of the outline, or stands there already.
-fn keep_new(
+fn add_new(
     original: Original<'_>,
     candidates: &mut Vec<Candidate>,
     candidate: Candidate,
@@ -148,7 +148,7 @@ pub(crate) fn candidates_of<R: Threads + Sync, P>(
     let mut candidates = Vec::new(context.alloc);
     for (index, change) in changes.iter().enumerate() {
         if let Some(candidate) = read_at(context.alloc, original.source, change, read, index)? {
-            keep_new(original, &mut candidates, candidate)?;
+            add_new(original, &mut candidates, candidate)?;
         }
     }
     Ok(candidates)

@@ -36,14 +36,14 @@ fn push_answered(
 ) -> Result<(), AllocError> {
     let mut change = Vec::new(alloc);
     push_change_alone(alloc, &mut change, outline.source, &answered.change)?;
-    let told = ChangeTold {
+    let entry = ChangeTold {
         place: answered.change.place,
         change: &change,
         group: group_word(answered.change.group),
         answer: answer_word(answered.answer),
         run: &answered.reported,
     };
-    push_json_of_change(lines, alloc, outline, told)
+    push_json_of_change(lines, alloc, outline, entry)
 }
 
 /// A line for each change, in their order, and then one for all.
@@ -58,11 +58,11 @@ pub(crate) fn json_lines_of(
     for answered in answers {
         push_answered(alloc, &mut lines, outline, answered)?;
     }
-    let told = ChangesTold {
+    let entry = ChangesTold {
         surviving: counts.surviving as u64,
         breaking: counts.breaking as u64,
         undecided: counts.undecided as u64,
     };
-    push_json_of_changes(&mut lines, alloc, outline, told, unspoken)?;
+    push_json_of_changes(&mut lines, alloc, outline, entry, unspoken)?;
     Ok(lines)
 }

@@ -1,28 +1,20 @@
-//! The challenge of an outline, to what is printed.
+//! The challenge of an outline: what is known of each small change of its program.
 
-ghost use Rattle.std.specs.Prelude.{◌≡◌, ℕ, List, Option, None, All, IfOk, IfErr, IfSome};
-ghost use Rattle.rg_words.specs.Stopped.{IsStopped};
-ghost use Rattle.rg_words.specs.Written.{CanCount};
+ghost use Rattle.std.specs.Prelude.{All, IfOk};
 ghost use Rattle.rgc_outlines.specs.Changed.{IsAnswered};
-ghost use Rattle.rgc_outlines.specs.Challenged.{IsChallengeStopped};
-ghost use Rattle.rgc_outlines.specs.Unproved.{HasReportedUnverified};
-ghost use Rattle.rgc_outlines.specs.Verified.{HasPrintedVerdict};
-ghost use Rattle.rgc_answers.specs.Failures.{NoFailure};
 
 use crate::answers::{Answer, Answered, Subject, answers_of};
 use crate::candidates::{Original, candidates_of};
 use crate::challenge_json::json_lines_of;
 use crate::known::Known;
-use crate::verdict::VerdictForm;
-use crate::{derive_outline, verify_outline};
+use crate::proved::Proved;
 use rg_find::Watcher;
 use rg_outline_challenge::{
     Change, Counts, changes_of, push_change, push_counts, push_survivors, push_unspoken,
 };
 use rg_outline_reports::{Format, OutlineSource, Outlined};
 use rg_outline_syntax::Span;
-use rg_words::{Out, Refusal, write_all};
-use rgc::{Derived, ProofsFound, find_proofs};
+use rg_words::Refusal;
 use rgc_answers::Context;
 use std::alloc::{AllocError, Global};
 use std::sync::Wait;
@@ -31,12 +23,19 @@ use std::thread::Threads;
 /// How an outline is challenged.
 #[derive(Clone, Copy)]
 pub struct Options {
-    /// The most decisions of each search for the outline itself.
-    pub steps: u64,
-    /// The most decisions of each search for a changed program, and of those whose proofs it shares.
+    /// The most decisions of each search for a changed program.
     pub steps_for_changes: u64,
-    /// Whether the changes that don't survive are printed, too, each with a run that breaks the specification, if one was found.
+    /// Whether the changes that don't survive are reported, too, each with a run that breaks the specification, if one was found.
     pub with_refused: bool,
+}
+
+/// What is known of the changes of an outline's program.
+#[derive(Drop)]
+pub struct Challenge {
+    /// Each change with what is known of it, in the order of the changes.
+    pub answers: Vec<Answered>,
+    /// What is reported of them.
+    pub lines: Vec<u8>,
 }
 
 /// How many have this answer.
@@ -55,13 +54,13 @@ fn push_refused(
     answers: &[Answered],
 ) -> Result<(), AllocError> {
     for answered in answers {
-        let said: &[u8] = match answered.answer {
+        let what: &[u8] = match answered.answer {
             Answer::Survives => continue,
             Answer::Breaks => b": breaks the specification\n",
             Answer::Undecided => b": undecided\n",
         };
         push_change(alloc, lines, outline.name, outline.source, &answered.change)?;
-        lines.extend_from_slice(said)?;
+        lines.extend_from_slice(what)?;
         lines.extend_from_slice(&answered.reported)?;
         lines.push(b'\n')?;
     }
@@ -79,7 +78,7 @@ fn survivors(alloc: Global, answers: &[Answered]) -> Result<Vec<Change>, AllocEr
     Ok(changes)
 }
 
-/// What is printed.
+/// What is reported of the changes.
 fn lines_of(
     alloc: Global,
     outline: OutlineSource<'_>,
@@ -101,40 +100,25 @@ fn lines_of(
     }
     push_counts(&mut lines, counts)?;
     push_unspoken(&mut lines, outline.source, unspoken)?;
-    let alive = survivors(alloc, answers)?;
-    push_survivors(alloc, &mut lines, outline.name, outline.source, &alive)?;
+    let surviving = survivors(alloc, answers)?;
+    push_survivors(alloc, &mut lines, outline.name, outline.source, &surviving)?;
     Ok(lines)
 }
 
-/// What is proved of an outline's program by what was found.
-fn known_by<'p>(
-    alloc: Global,
-    derived: &Derived,
-    found: &'p ProofsFound,
-) -> Result<Known<'p>, Refusal> {
-    match found {
-        ProofsFound::Proofs(proofs) => {
-            let conditions = derived.conditions(alloc)?;
-            Known::of(alloc, &conditions, proofs)
-        }
-        ProofsFound::Failures(_) => Ok(Known::nothing(alloc)),
-    }
-}
-
-/// Asks of each small change of an outline's program whether its specification still holds.
+/// Asks of each of these changes of an outline's program whether its specification still holds.
 fn answers_in<R: Threads + Wait + Sync, P: Watcher + Copy + Sync>(
     context: &Context<'_, R, P>,
     outlined: &Outlined<'_>,
-    source: &[u8],
+    proved: &Proved,
     changes: &[Change],
     steps: u64,
 ) -> Result<Vec<Answered>, Refusal>
     ensures { IfOk result (λ answers. All IsAnswered answers.items) }
 {
-    let (rt, alloc, threads) = (context.rt, context.alloc, context.threads);
-    let derived = derive_outline(alloc, &outlined.files)?;
-    let found = find_proofs(rt, alloc, threads, &derived, steps, context.watcher)?;
-    let known = known_by(alloc, &derived, &found)?;
+    let alloc = context.alloc;
+    let source = outlined.outline.source;
+    let conditions = proved.derived.conditions(alloc)?;
+    let known = Known::of(alloc, &conditions, &proved.proofs)?;
     let original = Original {
         source,
         text: &outlined.files.text,
@@ -149,67 +133,29 @@ fn answers_in<R: Threads + Wait + Sync, P: Watcher + Copy + Sync>(
     answers_of(context, subject, &candidates)
 }
 
-/// Asks of each small change of an outline's program whether its specification still holds, and prints what it found.
-fn challenge_verified<R: Threads + Wait + Sync, W: Out, P: Watcher + Copy + Sync>(
-    context: &Context<'_, R, P>,
-    outlined: &Outlined<'_>,
-    options: Options,
-    out: &mut W,
-) -> Result<Vec<Answered>, Refusal>
-    requires { CanCount (W.failures out.old) }
-    ensures answers { IfOk result (λ answers. All IsAnswered answers.items) }
-    ensures failures { NoFailure result (W.failures out.old) (W.failures out.new) }
-    ensures stopped { IfErr result (IsStopped (λ _. Unit {0}) (W.contents out.old) (W.contents out.new) (W.failures out.old) (W.failures out.new)) }
-{
-    let (outline, read) = (outlined.outline, outlined.read);
-    let (source, steps) = (outline.source, options.steps_for_changes);
-    let found = changes_of(context.alloc, source, &read.tokens, &read.written)?;
-    let answers = answers_in(context, outlined, source, &found.changes, steps)?;
-    let lines = lines_of(context.alloc, outline, options, &found.unspoken, &answers)?;
-    write_all(out, &lines)?;
-    Ok(answers)
-}
-
-/// Verifies an outline, as `crate::verify_outline` does. Where it is verified, changes its program in each small way, asks of each changed
-/// program whether the same specification still holds, and prints what it found: where it is wanted, the changes that don't survive; then how
-/// many changes there are of each kind; then those that survive, with their lines, first those that touch words of the specification. Where
-/// it isn't verified, answers nothing. Where the outline is reported of as JSON, all changes are told, a line each, and then how many there are of each
-/// kind. `form` is that of the verdict. The changed programs are asked side by side, in threads; what is printed is the same for any count of
-/// threads.
+/// Changes the program of an outline that is proved in each small way, and asks of each changed program whether the same specification still holds, by the
+/// proofs of the outline and by searches of its own. What is reported are, where it is wanted, the changes that don't survive; then how
+/// many changes there are of each kind; then those that survive, with their lines, first those that touch words of the specification.
+/// Where the outline is reported of as JSON, all changes are reported, a line each, and then how many there are of each
+/// kind. The changed programs are asked side by side, in threads; the answers are the same for any count of threads.
 ///
 /// # Errors
 ///
-/// - As `crate::verify_outline`.
-/// - After the verdict, where the files of a changed outline are too deep, where more decisions are asked than a search may make, where the
-///   writer failed, or where memory is refused.
-pub fn challenge<R: Threads + Wait + Sync, W: Out, P: Watcher + Copy + Sync>(
+/// Where the files of a changed outline are too deep, where more decisions are asked than a search may make, or where memory is refused.
+pub fn challenge_changes<R: Threads + Wait + Sync, P: Watcher + Copy + Sync>(
     context: &Context<'_, R, P>,
     outlined: &Outlined<'_>,
+    proved: &Proved,
     options: Options,
-    form: VerdictForm<'_>,
-    out: &mut W,
-    warnings: &mut Vec<u8>,
-) -> Result<Option<Vec<Answered>>, Refusal>
-    requires { CanCount (W.failures out.old) }
-    ensures verdict { IfOk result (λ found. IfSome found (λ _. (middle : Option (List ℕ)) × HasPrintedVerdict form.entry outlined.now.files (W.contents out.old) middle)) }
+) -> Result<Challenge, Refusal>
     // A change is said to survive only where its text, the pieces of a derivation and proofs are accepted; and to break the specification only where
     // its text's program doesn't satisfy it.
-    ensures answers { IfOk result (λ found. IfSome found (λ answers. All IsAnswered answers.items)) }
-    ensures reported { IfOk result (λ found. found ≡ None → HasReportedUnverified outlined.now.files (W.contents out.old) (W.contents out.new)) }
-    ensures failures { NoFailure result (W.failures out.old) (W.failures out.new) }
-    // Where a changed program is refused, nothing went out after the verdict, unless the writer failed; of why it is refused nothing is said.
-    ensures stopped { IfErr result (IsChallengeStopped form.entry outlined.now.files options.steps (W.contents out.old) (W.contents out.new) (W.failures out.old) (W.failures out.new)) }
+    ensures { IfOk result (λ found. All IsAnswered found.answers.items) }
 {
-    let steps = options.steps;
-    let is_verified = match verify_outline(context, outlined, form, steps, out, warnings) {
-        Ok(is_verified) => is_verified,
-        Err(refusal) => return Err(refusal),
-    };
-    if !is_verified {
-        return Ok(None);
-    }
-    match challenge_verified(context, outlined, options, out) {
-        Ok(answers) => Ok(Some(answers)),
-        Err(refusal) => Err(refusal),
-    }
+    let (outline, read) = (outlined.outline, outlined.read);
+    let found = changes_of(context.alloc, outline.source, &read.tokens, &read.written)?;
+    let steps = options.steps_for_changes;
+    let answers = answers_in(context, outlined, proved, &found.changes, steps)?;
+    let lines = lines_of(context.alloc, outline, options, &found.unspoken, &answers)?;
+    Ok(Challenge { answers, lines })
 }

@@ -11,7 +11,7 @@ const MULTIPLIER: u64 = 0x9E37_79B9_7F4A_7C15;
 
 /// A condition with a proof.
 #[derive(Clone, Copy)]
-struct Proved<'p> {
+struct ProvedCondition<'p> {
     /// Equal conditions have equal prints. Two others could have equal ones, too, so the lines are checked wherever they are used.
     print: u64,
     /// The lines of its section.
@@ -21,7 +21,7 @@ struct Proved<'p> {
 /// Conditions with their proofs.
 #[derive(Drop)]
 pub struct Known<'p> {
-    proved: Vec<Proved<'p>>,
+    proved: Vec<ProvedCondition<'p>>,
 }
 
 /// A print with a number more.
@@ -103,14 +103,14 @@ fn print_of(condition: &Condition) -> u64 {
 /// Adds the conditions that have a section, each with its lines. (One that needs no section is found again at once.)
 fn add_proved<'p>(
     conditions: &[Condition],
-    placed: &[Option<SectionBytes<'p>>],
-    proved: &mut Vec<Proved<'p>>,
+    sections: &[Option<SectionBytes<'p>>],
+    proved: &mut Vec<ProvedCondition<'p>>,
 ) -> Result<(), AllocError> {
-    for (condition, section) in conditions.iter().zip(placed) {
+    for (condition, section) in conditions.iter().zip(sections) {
         if let Some(section) = section {
             let print = print_of(condition);
             let lines = section.bytes;
-            proved.push(Proved { print, lines })?;
+            proved.push(ProvedCondition { print, lines })?;
         }
     }
     Ok(())
@@ -137,9 +137,9 @@ impl<'p> Known<'p> {
         let count = conditions.len();
         let mut proved = Vec::new(alloc);
         for piece in proofs {
-            let sections = proof_sections(alloc, piece.as_bytes(), count)?;
-            let placed = place_sections(alloc, &sections, count)?;
-            add_proved(conditions, &placed, &mut proved)?;
+            let read = proof_sections(alloc, piece.as_bytes(), count)?;
+            let sections = place_sections(alloc, &read, count)?;
+            add_proved(conditions, &sections, &mut proved)?;
         }
         Ok(Known { proved })
     }

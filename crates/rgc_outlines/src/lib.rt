@@ -1,37 +1,31 @@
-//! What is done with an outline: it is verified, its runs are followed, its program is run or changed in small ways, and the files that it stands
-//! for are written. What is said of it is said only where its text, its derivation and its proofs are accepted as any files are.
+//! What is done with an outline: it is proved, its runs are followed, and its program is changed in small ways. What is said of it is said only where its
+//! text, its derivation and its proofs are accepted as any files are.
 #![tactic(auto)]
 
 mod answers;
 mod asked;
-mod built;
 mod candidates;
 mod challenge_json;
 mod challenges;
 mod claims;
-mod failures;
 mod known;
 mod naming;
-mod outlines;
 mod pieces;
-mod run;
+mod proved;
+mod unproved;
 mod verdict;
-mod verify;
 mod walk;
-mod write;
+mod warnings;
 
 pub use answers::{Answer, Answered};
 pub use asked::is_proved;
-pub use built::build_outline;
-pub use challenges::{Options, challenge};
+pub use challenges::{Challenge, Options, challenge_changes};
 pub use claims::confirmed;
-pub use failures::conditions_reported;
 pub use known::Known;
-pub use naming::{Naming, push_reported};
-pub use outlines::verify_outline;
+pub use naming::{Naming, draw_reported, naming_of, push_reported};
 pub use pieces::{derive_outline, short_derivations_are_accepted, short_derivations_are_built};
-pub use run::{RunOutline, run_outline};
-pub use verdict::VerdictForm;
-pub use verify::{print_verified, short_verdicts_are_accepted};
-pub use walk::{WalkReported, runs_only, tell_walk, walk_text};
-pub use write::{Sides, Wanted, put_file, write_outline};
+pub use proved::{Counts, Proved, prove_outline, proved_outlines_are_accepted};
+pub use unproved::{unproved_report, walk_report};
+pub use verdict::{VerdictForm, push_name, verdict_line};
+pub use walk::{WalkedRuns, push_stuck_warning, runs_only, walk_text};
+pub use warnings::warnings_of;

@@ -152,17 +152,13 @@ pub fn push_reported(
     Ok(())
 }
 
-/// Draws a run where that is asked, as an outline names what it speaks of; of a long one the last steps.
-pub(crate) fn draw_reported(
+/// The picture of a run, as an outline names what it speaks of; of a long one the last steps.
+/// An error comes only where memory is refused.
+pub fn draw_reported(
     alloc: Global,
     naming: &Naming,
     closed: &Closed<'_>,
-    is_drawn: bool,
-    picture: &mut Vec<u8>,
-) -> Result<(), AllocError> {
-    if !is_drawn {
-        return Ok(());
-    }
+) -> Result<Vec<u8>, AllocError> {
     let left_out = closed.len().saturating_sub(MOST_DRAWN);
     let records = closed.records_from(alloc, left_out.saturating_add(1))?;
     let shown = Shown {
@@ -170,7 +166,9 @@ pub(crate) fn draw_reported(
         words: &naming.words,
         lines: &naming.lines,
     };
-    draw(picture, shown, left_out as u64, &records)
+    let mut picture = Vec::new(alloc);
+    draw(&mut picture, shown, left_out as u64, &records)?;
+    Ok(picture)
 }
 
 /// Puts the outline's line of a statement at the statement's line of the text, where none is there yet.
@@ -202,7 +200,8 @@ fn text_lines(
 }
 
 /// How an outline names the words of its program, and its statements by their lines.
-pub(crate) fn naming_of(
+/// An error comes only where memory is refused.
+pub fn naming_of(
     alloc: Global,
     outlined: &Outlined<'_>,
     program: &Program,

@@ -1,9 +1,9 @@
 //! The line that says that an outline is verified.
 
-ghost use Rattle.std.specs.Prelude.{◌≡◌, ◌++◌, string_bytes, codes, IfOk};
+ghost use Rattle.std.specs.Prelude.{◌≡◌, ◌++◌, string_bytes, codes, IfOk, OnOk};
 ghost use Rattle.serde_json.specs.View.{view};
 ghost use Rattle.serde_json.specs.Written.{compact_text};
-ghost use Rattle.rgc_outlines.specs.Verified.{verdict_data, verdict_text, verified_text};
+ghost use Rattle.rgc_outlines.specs.Verdict.{verdict_data, verdict_text, name_text};
 
 use serde_json::{Value, json};
 use std::alloc::{AllocError, Global};
@@ -19,25 +19,6 @@ pub enum VerdictForm<'a> {
     Json(&'a str),
 }
 
-/// How many conditions were proved, and for how many of them a search found lines.
-fn counts(alloc: Global, conditions: usize, found: usize) -> Result<String, AllocError>
-    ensures { IfOk result (λ line. string_bytes line ≡ verified_text conditions found) }
-{
-    format!(in alloc; "verified: {conditions} conditions, {found} by search\n")
-}
-
-/// How many conditions were proved, after a name.
-fn named_counts(
-    alloc: Global,
-    name: &str,
-    conditions: usize,
-    found: usize,
-) -> Result<String, AllocError>
-    ensures { IfOk result (λ line. string_bytes line ≡ name.now ++ (codes ": " ++ verified_text conditions found)) }
-{
-    format!(in alloc; "{name}: verified: {conditions} conditions, {found} by search\n")
-}
-
 /// How many conditions were proved, as a JSON value.
 fn counts_value(
     alloc: Global,
@@ -50,19 +31,6 @@ fn counts_value(
     json!(in alloc; {"by_search": found, "conditions": conditions, "file": name, "kind": "verified"})
 }
 
-/// The text of the JSON value.
-fn counts_text(
-    alloc: Global,
-    name: &str,
-    conditions: usize,
-    found: usize,
-) -> Result<String, AllocError>
-    ensures { IfOk result (λ text. string_bytes text ≡ compact_text (verdict_data name.now conditions found)) }
-{
-    let value = counts_value(alloc, name, conditions, found)?;
-    value.to_string(alloc)
-}
-
 /// The JSON value in a line of its own.
 fn counts_line(
     alloc: Global,
@@ -72,13 +40,15 @@ fn counts_line(
 ) -> Result<String, AllocError>
     ensures { IfOk result (λ line. string_bytes line ≡ compact_text (verdict_data name.now conditions found) ++ codes "\n") }
 {
-    let mut line = counts_text(alloc, name, conditions, found)?;
+    let value = counts_value(alloc, name, conditions, found)?;
+    let mut line = value.to_string(alloc)?;
     line.push_str("\n")?;
     Ok(line)
 }
 
 /// The line that says that an outline is verified, with how many conditions were proved, and for how many of them a search found lines.
-pub(crate) fn verdict_line(
+/// An error comes only where memory is refused.
+pub fn verdict_line(
     alloc: Global,
     form: VerdictForm<'_>,
     conditions: usize,
@@ -87,14 +57,21 @@ pub(crate) fn verdict_line(
     ensures { IfOk result (λ line. string_bytes line ≡ verdict_text form.entry conditions found) }
 {
     match form {
-        VerdictForm::Alone => counts(alloc, conditions, found),
-        VerdictForm::Named(name) => named_counts(alloc, name, conditions, found),
+        VerdictForm::Alone => format!(in alloc;
+            "verified: {conditions} conditions, {found} by search\n"
+        ),
+        VerdictForm::Named(name) => format!(in alloc;
+            "{name}: verified: {conditions} conditions, {found} by search\n"
+        ),
         VerdictForm::Json(name) => counts_line(alloc, name, conditions, found),
     }
 }
 
-/// Adds the outline's name where its lines begin with it.
-pub(crate) fn push_name(form: VerdictForm<'_>, reported: &mut Vec<u8>) -> Result<(), AllocError> {
+/// Adds the outline's name where lines about it begin with it.
+/// An error comes only where memory is refused.
+pub fn push_name(form: VerdictForm<'_>, reported: &mut Vec<u8>) -> Result<(), AllocError>
+    ensures { OnOk result (reported.new.items ≡ reported.old.items ++ name_text form.entry) }
+{
     if let VerdictForm::Named(name) = form {
         reported.extend_from_slice(name.as_bytes())?;
         reported.extend_from_slice(b": ")?;

@@ -1,12 +1,13 @@
--- How a command stops by what a search has answered.
+-- What was found of proofs, as an answer.
 use Rattle.std.specs.Prelude.{◌≡◌}
-use Rattle.rgc_answers.specs.declared.judged.Answer.{Answer}
-use Rattle.rgc_answers.specs.declared.judged.Answer.TheVariants.{Proved, Failed, Unknown}
-use Rattle.rgc_commands.specs.declared.stops.Stop.{Stop}
-use Rattle.rgc_commands.specs.declared.stops.Stop.TheVariants.{Reported, GaveUp}
+use Rattle.rg_accept.specs.declared.stages.Derived.{Derived}
+use Rattle.rgc.specs.declared.proofs_found.ProofsFound.{ProofsFound}
+use Rattle.rgc.specs.declared.proofs_found.ProofsFound.TheVariants.{Proofs, Failures}
+use Rattle.rgc_answers.specs.declared.proof_lines.Range.{Range}
+use Rattle.rgc_commands.specs.declared.answers.Answer.{Answer}
+use Rattle.rgc_commands.specs.declared.answers.Answer.TheVariants.{Proved, Unproved}
 
--- the stop of an answer that is no proof
-abbrev pub IsStopOf : Answer → Stop → Type 0
-IsStopOf Proved stop = ⊥
-IsStopOf Failed stop = stop ≡ Reported
-IsStopOf (Unknown why) stop = stop ≡ GaveUp why
+-- the answer holds what was found for the conditions of what is derived, or for a range of them
+abbrev pub FindsProofs : Derived → Range → ProofsFound → Answer → Type 0
+FindsProofs derived range (Proofs pieces) answer = answer ≡ Proved range pieces
+FindsProofs derived range (Failures unproved) answer = answer ≡ Unproved derived unproved

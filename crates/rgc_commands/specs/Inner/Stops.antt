@@ -1,52 +1,79 @@
--- Why a command isn't done, before it is reported.
-use Rattle.std.specs.Prelude.{◌≡◌, ◌⊎◌, ℕ, List, Option, Some, Bool, true, false}
-use Rattle.rgc_line.specs.declared.command.Command.{Command}
-use Rattle.rgc_line.specs.declared.command.Format.{Format}
-use Rattle.rgc_line.specs.declared.command.Settings.{Settings}
+-- Why a part of an answer isn't there.
+use Rattle.std.specs.Prelude.{◌≡◌, ◌⊎◌, ℕ, List, Bool, true, Option, Some, None}
+use Rattle.std.specs.Borrow.{Bor}
 use Rattle.rg_words.specs.Refusals.{no_memory}
-use Rattle.rg_words.specs.Stopped.{IsStopped}
 use Rattle.rg_outline_reports.specs.declared.files.OutlineFiles.{OutlineFiles}
-use Rattle.rgc_outlines.specs.Unproved.{HasReportedUnverified}
-use Rattle.rgc_outlines.specs.Verified.{HasPrintedRuns}
-use Rattle.rgc_outlines.specs.WalkedRefuted.{IsRefuted}
-use Rattle.rgc_commands.specs.Stopped.{IsUntouched, unread_line, GivesUp, IsMisfit}
+use Rattle.rgc.specs.Pieces.{IsAcceptInPiecesRefusal}
+use Rattle.rgc_line.specs.declared.command.Outlines.{Outlines}
+use Rattle.rgc_outlines.specs.Refused.{IsVerifyRefusal, IsExpandRefusal}
+use Rattle.rgc_commands.specs.Of.{OfOutline, OfThree}
+use Rattle.rgc_commands.specs.Stops.{LacksOutlineProofs, text_line, derivation_line, proofs_line, outline_line}
 use Rattle.rgc_commands.specs.declared.files.Files.{Files}
+use Rattle.rgc_commands.specs.declared.outlines.TheConstants.{MOST_STEPS}
 use Rattle.rgc_commands.specs.declared.stops.Stop.{Stop}
-use Rattle.rgc_commands.specs.declared.stops.Stop.TheVariants.{Device, Refused, Outline, Usage, Reported, GaveUp}
-use Rattle.rgc_commands.specs.PerformStopped.{Writes, IsLineStoppedBy, IsWhyReported, IsOverOutline, RefusesVerify, WentOut, TellsRefusal}
-use Rattle.rgc_commands.specs.Inner.TextStops.{IsDevice}
+use Rattle.rgc_commands.specs.declared.stops.Stop.TheVariants.{Device, Refused, Unverified, Fault, Usage}
 
--- the stop of an outline that stands for no files: it is refused, or memory was refused
-abbrev pub IsWithoutFiles : Stop → Type 0
-IsWithoutFiles (Outline lines) = Unit {0}
-IsWithoutFiles (Refused e) = e ≡ no_memory
-IsWithoutFiles _ = ⊥
+-- a file can't be read, and this line tells it
+abbrev pub IsDevice : Option (List ℕ) → Stop → Type 0
+IsDevice line (Device reported) = line ≡ Some reported.now
+IsDevice line _ = ⊥
 
--- the outline can't be read, and this line tells it; or it stands for no files
-abbrev pub IsNotOutlined : Option (List ℕ) → Stop → Type 0
-IsNotOutlined line stop = IsDevice line stop ⊎ IsWithoutFiles stop
+-- words have to stay, no C does a step, or memory was refused
+abbrev pub IsCodeStop : Stop → Type 0
+IsCodeStop (Fault lines) = Unit {0}
+IsCodeStop (Refused e) = e ≡ no_memory
+IsCodeStop _ = ⊥
 
--- what is so of the files that an outline stands for and of what went out, where they aren't verified, or their runs break their specification
-abbrev pub StopsVerify : Bool → Option ℕ → OutlineFiles → Option (List ℕ) → Option (List ℕ) → ℕ → ℕ → Stop → Type 0
-StopsVerify is_runs_only steps files old new failed after (Refused e) = IsStopped (RefusesVerify is_runs_only steps files) old new failed after e
-StopsVerify false steps files old new failed after (Outline lines) = HasReportedUnverified files old new × (after ≡ failed)
-StopsVerify true steps files old new failed after Reported = IsRefuted files.text.items × HasPrintedRuns old new × (after ≡ failed)
-StopsVerify _ steps files old new failed after _ = ⊥
+-- what is asked for doesn't fit, or memory was refused
+abbrev pub IsFormStop : Stop → Type 0
+IsFormStop (Usage line) = Unit {0}
+IsFormStop (Refused e) = e ≡ no_memory
+IsFormStop _ = ⊥
 
--- what is so of the files and of what went out, where a command in a format isn't done, over texts or over an outline
-abbrev pub StopsLine : Format → Command → Files → Option (List ℕ) → Option (List ℕ) → ℕ → ℕ → Stop → Type 0
-StopsLine format command files old new failed after (Device line) = (unread_line command files ≡ Some line.now) × IsUntouched old new failed after
-StopsLine format command files old new failed after (Refused e) = IsLineStoppedBy command files old new failed after e
-StopsLine format command files old new failed after (Outline lines) = IsOverOutline command × WentOut command files old new failed after
-StopsLine format command files old new failed after (Usage line) = IsMisfit format command × IsUntouched old new failed after
-StopsLine format command files old new failed after Reported = IsWhyReported format command files old new × (after ≡ failed)
-StopsLine format command files old new failed after (GaveUp why) = GivesUp command files why.now old new × (after ≡ failed)
+-- an outline stands for no files: it is refused, or memory was refused
+abbrev pub IsUnexpanded : Stop → Type 0
+IsUnexpanded = IsCodeStop
 
--- how it is reported on the faults, and the status
-abbrev pub IsReported : Settings → Stop → ℕ → Option (List ℕ) → Option (List ℕ) → ℕ → ℕ → Type 0
-IsReported settings (Device line) status old new failed after = (status ≡ 3) × Writes old new failed after line.now
-IsReported settings (Refused e) status old new failed after = TellsRefusal settings e status old new failed after
-IsReported settings (Outline lines) status old new failed after = (status ≡ 1) × Writes old new failed after lines.items
-IsReported settings (Usage line) status old new failed after = (status ≡ 2) × Writes old new failed after line.now
-IsReported settings Reported status old new failed after = (status ≡ 1) × (new ≡ old) × (after ≡ failed)
-IsReported settings (GaveUp why) status old new failed after = (status ≡ 1) × Writes old new failed after why.now
+-- the outline of a command can't be read, or it stands for no files
+abbrev pub IsNoOutline : Files → Stop → Type 0
+IsNoOutline files (Device line) = outline_line files None ≡ Some line.now
+IsNoOutline files (Refused e) = e ≡ no_memory
+IsNoOutline files (Fault lines) = Unit {0}
+IsNoOutline files _ = ⊥
+
+-- there is no code of three files
+abbrev pub IsFilesStop : Files → Stop → Type 0
+IsFilesStop files (Device line) = text_line files (derivation_line files (proofs_line files None)) ≡ Some line.now
+IsFilesStop files (Refused e) = OfThree files (λ text derivation proofs. IsAcceptInPiecesRefusal text derivation proofs e) ⊎ (e ≡ no_memory)
+IsFilesStop files (Fault lines) = Unit {0}
+IsFilesStop files _ = ⊥
+
+-- an outline has no proofs, or its code isn't had
+abbrev pub IsProofStop : OutlineFiles → ℕ → Stop → Type 0
+IsProofStop outline steps (Refused e) = IsVerifyRefusal outline steps e
+IsProofStop outline steps (Unverified report) = LacksOutlineProofs outline
+IsProofStop outline steps (Fault lines) = Unit {0}
+IsProofStop outline steps _ = ⊥
+
+-- the same of the outline of a command, which may be none
+abbrev pub IsOutlineStop : Files → Stop → Type 0
+IsOutlineStop files (Device line) = outline_line files None ≡ Some line.now
+IsOutlineStop files (Refused e) = OfOutline files (λ outline. IsVerifyRefusal outline MOST_STEPS e) ⊎ (e ≡ no_memory)
+IsOutlineStop files (Unverified report) = OfOutline files LacksOutlineProofs
+IsOutlineStop files (Fault lines) = Unit {0}
+IsOutlineStop files _ = ⊥
+
+-- an outline isn't had to be verified: a file is named for the text of several, or it can't be read, is refused, or memory was refused
+abbrev pub IsVerifiedStop : Outlines → Option (Bor (List ℕ)) → Files → Stop → Type 0
+IsVerifiedStop outlines text files (Device line) = outline_line files None ≡ Some line.now
+IsVerifiedStop outlines text files (Refused e) = e ≡ no_memory
+IsVerifiedStop outlines text files (Fault lines) = Unit {0}
+IsVerifiedStop outlines (Some text) files (Usage line) = outlines.count ≡ 1 → ⊥
+IsVerifiedStop outlines text files _ = ⊥
+
+-- an outline's files aren't derived, or have no proofs where these are wanted
+abbrev pub IsExpandStop : Bool → OutlineFiles → Stop → Type 0
+IsExpandStop has_proofs outline (Refused e) = IsExpandRefusal has_proofs outline MOST_STEPS e
+IsExpandStop has_proofs outline (Unverified report) = (has_proofs ≡ true) × LacksOutlineProofs outline
+IsExpandStop has_proofs outline (Fault lines) = Unit {0}
+IsExpandStop has_proofs outline _ = ⊥

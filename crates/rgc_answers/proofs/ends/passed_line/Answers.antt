@@ -1,10 +1,6 @@
-use Rattle.std.proofs.Common.{◌∙◌, ap}
-use Rattle.std.proofs.lemmas.Result.{IfOk-weaker}
-use Rattle.serde_json.specs.Written.{has_float}
-use Rattle.rgc_answers.specs.Lines.{json_line}
+use Rattle.std.proofs.Common.{refl}
+use Rattle.rgc_answers.proofs.Items.{lined}
 use Rattle.rgc_answers.proofs.ends.passed_line.Goals as goal
 
 pub returns : goal.returns
-returns c =
-    let e = c.in_ok-value.ensures in
-    IfOk-weaker c.line_of.result _ _ (λ s h. h (ap (λ d. has_float d) e) ∙ ap (λ d. json_line d) e) c.line_of.ensures
+returns c = lined c.line_of.result _ _ refl c.in_ok-value.ensures c.line_of.ensures

@@ -5,6 +5,4 @@ use Rattle.rgc_answers.proofs.running.passed_lines.Given as goal
 
 -- the lines so far
 abbrev pub invariant-loop-each : goal.invariant-loop-each
-invariant-loop-each l = record {
-  text : string_bytes l.lines ≡ passed_text (take l.each-index l.passed);
-}
+invariant-loop-each l = string_bytes l.lines ≡ passed_text (take l.each-index l.passed)

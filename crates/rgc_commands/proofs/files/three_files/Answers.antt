@@ -1,4 +1,4 @@
-use Rattle.rgc_commands.specs.Stopped.{proofs_line}
+use Rattle.rgc_commands.specs.Stops.{proofs_line}
 use Rattle.rgc_commands.proofs.files.three_files.Goals as goal
 
 pub returns-in-Err-clause-unread : goal.returns-in-Err-clause-unread

@@ -1,4 +1,4 @@
-use Rattle.rgc_commands.specs.Stopped.{derivation_line}
+use Rattle.rgc_commands.specs.Stops.{derivation_line}
 use Rattle.rgc_commands.proofs.files.two_files.Goals as goal
 
 pub returns-in-Err-clause-unread : goal.returns-in-Err-clause-unread

@@ -1,9 +1,0 @@
-use Rattle.std.proofs.lemmas.Result.{err_from_is_err_and}
-use Rattle.rg_words.proofs.Cuts.{refused_stops}
-use Rattle.rgc.specs.Valid.{IsClausesRefusal}
-use Rattle.rgc_answers.proofs.printed.print_clauses.Goals as goal
-
-pub returns-in_err-clauses-clause-stopped : goal.returns-in_err-clauses-clause-stopped
-returns-in_err-clauses-clause-stopped g c =
-    let p = err_from_is_err_and c.from_residual.result c.from_residual.ensures.1 in
-    rw (p.1, p.2) (refused_stops (IsClausesRefusal c.args.text.now) _ _ _ c.in_err-clauses.ensures.refused)

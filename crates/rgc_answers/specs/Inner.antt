@@ -1,3 +1,0 @@
--- What only contracts of private functions and proofs speak of: no public contract reaches it.
-pub mod Lines
-pub mod Reported

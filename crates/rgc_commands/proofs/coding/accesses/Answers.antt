@@ -1,0 +1,11 @@
+use Rattle.std.proofs.lemmas.Result.{err_from_is_err_and}
+use Rattle.rgc_commands.proofs.Stopping.{accesses_stop}
+use Rattle.rgc_commands.proofs.coding.accesses.Goals as goal
+
+pub returns-in_err-text-clause-stopped : goal.returns-in_err-text-clause-stopped
+returns-in_err-text-clause-stopped g c = λ t d q.
+    let p = err_from_is_err_and c.from_residual.result c.from_residual.ensures.1 in
+    rw (p.1, p.2) (accesses_stop c.args.settings.now t d q c.args.files.now _ c.in_err-text.ensures.stopped)
+
+pub returns-clause-answer : goal.returns-clause-answer
+returns-clause-answer g c = λ t d q. c.in_ok-text.ensures.text

@@ -1,0 +1,11 @@
+use Rattle.std.proofs.Common.{lit<, rules, tests}
+use Rattle.std.specs.Str.{bytes_eq}
+use Rattle.std.proofs.lemmas.Iterator.Search.{any_from_yields_List}
+use Rattle.std.proofs.lemmas.Iterator.Splits.{YieldsList-from_str_split}
+use Rattle.rgc_commands.proofs.names.is_one.Goals as goal
+
+pub returns : goal.returns
+returns c =
+    any_from_yields_List (λ one. bytes_eq one c.args.name.now) _ _ _ c.any.ensures.ran
+    (YieldsList-from_str_split 44 c.args.names.now (lit< tt) c.split.ensures.text c.split.ensures.has_more c.split.ensures.pattern)
+    (λ x b q k. search (rules, tests))

@@ -1,0 +1,8 @@
+use Rattle.std.proofs.lemmas.Result.{err_from_is_err_and}
+use Rattle.rgc_commands.proofs.Outlining.{no_outline_verified}
+use Rattle.rgc_commands.proofs.outlines.verified_outline.Goals as goal
+
+pub returns-in_err-outlined-clause-stopped : goal.returns-in_err-outlined-clause-stopped
+returns-in_err-outlined-clause-stopped c =
+    let p = err_from_is_err_and c.from_residual.result c.from_residual.ensures.1 in
+    rw (p.1, p.2) (no_outline_verified c.args.asked.outlines c.args.asked.text c.args.files.now _ c.in_err-outlined.ensures.none)

@@ -1,0 +1,24 @@
+use Rattle.std.proofs.Common.{None, inl}
+use Rattle.std.proofs.lemmas.Result.{err_from_is_err_and}
+use Rattle.rgc_line.specs.declared.command.Command.TheVariants.{Conditions}
+use Rattle.rgc_commands.proofs.Stopping.{device_stop}
+use Rattle.rgc_commands.proofs.texts.conditions.Goals as goal
+
+pub returns-then-has_formulas-clause-answer : goal.returns-then-has_formulas-clause-answer
+returns-then-has_formulas-clause-answer c = λ s t d same. rw c.if-has_formulas.true (c.formulas.ensures.answer s t d same)
+
+pub returns-then-has_formulas-clause-stopped : goal.returns-then-has_formulas-clause-stopped
+returns-then-has_formulas-clause-stopped c = λ s t d same. rw c.if-has_formulas.true (c.formulas.ensures.stopped s t d same)
+
+pub returns-in_err-text-clause-stopped : goal.returns-in_err-text-clause-stopped
+returns-in_err-text-clause-stopped c = λ s t d same.
+    let p = err_from_is_err_and c.from_residual.result c.from_residual.ensures.1 in
+    rw (p.1, p.2) (device_stop s (Conditions t d c.args.has_formulas) c.args.files.now _ (c.in_err-text.ensures.unread None))
+
+pub returns-in_err-derived-clause-stopped : goal.returns-in_err-derived-clause-stopped
+returns-in_err-derived-clause-stopped c = λ s t d same.
+    let p = err_from_is_err_and c.from_residual-in_err-derived.result c.from_residual-in_err-derived.ensures.1 in
+    rw (p.1, p.2, c.in_ok-text.ensures.text, c.in_ok-text.ensures.derivation) (inl c.in_err-derived.ensures.refused)
+
+pub returns-clause-answer : goal.returns-clause-answer
+returns-clause-answer c = λ s t d same. rw (c.if-has_formulas.false, c.in_ok-text.ensures.text, c.in_ok-text.ensures.derivation) c.in_ok-derived.ensures.derived

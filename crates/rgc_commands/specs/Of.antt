@@ -1,0 +1,54 @@
+-- What is so of the bytes of files that are there.
+use Rattle.std.specs.Prelude.{◌≡◌, ℕ, List, Option, Some, None, Result, Ok, Err}
+use Rattle.std.specs.Borrow.{Bor}
+use Rattle.rg_outline_reports.specs.declared.files.NoFiles.{NoFiles}
+use Rattle.rg_outline_reports.specs.declared.files.OutlineFiles.{OutlineFiles}
+use Rattle.rg_outline_reports.specs.declared.outlined.Outlined.{Outlined}
+use Rattle.rgc.specs.Pieces.{bytes_of}
+use Rattle.rgc_commands.specs.declared.files.Files.{Files}
+
+-- the bytes of the pieces of a file, in their order
+abbrev pub Pieces : Type 0
+Pieces = Bor (List (Bor (List ℕ)))
+
+-- a text is there, and this is so of its bytes
+abbrev pub OfText : Option (Bor (List ℕ)) → (List ℕ → Type 0) → Type 0
+OfText None P = ⊥
+OfText (Some bytes) P = P bytes.now
+
+-- the pieces of a file are there, and this is so of their bytes
+abbrev pub OfPieces : Option Pieces → (List (List ℕ) → Type 0) → Type 0
+OfPieces None P = ⊥
+OfPieces (Some pieces) P = P (bytes_of pieces.now)
+
+-- of a text and a derivation
+abbrev pub OfTwo : Files → (List ℕ → List (List ℕ) → Type 0) → Type 0
+OfTwo files P = OfText files.text (λ text. OfPieces files.derivation (P text))
+
+-- of a text, a derivation and proofs
+abbrev pub OfThree : Files → (List ℕ → List (List ℕ) → List (List ℕ) → Type 0) → Type 0
+OfThree files P = OfTwo files (λ text derivation. OfPieces files.proofs (P text derivation))
+
+-- the files that an expansion gives, where it gives some
+abbrev pub files_of : Result Outlined NoFiles → Option OutlineFiles
+files_of (Ok outlined) = Some outlined.files
+files_of (Err none) = None
+
+-- the files that the outline of a command stands for
+abbrev pub outline_files : Option (Bor (Result Outlined NoFiles)) → Option OutlineFiles
+outline_files None = None
+outline_files (Some expanded) = files_of expanded.now
+
+-- an outline stands for files, and this is so of them
+abbrev pub OfOutlined : Option OutlineFiles → (OutlineFiles → Type 0) → Type 0
+OfOutlined None P = ⊥
+OfOutlined (Some files) P = P files
+
+abbrev pub OfOutline : Files → (OutlineFiles → Type 0) → Type 0
+OfOutline files P = OfOutlined (outline_files files.outline) P
+
+-- what was read of a file that need not be named: nothing where it isn't, and else its bytes
+abbrev pub IsRead : {A B : Type 0} → Option A → Option B → Option B → Type 0
+IsRead None file bytes = bytes ≡ None
+IsRead (Some name) (Some found) bytes = bytes ≡ Some found
+IsRead (Some name) None bytes = ⊥

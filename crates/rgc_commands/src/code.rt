@@ -1,0 +1,212 @@
+//! The code that a command is about: of files that are accepted or of an outline that is verified, without the words that are erased.
+
+ghost use Rattle.std.specs.Prelude.{◌≡◌, string_bytes, IfOk, IfErr};
+ghost use Rattle.std.specs.List.{list_any};
+ghost use Rattle.rg_tree.specs.ProgramTrees.{program as program_tree};
+ghost use Rattle.rg_accept.specs.Stages.{emitted_program, emitted_blocks};
+ghost use Rattle.rgc_commands.specs.Flagged.{flags_for};
+ghost use Rattle.rgc_commands.specs.Code.{coded_program, coded_blocks, IsCodeForm, IsPlan, IsPrinted, IsPrintedAs, shown, title_of};
+ghost use Rattle.rgc_commands.specs.Left.{IsLeftBy};
+ghost use Rattle.rgc_commands.specs.Inner.Stops.{IsCodeStop, IsFormStop};
+
+use crate::names::{flags_for, stranger};
+use crate::sentences::{fault_line, push_lost, unknown_line, unplanned_line};
+use crate::stops::Stop;
+use crate::titles::is_title;
+use rg_accept::Emitted;
+use rg_c::header::{Options, header};
+use rg_c_plan::kind::Kind;
+use rg_c_plan::plan::plan;
+use rg_c_report::report::report;
+use rg_code::checked::Checked;
+use rg_erase::{Erased, erase};
+use rg_tree::program::Program;
+use rg_tree::typing::typed_trees_fit;
+use rg_words::Layout;
+use rgc_answers::{Run, listing_text};
+use rgc_line::Settings;
+use rgc_outlines::Naming;
+use std::alloc::{AllocError, Global};
+
+/// Code of an accepted program, or of what is left of one where words are erased.
+#[derive(Drop)]
+pub enum Coded {
+    Whole(Emitted),
+    Left(Erased),
+}
+
+/// Code that is ready to run: how it is run, whether the run is drawn, and how an outline names what its records speak of, where it is of one.
+#[derive(Drop)]
+pub struct Ready<'a> {
+    pub code: Coded,
+    pub run: Run<'a>,
+    pub is_drawn: bool,
+    pub naming: Option<Naming>,
+}
+
+/// What is printed of code.
+#[derive(Clone, Copy)]
+pub enum Form<'a> {
+    /// Its listing.
+    Listing,
+    /// A header of C11.
+    C(Options<'a>),
+    /// How each of its steps is done in C.
+    Accesses,
+}
+
+/// The name under which a header of C is printed.
+fn title_of<'a>(prefix: Option<&'a str>) -> &'a str
+    ensures { result.now ≡ title_of prefix.entry }
+{
+    match prefix {
+        Some(name) => name,
+        None => "program",
+    }
+}
+
+/// What the settings ask to print of code: a header of C, or its listing.
+pub(crate) fn code_form<'a>(alloc: Global, settings: &Settings<'a>) -> Result<Form<'a>, Stop>
+    ensures form { IfOk result (λ form. IsCodeForm settings.now (shown form)) }
+    ensures stopped { IfErr result IsFormStop }
+{
+    if !settings.is_c {
+        if settings.prefix.is_some() || settings.is_traced {
+            return Err(Stop::Usage("error: --name and --trace go with --format c\n"));
+        }
+        return Ok(Form::Listing);
+    }
+    let name = title_of(settings.prefix);
+    let is_traced = settings.is_traced;
+    if is_title(alloc, name)? {
+        return Ok(Form::C(Options { name, is_traced }));
+    }
+    Err(Stop::Usage(
+        "error: --name takes a letter, and then letters, digits and _, a small letter among them; none that C or its headers may use, and without _run and _round, as functions are named so\n",
+    ))
+}
+
+/// A flag for each word that says whether it is erased: the words that are named, with commas between the names, and those that are flagged.
+fn flags_of(
+    alloc: Global,
+    layout: &Layout,
+    names: Option<&str>,
+    flagged: &[bool],
+) -> Result<Vec<bool>, Stop>
+    ensures flags { IfOk result (λ flags. flags.items ≡ flags_for layout.now names.entry flagged.now) }
+    ensures stopped { IfErr result IsCodeStop }
+{
+    if let Some(names) = names {
+        if let Some(name) = stranger(layout, names) {
+            return Err(Stop::Fault(unknown_line(alloc, name)?));
+        }
+    }
+    Ok(flags_for(alloc, layout, names, flagged)?)
+}
+
+/// Whether a word is flagged.
+fn has_flag(flags: &[bool]) -> bool
+    ensures { result ≡ list_any (λ b. b) flags.now }
+{
+    flags.iter().any(|flag| *flag)
+}
+
+/// A line for each conjunct of a program's guarantee and of its post that is lost where these words are erased, and a line where nothing is left of one.
+fn lost_lines(
+    alloc: Global,
+    program: &Program,
+    left: &Program,
+    flags: &[bool],
+) -> Result<Vec<u8>, AllocError> {
+    // Typed trees over the words of a layout fit them.
+    program.layout.facts();
+    typed_trees_fit();
+    let mut lines = Vec::new(alloc);
+    let (spec, kept) = (&program.spec, &left.spec);
+    let layout = &program.layout;
+    push_lost(layout, "guar", &spec.guar, &kept.guar, flags, &mut lines)?;
+    push_lost(layout, "post", &spec.post, &kept.post, flags, &mut lines)?;
+    Ok(lines)
+}
+
+/// What is left of an accepted program without these words, all of it where none is flagged; what is lost is noted.
+fn left_of(
+    alloc: Global,
+    emitted: Emitted,
+    flags: &[bool],
+    notes: &mut Vec<u8>,
+) -> Result<Coded, Stop>
+    ensures left { IfOk result (λ c. IsLeftBy flags.now (emitted_program emitted) (emitted_blocks emitted) (coded_program c) (coded_blocks c)) }
+    ensures stopped { IfErr result IsCodeStop }
+{
+    if !has_flag(flags) {
+        return Ok(Coded::Whole(emitted));
+    }
+    match erase(alloc, &emitted, flags)? {
+        Ok(left) => {
+            let lost = lost_lines(alloc, emitted.program(), left.program(), flags)?;
+            notes.extend_from_slice(&lost)?;
+            Ok(Coded::Left(left))
+        }
+        Err(fault) => {
+            let line = fault_line(alloc, &emitted.program().layout, fault)?;
+            Err(Stop::Fault(line.into_bytes()))
+        }
+    }
+}
+
+/// What is left of an accepted program without the words of these names and those that are flagged; what is lost is noted.
+pub(crate) fn left_with(
+    alloc: Global,
+    emitted: Emitted,
+    names: Option<&str>,
+    flagged: &[bool],
+    notes: &mut Vec<u8>,
+) -> Result<Coded, Stop>
+    ensures left { IfOk result (λ c. IsLeftBy (flags_for (emitted_program emitted).words names.entry flagged.now) (emitted_program emitted) (emitted_blocks emitted) (coded_program c) (coded_blocks c)) }
+    ensures stopped { IfErr result IsCodeStop }
+{
+    let flags = flags_of(alloc, &emitted.program().layout, names, flagged)?;
+    left_of(alloc, emitted, &flags, notes)
+}
+
+/// A kind for each word of a program.
+fn kinds_of(alloc: Global, program: &Program) -> Result<Vec<Kind>, Stop>
+    ensures kinds { IfOk result (λ kinds. IsPlan kinds.items (program_tree program.now)) }
+    ensures stopped { IfErr result IsCodeStop }
+{
+    match plan(alloc, program)? {
+        Ok(plan) => Ok(plan.kinds),
+        Err(step) => Err(Stop::Fault(unplanned_line(alloc, &program.layout, step)?)),
+    }
+}
+
+/// The text of a checked program in a form.
+fn form_text<E: Checked>(alloc: Global, left: &E, form: Form<'_>) -> Result<String, Stop>
+    ensures printed { IfOk result (λ text. IsPrintedAs (shown form.entry) (program_tree (E.program_of left.now)) (E.code_of left.now) (string_bytes text)) }
+    ensures stopped { IfErr result IsCodeStop }
+{
+    let program = left.program();
+    match form {
+        Form::Listing => Ok(listing_text(alloc, left.code())?),
+        Form::C(options) => {
+            let kinds = kinds_of(alloc, program)?;
+            Ok(header(alloc, program, &kinds, &options)?)
+        }
+        Form::Accesses => {
+            let kinds = kinds_of(alloc, program)?;
+            Ok(report(alloc, program, &kinds)?)
+        }
+    }
+}
+
+/// The text of code in a form.
+pub(crate) fn code_text(alloc: Global, code: &Coded, form: Form<'_>) -> Result<String, Stop>
+    ensures printed { IfOk result (λ text. IsPrinted (shown form.entry) code.now (string_bytes text)) }
+    ensures stopped { IfErr result IsCodeStop }
+{
+    match code {
+        Coded::Whole(emitted) => form_text(alloc, emitted, form),
+        Coded::Left(erased) => form_text(alloc, erased, form),
+    }
+}

@@ -1,3 +1,0 @@
-mod Lifting
-mod Lost
-mod Places

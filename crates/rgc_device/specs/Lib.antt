@@ -1,4 +1,0 @@
-pub mod Flagged
-pub mod Left
-pub mod Printed
-pub mod Titles
