@@ -156,12 +156,25 @@ def starts_of(case, source, rng):
     return [*dict.fromkeys(found)]
 
 
+def published(case):
+    """The words that one part alone writes, and the outside world doesn't: the part's number, and the member."""
+    writers = {}
+    for number, part in enumerate(case.code["parts"]):
+        for block in part["blocks"]:
+            for word, operations in block[-1] if block[0] in ("do", "await") else []:
+                if operations != [f"word {word}"]:
+                    writers.setdefault(word, set()).add(number)
+    alone = {word: min(it) for word, it in writers.items() if len(it) == 1}
+    return [(part, case.header.members[word]) for word, part in alone.items() if case.header.members.get(word, "") not in {"", *case.header.moved}]
+
+
 def write_program(case):
     """Writes the file that names the words and parts for C."""
     parts = [it["name"] for it in case.code["parts"]]
     each = lambda what, names: f"#define EACH_{what}({what}) " + " ".join(f"{what}({number}, {name})" for number, name in enumerate(names))
     rows = [f"#define PARTS {len(parts)}", f"#define WORDS {len(case.kept)}", each("PART", parts)]
     rows += [each("WORD", (case.header.members[it] for it in case.kept)), each("ROUND", case.header.rounds), each("SECOND", parts)]
+    rows.append("#define EACH_PUBLISHED(PUBLISHED) " + " ".join(f"PUBLISHED({part}, {member})" for part, member in published(case)))
     write(f"{case.room}/program.h", "\n".join(rows) + "\n")
 
 

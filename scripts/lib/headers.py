@@ -13,6 +13,7 @@ COUNTS = {
     "loads": r"(\d+) (?:is |are )?one load",
     "stores": r"(\d+) (?:is |are )?one store",
     "exchanges": r"(\d+) (?:is |are )?one compare-and-exchange",
+    "selects": r"(\d+) access(?:es)? one of several words",
     "sections": r"(\d+) (?:is |are )?a critical section",
 }
 TRACE = re.compile(r"\n *RGC_AT\(\d+, \d+\);")
@@ -29,7 +30,8 @@ def demand(holds, what):
 
 @dataclasses.dataclass(frozen=True)
 class Header:
-    """A header. `members` are those of its struct, by the words' numbers in the listing; a word without one is left out. `kinds` are those of `declared`."""
+    """A header. `members` are those of its struct, by the words' numbers in the listing; a word without one is left out. `kinds` are those of `declared`.
+    `moved` are the members that the outside world writes."""
 
     text: str
     members: dict
@@ -37,6 +39,7 @@ class Header:
     counts: dict
     rounds: tuple
     start: dict
+    moved: set
 
 
 def without_trace(text):
@@ -107,15 +110,14 @@ def accesses_of(text, name):
 
 
 def check_accesses(header, name):
-    """Sees that of the members that two parts access and one assigns an atomic one is accessed outside of sections alone, and a plain one inside."""
+    """Sees that of the members that two parts access and one assigns a plain one is accessed in sections alone."""
     parts, assigned, places = {}, set(), {}
     for part, member, is_assigned, inside in accesses_of(header.text, name):
         parts.setdefault(member, set()).add(part)
         places.setdefault(member, set()).add(inside)
         assigned |= {member} if is_assigned else set()
-    for member in sorted(it for it in assigned if len(parts[it]) > 1 and header.kinds[it] != "world"):
-        kind, wanted = header.kinds[member], header.kinds[member] == "plain"
-        demand(places[member] == {wanted}, f"{member} is {kind}, and not accessed {'inside' if wanted else 'outside'} of sections alone")
+    for member in sorted(it for it in assigned if len(parts[it]) > 1 and header.kinds[it] == "plain"):
+        demand(places[member] == {True}, f"{member} is plain, and not accessed in sections alone")
 
 
 def read(text, name, code):
@@ -124,4 +126,5 @@ def read(text, name, code):
     members = numbered(declared(text, name), code["words"])
     names = {number: member for number, (member, _) in members.items()}
     rounds = tuple(re.findall(rf"^static inline void {name}_round_(\w+)\(", text, re.M))
-    return Header(text, names, dict(members.values()), counts_of(text), rounds, start_of(text, name, members))
+    moved = {*re.findall(r"^ +[^/*\n][^;\n]*?\b(\w+);[^\n]*; written by [^*\n]*\boutside\b", text, re.M)}
+    return Header(text, names, dict(members.values()), counts_of(text), rounds, start_of(text, name, members), moved)

@@ -7,7 +7,7 @@ use Rattle.rg_tree.specs.Trees.{Expression, Assignment, number, word, next_word,
 use Rattle.rg_tree.specs.Meaning.{value_of}
 use Rattle.rg_tree.specs.ConditionTrees.{assigned, AssignmentsTyped}
 use Rattle.rg_c_plan.specs.Accesses.{writes}
-use Rattle.rg_c_report.specs.Moving.{is_word, moving}
+use Rattle.rg_c_plan.specs.Changes.{is_word, moving}
 use Rattle.rg_c.specs.Steps.{is_in, targets_beside}
 use Rattle.rg_c.proofs.Locals.{set_same}
 
@@ -70,7 +70,7 @@ pub agree_all : (s t : List ℕ) → length s ≡ length t → AgreeBeside [] s 
 agree_all s t e h = ext_get_or 0 s t e (λ i less. h i refl)
 
 -- the assignments of words to themselves change nothing
-itself : (k : ℕ) (e : Expression) (s : List ℕ) → is_word k e ≡ true → value_of e s s ≡ slice_index s k
+pub itself : (k : ℕ) (e : Expression) (s : List ℕ) → is_word k e ≡ true → value_of e s s ≡ slice_index s k
 itself k (word j) s h = ap (slice_index s) (sym (eqb-true k j h))
 itself k (number w n) s h = cc
 itself k (next_word j) s h = cc

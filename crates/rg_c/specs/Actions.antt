@@ -5,7 +5,7 @@ use Rattle.rg_c_values.specs.CTrees.{CValue, CTest}
 use Rattle.rg_c_values.specs.Arithmetic.{c_value, c_holds}
 
 -- an action on a word: a local gets its value, by one load; so does a local that is to be exchanged; a local gets its value, which is read plainly; its local gets
--- another value; it is written plainly; it is stored; it is exchanged for its local; it gets back what its local has
+-- another value; it is written plainly; it is stored; it is exchanged for its local; it gets back what its local has; and another action, where a test holds
 pub data Action : Type 0 where
   loads : ℕ → Action
   begins : ℕ → Action
@@ -15,6 +15,7 @@ pub data Action : Type 0 where
   stores : ℕ → CValue → Action
   exchanges : ℕ → Action
   returns : ℕ → Action
+  when : CTest → Action → Action
 
 -- the words' values, and for each word the value of its local, if it has one
 pub record Machine : Type 0 where
@@ -49,6 +50,7 @@ acted (writes k v) m = word_set m k (c_value v (sees m))
 acted (stores k v) m = word_set m k (c_value v (sees m))
 acted (exchanges k) m = word_set m k (slice_index (sees m) k)
 acted (returns k) m = word_set m k (slice_index (sees m) k)
+acted (when t a) m = if c_holds t (sees m) then acted a m else m
 
 -- actions in order
 abbrev pub all_acted : List Action → Machine → Machine

@@ -9,7 +9,7 @@ use Rattle.rg_tree.specs.Statements.{Statement, skip, assign, await, sequence, b
 use Rattle.rg_code.specs.Code.{count_of}
 use Rattle.rg_c_plan.specs.declared.kind.Kind.{Kind}
 use Rattle.rg_c_plan.specs.declared.way.Way.{Way}
-use Rattle.rg_c_plan.specs.declared.way.Way.TheVariants.{Direct, Load, Store, Exchange, Section}
+use Rattle.rg_c_plan.specs.declared.way.Way.TheVariants.{Direct, Load, Store, Exchange, Select, Section}
 use Rattle.rg_c_plan.specs.Ways.{way_of}
 use Rattle.rg_c_values.specs.declared.print.Read.{Read}
 use Rattle.rg_c_values.specs.CTrees.{CTest}
@@ -17,11 +17,11 @@ use Rattle.rg_c_values.specs.Translation.{test_in_c}
 use Rattle.rg_c_values.specs.Printed.{test_text}
 use Rattle.rg_c.specs.Lines.{inner, mark_call, comment_line, skip_line, wait_line, if_open, else_line, block_close, loop_open, leave_unless, go_open, go_line, go_leave, go_if}
 use Rattle.rg_c.specs.Source.{assignment_source, assignments_source}
-use Rattle.rg_c.specs.Reads.{is_one_load, load_reads}
+use Rattle.rg_c.specs.Reads.{is_one_load, load_reads, kind_reads, local_reads}
 use Rattle.rg_c.specs.Used.{is_used}
-use Rattle.rg_c.specs.StepTexts.{is_true, marked, local_reads, enter_text, leave_text, section_note, step_text}
+use Rattle.rg_c.specs.StepTexts.{is_true, marked, enter_text, leave_text, section_note, step_text}
 
--- what the text of a part depends on: the words and their kinds, the part's place, from 0, and whether steps are marked
+-- what the text of a part depends on: the words and their kinds as the part sees them, the part's place, from 0, and whether steps are marked
 pub record PageTree : Type 0 where
   pub words : List Word
   pub kinds : List Kind
@@ -33,31 +33,33 @@ unfoldable pub mark_of : PageTree → ℕ → List ℕ
 mark_of p place = if p.traced then mark_call (decimal p.part) (decimal place) else []
 
 -- how words are read by a test that can stand in an `if` or a `while`; nothing where it has to be worked out before
-abbrev pub bare_reads : List Word → Way → CTest → Option (List Read)
-bare_reads words Direct t = Some (local_reads words [])
-bare_reads words (Load x) t = if is_one_load x t then Some (load_reads words x) else None
-bare_reads words (Store x) t = None
-bare_reads words (Exchange x) t = None
-bare_reads words Section t = None
+abbrev pub bare_reads : PageTree → Way → CTest → Option (List Read)
+bare_reads p Direct t = Some (kind_reads p.kinds)
+bare_reads p Select t = Some (kind_reads p.kinds)
+bare_reads p (Load x) t = if is_one_load x t then Some (load_reads p.words x) else None
+bare_reads p (Store x) t = None
+bare_reads p (Exchange x) t = None
+bare_reads p Section t = None
 
 -- and where it is worked out before
-abbrev pub go_reads : List Word → Way → List Read
-go_reads words Direct = local_reads words []
-go_reads words (Load x) = local_reads words (x ∷ [])
-go_reads words (Store x) = local_reads words []
-go_reads words (Exchange x) = local_reads words []
-go_reads words Section = local_reads words []
+abbrev pub go_reads : List Kind → Way → List Read
+go_reads kinds Direct = kind_reads kinds
+go_reads kinds Select = kind_reads kinds
+go_reads kinds (Load x) = local_reads kinds (x ∷ [])
+go_reads kinds (Store x) = kind_reads kinds
+go_reads kinds (Exchange x) = kind_reads kinds
+go_reads kinds Section = kind_reads kinds
 
 -- a test that is worked out before, in a block of its own
 unfoldable pub go_text : PageTree → List ℕ → ℕ → Way → CTest → List ℕ
 go_text p i place way t =
     go_open i (decimal place) ++ (marked (inner i) (mark_of p place) ++ (enter_text p.words (inner i) (is_used way t []) way
-    ++ (go_line (inner i) (decimal place) (test_text p.words (go_reads p.words way) t) ++ (leave_text (inner i) way ++ block_close i))))
+    ++ (go_line (inner i) (decimal place) (test_text p.words (go_reads p.kinds way) t) ++ (leave_text (inner i) way ++ block_close i))))
 
 -- how an `if` begins, and a loop
 unfoldable pub if_begins : PageTree → List ℕ → ℕ → Way → CTest → List ℕ
 if_begins p i place way t =
-    option_map_or (λ reads. marked i (mark_of p place) ++ if_open i (test_text p.words reads t)) (bare_reads p.words way t)
+    option_map_or (λ reads. marked i (mark_of p place) ++ if_open i (test_text p.words reads t)) (bare_reads p way t)
     (go_text p i place way t ++ go_if i (decimal place))
 
 unfoldable pub bare_loop : PageTree → List ℕ → ℕ → List Read → CTest → List ℕ
@@ -66,7 +68,7 @@ bare_loop p i place reads t =
 
 unfoldable pub loop_begins : PageTree → List ℕ → ℕ → Way → CTest → List ℕ
 loop_begins p i place way t =
-    option_map_or (λ reads. bare_loop p i place reads t) (bare_reads p.words way t)
+    option_map_or (λ reads. bare_loop p i place reads t) (bare_reads p way t)
     (loop_open i ++ (go_text p (inner i) place way t ++ go_leave (inner i) (decimal place)))
 
 -- a formula in the program's own words, after a text

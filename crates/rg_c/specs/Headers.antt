@@ -1,5 +1,5 @@
 -- The text of a header.
-use Rattle.std.specs.Prelude.{ℕ, zero, suc, ◌+◌, nat_eq, Bool, false, ◌&&◌, List, [], ◌∷◌, ◌++◌, codes, map, length, slice_index, if◌then◌else◌}
+use Rattle.std.specs.Prelude.{ℕ, zero, suc, ◌+◌, nat_eq, Bool, false, ◌&&◌, List, [], ◌∷◌, ◌++◌, codes, length, slice_index, if◌then◌else◌}
 use Rattle.std.specs.List.{list_any}
 use Rattle.std.specs.Fmt.{decimal}
 use Rattle.rg_words.specs.Layout.{Word, widths_of}
@@ -8,16 +8,16 @@ use Rattle.rg_tree.specs.Trees.{Proposition, truth, negation, connected, compare
 use Rattle.rg_tree.specs.Printed.{formula_text}
 use Rattle.rg_tree.specs.Statements.{Statement, skip, assign, await, sequence, branch, loop, Specification, PartTree, ProgramTree}
 use Rattle.rg_c_plan.specs.declared.kind.Kind.{Kind}
-use Rattle.rg_c_plan.specs.declared.kind.Kind.TheVariants.{Fixed, Own, Atomic, Guarded}
+use Rattle.rg_c_plan.specs.declared.kind.Kind.TheVariants.{Fixed, Own, Published, Atomic, Guarded}
 use Rattle.rg_c_plan.specs.Accesses.{places}
 use Rattle.rg_c_plan.specs.Ways.{kind_at, is_atomic, is_guarded}
-use Rattle.rg_c_values.specs.declared.print.Read.{Read}
-use Rattle.rg_c_values.specs.declared.print.Read.TheVariants.{Plain, Load}
+use Rattle.rg_c_plan.specs.Views.{kinds_for}
 use Rattle.rg_c_values.specs.Translation.{container, test_in_c}
 use Rattle.rg_c_values.specs.Printed.{test_text}
 use Rattle.rg_c_report.specs.declared.counts.Counts.{Counts}
 use Rattle.rg_c_report.specs.Counts.{counts_first, counts_second, counts_of}
 use Rattle.rg_c_report.specs.Parties.{parties_text}
+use Rattle.rg_c.specs.Reads.{kind_reads}
 use Rattle.rg_c.specs.Texts.{name_of, type_of}
 use Rattle.rg_c.specs.Lines.{block_close}
 use Rattle.rg_c.specs.Bodies.{PageTree, statement_text, loop_text}
@@ -28,18 +28,21 @@ use Rattle.rg_c.specs.Heads.{top_open, promise_head, promise_line, rests_text, g
 abbrev pub kind_before : Kind → List ℕ
 kind_before Fixed = codes "const "
 kind_before Own = []
+kind_before Published = codes "RGC_ATOMIC("
 kind_before Atomic = codes "RGC_ATOMIC("
 kind_before Guarded = []
 
 abbrev pub kind_after : Kind → List ℕ
 kind_after Fixed = []
 kind_after Own = []
+kind_after Published = codes ")"
 kind_after Atomic = codes ")"
 kind_after Guarded = []
 
 abbrev pub kind_what : Kind → List ℕ
 kind_what Fixed = codes "fixed"
 kind_what Own = codes "plain"
+kind_what Published = codes "atomic"
 kind_what Atomic = codes "atomic"
 kind_what Guarded = codes "in critical sections"
 
@@ -63,10 +66,6 @@ fields_text p kinds k (suc n) = field_text p kinds k ++ fields_text p kinds (k +
 
 unfoldable pub struct_text : List ℕ → ProgramTree → List Kind → List ℕ
 struct_text name p kinds = struct_open name ++ (fields_text p kinds 0 (length p.words) ++ struct_close)
-
--- atomic words are read by loads, and all others plainly
-abbrev pub kind_reads : List Kind → List Read
-kind_reads kinds = map (λ kind. if is_atomic kind then Load else Plain) kinds
 
 -- the conjuncts of a formula, each on a line, after what stands before the first
 abbrev pub conjunct_lines : List Word → List ℕ → Proposition → List ℕ
@@ -94,7 +93,7 @@ promises_text words spec =
 
 -- the comment at the top
 unfoldable pub top_text : List ℕ → List Kind → ProgramTree → List ℕ
-top_text name kinds p = top_open name ++ (promises_text p.words p.spec ++ (counts_text (counts_of kinds p.parts) ++ rests_text))
+top_text name kinds p = top_open name ++ (promises_text p.words p.spec ++ (counts_text (counts_of p kinds) ++ rests_text))
 
 -- some atomic word has a type of so many bits
 abbrev pub has_atomic : List Word → List Kind → ℕ → Bool
@@ -156,15 +155,18 @@ body_text name part p (loop row f s) = if is_always f then round_text name part 
 unfoldable pub part_text : List ℕ → PageTree → PartTree → List ℕ
 part_text name p part = body_text name part.name p part.body
 
+-- a part at its place, by the kinds of words as it sees them
+abbrev pub seen_part_text : List ℕ → ProgramTree → List Kind → Bool → ℕ → PartTree → List ℕ
+seen_part_text name p kinds traced i part = part_text name (record { words = p.words; kinds = kinds_for p kinds i; part = i; traced = traced }) part
+
 -- the parts from the i-th one on
-abbrev pub parts_text : List ℕ → List Word → List Kind → Bool → ℕ → List PartTree → List ℕ
-parts_text name words kinds traced i [] = []
-parts_text name words kinds traced i (part ∷ parts) =
-    part_text name (record { words = words; kinds = kinds; part = i; traced = traced }) part ++ parts_text name words kinds traced (i + 1) parts
+abbrev pub parts_text : List ℕ → ProgramTree → List Kind → Bool → ℕ → List PartTree → List ℕ
+parts_text name p kinds traced i [] = []
+parts_text name p kinds traced i (part ∷ parts) = seen_part_text name p kinds traced i part ++ parts_text name p kinds traced (i + 1) parts
 
 -- a program under this name, with these kinds of words, its steps marked or not
 abbrev pub header_text : List ℕ → Bool → List Kind → ProgramTree → List ℕ
 header_text name traced kinds program =
     top_text name kinds program ++ (macros_text name program.words kinds ++ (struct_text name program kinds
     ++ (start_text name program ++ (asserted name (codes "pre") program.words kinds program.spec.pre ++ (asserted name (codes "post") program.words kinds program.spec.post
-    ++ (parts_text name program.words kinds traced 0 program.parts ++ guard_close))))))
+    ++ (parts_text name program kinds traced 0 program.parts ++ guard_close))))))

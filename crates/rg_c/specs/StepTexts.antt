@@ -1,21 +1,20 @@
 -- The text of steps, by the way in which they are done.
-use Rattle.std.specs.Prelude.{ℕ, Bool, false, List, [], ◌∷◌, ◌++◌, codes, ◌&&◌, nat_eq, length, replicate, slice_set, if◌then◌else◌, Option}
+use Rattle.std.specs.Prelude.{ℕ, Bool, false, List, [], ◌∷◌, ◌++◌, codes, ◌&&◌, nat_eq, length, if◌then◌else◌, Option}
 use Rattle.rg_words.specs.Layout.{Word, widths_of}
 use Rattle.rg_tree.specs.Trees.{Proposition, Assignment}
 use Rattle.rg_c_plan.specs.declared.kind.Kind.{Kind}
 use Rattle.rg_c_plan.specs.declared.way.Way.{Way}
-use Rattle.rg_c_plan.specs.declared.way.Way.TheVariants.{Direct, Load, Store, Exchange, Section}
+use Rattle.rg_c_plan.specs.declared.way.Way.TheVariants.{Direct, Load, Store, Exchange, Select, Section}
 use Rattle.rg_c_plan.specs.Ways.{way_of, met_words}
 use Rattle.rg_c_values.specs.declared.print.Read.{Read}
-use Rattle.rg_c_values.specs.declared.print.Read.TheVariants.{Plain, Local}
 use Rattle.rg_c_values.specs.CTrees.{CTest, c_truth, c_not, c_joined, c_compared}
 use Rattle.rg_c_values.specs.Printed.{test_text}
 use Rattle.rg_c.specs.Actions.{Action, CStep}
-use Rattle.rg_c_report.specs.Moving.{moving}
+use Rattle.rg_c_plan.specs.Changes.{moving}
 use Rattle.rg_c_report.specs.Counts.{is_section}
 use Rattle.rg_c.specs.Steps.{targets_beside, step_by, test_of}
 use Rattle.rg_c.specs.Lines.{inner, mark_line, loop_open, leave_loop, wait_line, block_open, block_close, attempt_line, done_line, if_open, else_wait, done_open, enter_line, leave_line, load_line, discard_line, note_line}
-use Rattle.rg_c.specs.Reads.{is_one_load, load_reads}
+use Rattle.rg_c.specs.Reads.{is_one_load, load_reads, kind_reads, local_reads}
 use Rattle.rg_c.specs.Used.{is_used}
 use Rattle.rg_c.specs.Texts.{name_of, type_of, actions_text}
 
@@ -30,23 +29,14 @@ is_true (c_compared c a b) = false
 unfoldable pub marked : List ℕ → List ℕ → List ℕ
 marked i mark = if nat_eq (length mark) 0 then [] else mark_line i mark
 
--- these words are read from locals, after those that are already
-abbrev pub with_locals : List Read → List ℕ → List Read
-with_locals reads [] = reads
-with_locals reads (k ∷ ks) = with_locals (slice_set reads k Local) ks
-
--- these words are read from locals, and all others plainly
-abbrev pub local_reads : List Word → List ℕ → List Read
-local_reads words ks = with_locals (replicate (length words) Plain) ks
-
 -- waiting until a test is true, words read so
 unfoldable pub wait_text : List Word → List Read → List ℕ → List ℕ → CTest → List ℕ
 wait_text words reads i mark t =
     loop_open i ++ (marked (inner i) mark ++ (leave_loop (inner i) (test_text words reads t) ++ (wait_line (inner i) ++ block_close i)))
 
--- waiting until a test that reads plain words is true
-unfoldable pub waits : List Word → List ℕ → List ℕ → CTest → List ℕ
-waits words i mark t = if is_true t then marked i mark else wait_text words [] i mark t
+-- waiting until a test is true, if it isn't always
+unfoldable pub waits : List Word → List Read → List ℕ → List ℕ → CTest → List ℕ
+waits words reads i mark t = if is_true t then marked i mark else wait_text words reads i mark t
 
 -- how a step begins and ends that is done in a section, or over a local; a load has a local only where that is used
 unfoldable pub enter_text : List Word → List ℕ → Bool → Way → List ℕ
@@ -54,6 +44,7 @@ enter_text words i used Direct = []
 enter_text words i used (Load x) = if used then load_line i (type_of words x) (name_of words x) else discard_line i (name_of words x)
 enter_text words i used (Store x) = []
 enter_text words i used (Exchange x) = []
+enter_text words i used Select = []
 enter_text words i used Section = enter_line i
 
 unfoldable pub leave_text : List ℕ → Way → List ℕ
@@ -61,6 +52,7 @@ leave_text i Direct = []
 leave_text i (Load x) = []
 leave_text i (Store x) = []
 leave_text i (Exchange x) = []
+leave_text i Select = []
 leave_text i Section = leave_line i
 
 -- what comes after a test, or an exchange, where it was true or made
@@ -90,9 +82,9 @@ held_text words reads i mark way t actions = if is_true t then held_free words r
 unfoldable pub loaded_wait : List Word → List ℕ → List ℕ → ℕ → CTest → List ℕ
 loaded_wait words i mark x t = wait_text words (load_reads words x) i mark t
 
-unfoldable pub loaded_text : List Word → List ℕ → List ℕ → ℕ → CTest → List Action → List ℕ
-loaded_text words i mark x t actions =
-    if nat_eq (length actions) 0 && is_one_load x t then loaded_wait words i mark x t else held_text words (local_reads words (x ∷ [])) i mark (Load x) t actions
+unfoldable pub loaded_text : List Word → List Kind → List ℕ → List ℕ → ℕ → CTest → List Action → List ℕ
+loaded_text words kinds i mark x t actions =
+    if nat_eq (length actions) 0 && is_one_load x t then loaded_wait words i mark x t else held_text words (local_reads kinds (x ∷ [])) i mark (Load x) t actions
 
 -- an exchange, with the changes of locals before it and what comes after it; where there is a test, in its `if`
 unfoldable pub changed_text : List Word → List Read → List ℕ → List Action → List Action → List ℕ
@@ -113,15 +105,19 @@ exchange_text words reads i mark c =
     loop_open i ++ (attempt_line (inner i) ++ (marked (inner i) mark ++ (before_text words (inner i) c.before ++ (tried_text words reads (inner i) c.test c.actions c.after
     ++ (leave_loop (inner i) (codes "rgc_done") ++ block_close i)))))
 
+-- a step without locals: it waits for its test, and then assigns
+unfoldable pub bare_text : List Word → List Kind → List ℕ → List ℕ → CStep → List ℕ
+bare_text words kinds i mark c = waits words (kind_reads kinds) i mark c.test ++ actions_text words (kind_reads kinds) i c.actions
+
 -- a step that is done in this way
-unfoldable pub done_text : List Word → List ℕ → List ℕ → Way → CTest → List Assignment → List ℕ
-done_text words i mark Direct t act = let c = step_by (widths_of words) Direct t act in waits words i mark c.test ++ actions_text words [] i c.actions
-done_text words i mark (Store x) t act = let c = step_by (widths_of words) (Store x) t act in waits words i mark c.test ++ actions_text words [] i c.actions
-done_text words i mark (Load x) t act =
-    let c = step_by (widths_of words) (Load x) t act in
-    loaded_text words i mark x c.test c.actions
-done_text words i mark Section t act = let c = step_by (widths_of words) Section t act in held_text words (local_reads words []) i mark Section c.test c.actions
-done_text words i mark (Exchange x) t act = exchange_text words (local_reads words (x ∷ targets_beside (x ∷ []) act)) i mark (step_by (widths_of words) (Exchange x) t act)
+unfoldable pub done_text : List Word → List Kind → List ℕ → List ℕ → Way → CTest → List Assignment → List ℕ
+done_text words kinds i mark Direct t act = bare_text words kinds i mark (step_by (widths_of words) kinds Direct t act)
+done_text words kinds i mark Select t act = bare_text words kinds i mark (step_by (widths_of words) kinds Select t act)
+done_text words kinds i mark (Store x) t act = bare_text words kinds i mark (step_by (widths_of words) kinds (Store x) t act)
+done_text words kinds i mark (Load x) t act = let c = step_by (widths_of words) kinds (Load x) t act in loaded_text words kinds i mark x c.test c.actions
+done_text words kinds i mark Section t act = let c = step_by (widths_of words) kinds Section t act in held_text words (kind_reads kinds) i mark Section c.test c.actions
+done_text words kinds i mark (Exchange x) t act =
+    exchange_text words (local_reads kinds (x ∷ targets_beside (x ∷ []) act)) i mark (step_by (widths_of words) kinds (Exchange x) t act)
 
 -- names of words in C, each after a comma, and with commas between them
 abbrev pub more_names : List Word → List ℕ → List ℕ
@@ -139,4 +135,4 @@ section_note words kinds i guard act = if is_section (way_of kinds guard act) th
 -- a step of the program, by the kinds of its words
 unfoldable pub step_text : List Word → List Kind → List ℕ → List ℕ → Option Proposition → List Assignment → List ℕ
 step_text words kinds i mark guard act =
-    section_note words kinds i guard (moving act) ++ done_text words i mark (way_of kinds guard (moving act)) (test_of (widths_of words) guard) (moving act)
+    section_note words kinds i guard (moving act) ++ done_text words kinds i mark (way_of kinds guard (moving act)) (test_of (widths_of words) guard) (moving act)

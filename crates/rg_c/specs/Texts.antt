@@ -1,13 +1,13 @@
 -- The text of actions.
-use Rattle.std.specs.Prelude.{ℕ, List, [], codes, slice_index, slice_index_or, nat_le, if◌then◌else◌}
+use Rattle.std.specs.Prelude.{ℕ, List, [], ◌++◌, codes, slice_index, slice_index_or, nat_le, if◌then◌else◌}
 use Rattle.std.specs.List.{flat_map}
 use Rattle.rg_words.specs.Layout.{Word, names_of, widths_of}
 use Rattle.rg_c_values.specs.declared.print.Read.{Read}
 use Rattle.rg_c_values.specs.CNames.{c_name}
-use Rattle.rg_c_values.specs.Printed.{value_text}
+use Rattle.rg_c_values.specs.Printed.{value_text, test_text}
 use Rattle.rg_c.specs.Reads.{is_load_of}
-use Rattle.rg_c.specs.Actions.{Action, loads, begins, copies, changes, writes, stores, exchanges, returns}
-use Rattle.rg_c.specs.Lines.{load_line, begin_lines, copy_line, change_line, write_line, store_line, exchange_line, return_line}
+use Rattle.rg_c.specs.Actions.{Action, loads, begins, copies, changes, writes, stores, exchanges, returns, when}
+use Rattle.rg_c.specs.Lines.{inner, if_open, block_close, load_line, begin_lines, copy_line, change_line, write_line, store_line, exchange_line, return_line}
 
 -- the name of the k-th word in C
 unfoldable pub name_of : List Word → ℕ → List ℕ
@@ -30,6 +30,7 @@ action_text words reads i (writes k v) = if is_load_of k v then [] else write_li
 action_text words reads i (stores k v) = store_line i (name_of words k) (value_text words reads v)
 action_text words reads i (exchanges k) = exchange_line i (name_of words k)
 action_text words reads i (returns k) = return_line i (name_of words k)
+action_text words reads i (when t a) = if_open i (test_text words reads t) ++ (action_text words reads (inner i) a ++ block_close i)
 
 -- actions, one after another
 abbrev pub actions_text : List Word → List Read → List ℕ → List Action → List ℕ

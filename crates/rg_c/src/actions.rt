@@ -2,27 +2,33 @@
 
 ghost use Rattle.std.specs.Prelude.{◌≡◌, ◌++◌, ◌<◌, [], length, map, string_bytes, IfOk, OnOk};
 ghost use Rattle.rg_words.specs.Layout.{widths_of};
-ghost use Rattle.rg_tree.specs.Fits.{ExpressionFits};
-ghost use Rattle.rg_tree.specs.View.{expression};
+ghost use Rattle.rg_tree.specs.Fits.{ExpressionFits, FormulaFits};
+ghost use Rattle.rg_tree.specs.View.{expression, formula};
 ghost use Rattle.rg_tree.specs.ConditionTrees.{assignment};
 ghost use Rattle.rg_c_values.specs.View.{value};
-ghost use Rattle.rg_c_values.specs.Printed.{value_text};
+ghost use Rattle.rg_c_values.specs.Translation.{test_in_c};
+ghost use Rattle.rg_c_values.specs.Printed.{value_text, test_text};
 ghost use Rattle.rg_c.specs.Actions.{loads, begins, copies, exchanges, returns};
-ghost use Rattle.rg_c.specs.Steps.{written, written_or_stored, changed, value_for};
+ghost use Rattle.rg_c.specs.Steps.{given, assigned_to, value_for};
 ghost use Rattle.rg_c.specs.Lines.{discard_line};
 ghost use Rattle.rg_c.specs.Texts.{name_of, type_text, type_of, action_text, actions_text};
 ghost use Rattle.rg_c.specs.Fitting.{AssignmentsFit};
 
 use crate::lines::{
-    push_begin_lines, push_change_line, push_copy_line, push_discard_line, push_exchange_line,
-    push_load_line, push_return_line, push_store_line, push_write_line,
+    inner, push_begin_lines, push_block_close, push_change_line, push_copy_line, push_discard_line,
+    push_exchange_line, push_if_open, push_load_line, push_return_line, push_store_line,
+    push_write_line,
 };
 use crate::reads::is_load_of;
+use rg_c_plan::change::change_of;
+use rg_c_plan::kind::Kind;
+use rg_c_plan::way::{has_atomic_accesses, kind_at};
 use rg_c_values::names::push_c_name;
-use rg_c_values::print::{Read, print_value};
-use rg_c_values::translate::stored_in_c;
+use rg_c_values::print::{Read, print_test, print_value};
+use rg_c_values::translate::{stored_in_c, test_in_c};
 use rg_c_values::tree::Value;
 use rg_tree::condition::Assign;
+use rg_tree::tree::Formula;
 use rg_words::Layout;
 use std::alloc::{AllocError, Global};
 
@@ -68,7 +74,8 @@ pub(crate) fn type_of(layout: &Layout, word: usize) -> &'static str
     }
 }
 
-/// What is stored by an assignment.
+/// What an assignment changes its word to.
+#[tactic(auto, using(crate::proofs::MovingFits::change_fits))]
 pub(crate) fn stored_value(alloc: Global, layout: &Layout, a: &Assign) -> Result<Value, AllocError>
     requires { ExpressionFits (expression a.now.value) (length layout.now) }
     ensures { IfOk result (λ v. value v ≡ value_for (widths_of layout.now) (assignment a.now)) }
@@ -78,7 +85,8 @@ pub(crate) fn stored_value(alloc: Global, layout: &Layout, a: &Assign) -> Result
     } else {
         0
     };
-    let v = stored_in_c(alloc, layout, width, &a.value)?;
+    let c = change_of(a);
+    let v = stored_in_c(alloc, layout, width, c.value)?;
     Ok(v)
 }
 
@@ -215,119 +223,95 @@ pub(crate) fn push_returns(
     Ok(())
 }
 
-/// Adds an assignment to a local.
-fn push_change(
-    alloc: Global,
+/// What an assignment is to: a word, or its local.
+#[derive(Clone, Copy, Debug, PartialEq, Eq)]
+pub enum Target {
+    Word,
+    Local,
+}
+
+/// What the text of assignments depends on: the words, their kinds as the part sees them, and how they are read.
+#[derive(Clone, Copy)]
+pub(crate) struct Words<'a> {
+    pub(crate) alloc: Global,
+    pub(crate) layout: &'a Layout,
+    pub(crate) kinds: &'a [Kind],
+    pub(crate) reads: &'a [Read],
+}
+
+/// Adds that a word, or its local, gets a value.
+fn push_given(
+    w: &Words<'_>,
     text: &mut String,
-    layout: &Layout,
-    reads: &[Read],
     indent: &str,
+    to: Target,
+    word: usize,
+    v: &Value,
+) -> Result<(), AllocError>
+    ensures { OnOk result (string_bytes text.new ≡ string_bytes text.old ++ action_text w.now.layout.now w.now.reads.now indent.now (given w.now.kinds.now to word (value v.now))) }
+{
+    let name = name_of(w.alloc, w.layout, word)?;
+    let value = value_text(w.alloc, w.layout, w.reads, v)?;
+    match to {
+        Target::Word if has_atomic_accesses(kind_at(w.kinds, word)) => {
+            push_store_line(text, indent, &name, &value)
+        }
+        Target::Word if is_load_of(word, v) => Ok(()),
+        Target::Word => push_write_line(text, indent, &name, &value),
+        Target::Local if is_load_of(word, v) => Ok(()),
+        Target::Local => push_change_line(text, indent, &name, &value),
+    }
+}
+
+/// The text of a test.
+fn asked(w: &Words<'_>, f: &Formula) -> Result<String, AllocError>
+    requires { FormulaFits (formula f.now) (length w.now.layout.now) }
+    ensures { IfOk result (λ text. string_bytes text ≡ test_text w.now.layout.now w.now.reads.now (test_in_c (widths_of w.now.layout.now) (formula f.now))) }
+{
+    let t = test_in_c(w.alloc, w.layout, f)?;
+    let mut text = String::new(w.alloc);
+    print_test(&mut text, w.layout, w.reads, &t)?;
+    Ok(text)
+}
+
+/// Adds an assignment to a word, or to its local.
+#[tactic(auto, using(crate::proofs::MovingFits::change_fits))]
+fn push_assigned(
+    w: &Words<'_>,
+    text: &mut String,
+    indent: &str,
+    to: Target,
     a: &Assign,
 ) -> Result<(), AllocError>
-    requires { ExpressionFits (expression a.now.value) (length layout.now) }
-    ensures { OnOk result (string_bytes text.new ≡ string_bytes text.old ++ action_text layout.now reads.now indent.now (changed (widths_of layout.now) (assignment a.now))) }
+    requires { ExpressionFits (expression a.now.value) (length w.now.layout.now) }
+    ensures { OnOk result (string_bytes text.new ≡ string_bytes text.old ++ action_text w.now.layout.now w.now.reads.now indent.now (assigned_to (widths_of w.now.layout.now) w.now.kinds.now to (assignment a.now))) }
 {
-    let v = stored_value(alloc, layout, a)?;
-    if is_load_of(a.word, &v) {
-        return Ok(());
+    let v = stored_value(w.alloc, w.layout, a)?;
+    match change_of(a).test {
+        None => push_given(w, text, indent, to, a.word, &v),
+        Some(f) => {
+            let test = asked(w, f)?;
+            let inside = inner(w.alloc, indent)?;
+            push_if_open(text, indent, &test)?;
+            push_given(w, text, &inside, to, a.word, &v)?;
+            push_block_close(text, indent)
+        }
     }
-    let name = name_of(alloc, layout, a.word)?;
-    let value = value_text(alloc, layout, reads, &v)?;
-    push_change_line(text, indent, &name, &value)
 }
 
-/// Adds an assignment to a plain word.
-fn push_write(
-    alloc: Global,
+/// Adds assignments to words, or to their locals.
+pub(crate) fn push_all_assigned(
+    w: &Words<'_>,
     text: &mut String,
-    layout: &Layout,
-    reads: &[Read],
     indent: &str,
-    a: &Assign,
-) -> Result<(), AllocError>
-    requires { ExpressionFits (expression a.now.value) (length layout.now) }
-    ensures { OnOk result (string_bytes text.new ≡ string_bytes text.old ++ action_text layout.now reads.now indent.now (written (widths_of layout.now) (assignment a.now))) }
-{
-    let v = stored_value(alloc, layout, a)?;
-    if is_load_of(a.word, &v) {
-        return Ok(());
-    }
-    let name = name_of(alloc, layout, a.word)?;
-    let value = value_text(alloc, layout, reads, &v)?;
-    push_write_line(text, indent, &name, &value)
-}
-
-/// Adds an assignment to a plain word, or to the word that is stored.
-fn push_write_or_store(
-    alloc: Global,
-    text: &mut String,
-    layout: &Layout,
-    indent: &str,
-    stored: usize,
-    a: &Assign,
-) -> Result<(), AllocError>
-    requires { ExpressionFits (expression a.now.value) (length layout.now) }
-    ensures { OnOk result (string_bytes text.new ≡ string_bytes text.old ++ action_text layout.now [] indent.now (written_or_stored (widths_of layout.now) stored (assignment a.now))) }
-{
-    if stored != a.word {
-        return push_write(alloc, text, layout, &[], indent, a);
-    }
-    let v = stored_value(alloc, layout, a)?;
-    let name = name_of(alloc, layout, a.word)?;
-    let value = value_text(alloc, layout, &[], &v)?;
-    push_store_line(text, indent, &name, &value)
-}
-
-/// Adds assignments to locals.
-pub(crate) fn push_changes(
-    alloc: Global,
-    text: &mut String,
-    layout: &Layout,
-    reads: &[Read],
-    indent: &str,
+    to: Target,
     act: &[Assign],
 ) -> Result<(), AllocError>
-    requires { AssignmentsFit (length layout.now) (map assignment act.now) }
-    ensures { OnOk result (string_bytes text.new ≡ string_bytes text.old ++ actions_text layout.now reads.now indent.now (map (changed (widths_of layout.now)) (map assignment act.now))) }
+    requires { AssignmentsFit (length w.now.layout.now) (map assignment act.now) }
+    ensures { OnOk result (string_bytes text.new ≡ string_bytes text.old ++ actions_text w.now.layout.now w.now.reads.now indent.now (map (assigned_to (widths_of w.now.layout.now) w.now.kinds.now to) (map assignment act.now))) }
 {
     for a in act {
-        push_change(alloc, text, layout, reads, indent, a)?;
-    }
-    Ok(())
-}
-
-/// Adds assignments to plain words.
-pub(crate) fn push_writes(
-    alloc: Global,
-    text: &mut String,
-    layout: &Layout,
-    reads: &[Read],
-    indent: &str,
-    act: &[Assign],
-) -> Result<(), AllocError>
-    requires { AssignmentsFit (length layout.now) (map assignment act.now) }
-    ensures { OnOk result (string_bytes text.new ≡ string_bytes text.old ++ actions_text layout.now reads.now indent.now (map (written (widths_of layout.now)) (map assignment act.now))) }
-{
-    for a in act {
-        push_write(alloc, text, layout, reads, indent, a)?;
-    }
-    Ok(())
-}
-
-/// Adds assignments to plain words and to the word that is stored.
-pub(crate) fn push_writes_or_stores(
-    alloc: Global,
-    text: &mut String,
-    layout: &Layout,
-    indent: &str,
-    stored: usize,
-    act: &[Assign],
-) -> Result<(), AllocError>
-    requires { AssignmentsFit (length layout.now) (map assignment act.now) }
-    ensures { OnOk result (string_bytes text.new ≡ string_bytes text.old ++ actions_text layout.now [] indent.now (map (written_or_stored (widths_of layout.now) stored) (map assignment act.now))) }
-{
-    for a in act {
-        push_write_or_store(alloc, text, layout, indent, stored, a)?;
+        push_assigned(w, text, indent, to, a)?;
     }
     Ok(())
 }

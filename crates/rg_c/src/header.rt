@@ -8,7 +8,7 @@ ghost use Rattle.rg_tree.specs.ProgramView.{statement, specification, part as pa
 ghost use Rattle.rg_tree.specs.ProgramTrees.{program as program_tree};
 ghost use Rattle.rg_code.specs.Code.{count_of};
 ghost use Rattle.rg_c_plan.specs.Ways.{kind_at, is_guarded};
-ghost use Rattle.rg_c.specs.Headers.{kind_before, kind_after, kind_what, bits_text, note_text, field_text, fields_text, struct_text, kind_reads, conjunct_lines, promise_text, promises_text, counts_text, top_text, has_atomic, lock_free_text, lock_free_texts, atomics_text, macros_text, asserted, run_text, one_round, all_rounds, round_text, is_always, body_text, part_text, parts_text, header_text};
+ghost use Rattle.rg_c.specs.Headers.{kind_before, kind_after, kind_what, bits_text, note_text, field_text, fields_text, struct_text, conjunct_lines, promise_text, promises_text, counts_text, top_text, has_atomic, lock_free_text, lock_free_texts, atomics_text, macros_text, asserted, run_text, one_round, all_rounds, round_text, is_always, body_text, part_text, seen_part_text, parts_text, header_text};
 ghost use Rattle.rg_c.specs.Fitting.{StatementFits, SpecificationFits, PartsFit};
 ghost use Rattle.rg_c.specs.Pages.{page as page_tree};
 
@@ -21,14 +21,16 @@ use crate::heads::{
 };
 use crate::lines::push_block_close;
 use crate::page::{Page, digits};
+use crate::reads::kind_reads;
 use crate::start::push_start;
 use crate::statements::{push_loop, push_statement};
 use crate::steps::test_text;
 use rg_c_plan::kind::Kind;
+use rg_c_plan::views::kinds_for;
+use rg_c_plan::way::kind_at;
 use rg_c_report::counts::{Counts, counts_of, push_counts_first, push_counts_second};
 use rg_c_report::parties::push_parties;
 use rg_c_values::pieces::container;
-use rg_c_values::print::Read;
 use rg_c_values::translate::test_in_c;
 use rg_tree::part::{Part, Spec};
 use rg_tree::print::print;
@@ -49,22 +51,12 @@ pub struct Options<'a> {
     pub is_traced: bool,
 }
 
-/// The kind of a word; one without a kind is plain.
-fn kind_at(kinds: &[Kind], word: usize) -> Kind
-    ensures { result ≡ kind_at kinds.now word }
-{
-    match kinds.get(word) {
-        Some(kind) => *kind,
-        None => Kind::Own,
-    }
-}
-
 fn kind_before(kind: Kind) -> &'static str
     ensures { result.now ≡ kind_before kind }
 {
     match kind {
         Kind::Fixed => "const ",
-        Kind::Atomic => "RGC_ATOMIC(",
+        Kind::Published | Kind::Atomic => "RGC_ATOMIC(",
         Kind::Own | Kind::Guarded => "",
     }
 }
@@ -73,7 +65,7 @@ fn kind_after(kind: Kind) -> &'static str
     ensures { result.now ≡ kind_after kind }
 {
     match kind {
-        Kind::Atomic => ")",
+        Kind::Published | Kind::Atomic => ")",
         Kind::Fixed | Kind::Own | Kind::Guarded => "",
     }
 }
@@ -84,7 +76,7 @@ fn kind_what(kind: Kind) -> &'static str
     match kind {
         Kind::Fixed => "fixed",
         Kind::Own => "plain",
-        Kind::Atomic => "atomic",
+        Kind::Published | Kind::Atomic => "atomic",
         Kind::Guarded => "in critical sections",
     }
 }
@@ -174,20 +166,6 @@ fn push_fields(
     Ok(())
 }
 
-/// How words are read outside of steps.
-fn kind_reads(alloc: Global, kinds: &[Kind]) -> Result<Vec<Read>, AllocError>
-    ensures { IfOk result (λ reads. reads.items ≡ kind_reads kinds.now) }
-{
-    let mut reads = Vec::new(alloc);
-    for kind in kinds {
-        reads.push(match kind {
-            Kind::Atomic => Read::Load,
-            Kind::Fixed | Kind::Own | Kind::Guarded => Read::Plain,
-        })?;
-    }
-    Ok(reads)
-}
-
 /// Adds the conjuncts of a formula, each on a line, after what stands before the first.
 #[cycle(promises)]
 fn push_conjuncts(
@@ -270,7 +248,7 @@ fn push_top(
     requires { SpecificationFits (length program.now.layout) (specification program.now.spec) }
     ensures { OnOk result (string_bytes text.new ≡ string_bytes text.old ++ top_text name.now kinds.now (program_tree program.now)) }
 {
-    let counts = counts_of(alloc, kinds, &program.parts)?;
+    let counts = counts_of(alloc, program, kinds)?;
     push_top_open(text, name)?;
     push_promises(alloc, text, &program.layout, &program.spec)?;
     push_counts(text, &counts)?;
@@ -533,28 +511,45 @@ fn push_part(page: &Page<'_>, text: &mut String, name: &str, part: &Part) -> Res
     push_body(page, text, &titles, &part.body)
 }
 
-/// Adds parts.
-fn push_parts(
+/// What the text of the parts depends on: the program, the kinds of its words, and how a header is made.
+#[derive(Clone, Copy)]
+struct Whole<'a> {
     alloc: Global,
+    program: &'a Program,
+    kinds: &'a [Kind],
+    options: &'a Options<'a>,
+}
+
+/// Adds a part at this place, by the kinds of words as it sees them.
+fn push_seen_part(
+    whole: &Whole<'_>,
     text: &mut String,
-    layout: &Layout,
-    kinds: &[Kind],
-    options: &Options<'_>,
-    parts: &[Part],
+    place: usize,
+    part: &Part,
 ) -> Result<(), AllocError>
-    requires { PartsFit (length layout.now) (map part_tree parts.now) }
-    ensures { OnOk result (string_bytes text.new ≡ string_bytes text.old ++ parts_text options.now.name.now layout.now kinds.now options.now.is_traced 0 (map part_tree parts.now)) }
+    requires fits { StatementFits (length whole.now.program.now.layout) (statement part.now.body) }
+    requires room { count_of (statement part.now.body) < 2 ^ 64 }
+    ensures { OnOk result (string_bytes text.new ≡ string_bytes text.old ++ seen_part_text whole.now.options.now.name.now (program_tree whole.now.program.now) whole.now.kinds.now whole.now.options.now.is_traced place (part_tree part.now)) }
+{
+    let kinds = kinds_for(whole.alloc, whole.program, whole.kinds, place)?;
+    let page = Page {
+        alloc: whole.alloc,
+        layout: &whole.program.layout,
+        kinds: &kinds,
+        part: place,
+        is_traced: whole.options.is_traced,
+    };
+    push_part(&page, text, whole.options.name, part)
+}
+
+/// Adds parts.
+fn push_parts(whole: &Whole<'_>, text: &mut String, parts: &[Part]) -> Result<(), AllocError>
+    requires { PartsFit (length whole.now.program.now.layout) (map part_tree parts.now) }
+    ensures { OnOk result (string_bytes text.new ≡ string_bytes text.old ++ parts_text whole.now.options.now.name.now (program_tree whole.now.program.now) whole.now.kinds.now whole.now.options.now.is_traced 0 (map part_tree parts.now)) }
 {
     let mut place = 0;
     for part in parts {
-        let page = Page {
-            alloc,
-            layout,
-            kinds,
-            part: place,
-            is_traced: options.is_traced,
-        };
-        push_part(&page, text, options.name, part)?;
+        push_seen_part(whole, text, place, part)?;
         place += 1;
     }
     Ok(())
@@ -587,7 +582,13 @@ pub fn header(
     push_start(alloc, &mut text, options.name, program)?;
     push_asserted(&page, &mut text, options.name, "pre", &program.spec.pre)?;
     push_asserted(&page, &mut text, options.name, "post", &program.spec.post)?;
-    push_parts(alloc, &mut text, layout, kinds, options, &program.parts)?;
+    let whole = Whole {
+        alloc,
+        program,
+        kinds,
+        options,
+    };
+    push_parts(&whole, &mut text, &program.parts)?;
     push_guard_close(&mut text)?;
     Ok(text)
 }

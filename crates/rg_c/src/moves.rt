@@ -1,7 +1,6 @@
 //! The words that a step keeps in locals, and its test.
 
-ghost use Rattle.std.specs.Prelude.{◌≡◌, ◌∷◌, ◌++◌, [], length, map, slice_set, IfOk};
-ghost use Rattle.std.specs.Option.{option_map_or};
+ghost use Rattle.std.specs.Prelude.{◌≡◌, ◌∷◌, [], length, map, slice_set, IfOk};
 ghost use Rattle.rg_words.specs.Layout.{widths_of};
 ghost use Rattle.rg_tree.specs.Fits.{FormulaFits};
 ghost use Rattle.rg_tree.specs.View.{formula};
@@ -10,9 +9,11 @@ ghost use Rattle.rg_c_plan.specs.View.{guard_tree};
 ghost use Rattle.rg_c_values.specs.View.{test};
 ghost use Rattle.rg_c_values.specs.declared.print.Read.TheVariants.{Local};
 ghost use Rattle.rg_c.specs.Steps.{is_in, targets_beside, test_of};
-ghost use Rattle.rg_c.specs.StepTexts.{local_reads};
+ghost use Rattle.rg_c.specs.Reads.{local_reads};
 ghost use Rattle.rg_c.specs.Fitting.{GuardFits};
 
+use crate::reads::kind_reads;
+use rg_c_plan::kind::Kind;
 use rg_c_values::print::Read;
 use rg_c_values::translate::test_in_c;
 use rg_c_values::tree::Test;
@@ -53,19 +54,17 @@ pub(crate) fn targets_beside(
     Ok(list)
 }
 
-/// How words are read where the first word, if there is one, and the others have locals.
+/// How words are read where this word and the others have locals.
 pub(crate) fn local_reads(
     alloc: Global,
-    layout: &Layout,
-    first: Option<usize>,
+    kinds: &[Kind],
+    first: usize,
     others: &[usize],
 ) -> Result<Vec<Read>, AllocError>
-    ensures { IfOk result (λ reads. reads.items ≡ local_reads layout.now (option_map_or (λ k. k ∷ []) first [] ++ others.now)) }
+    ensures { IfOk result (λ reads. reads.items ≡ local_reads kinds.now (first ∷ others.now)) }
 {
-    let mut reads = vec![in alloc; Read::Plain; layout.len()]?;
-    if let Some(word) = first {
-        set_local(&mut reads, word);
-    }
+    let mut reads = kind_reads(alloc, kinds)?;
+    set_local(&mut reads, first);
     for word in others {
         set_local(&mut reads, *word);
     }

@@ -15,7 +15,7 @@ pub(crate) fn is_section(way: Way) -> bool
 {
     match way {
         Way::Section => true,
-        Way::Direct | Way::Load(_) | Way::Store(_) | Way::Exchange(_) => false,
+        Way::Direct | Way::Load(_) | Way::Store(_) | Way::Exchange(_) | Way::Select => false,
     }
 }
 

@@ -5,6 +5,7 @@ ghost use Rattle.std.specs.Option.{option_map_or};
 ghost use Rattle.rg_tree.specs.View.{formula};
 ghost use Rattle.rg_tree.specs.ConditionTrees.{assignment};
 ghost use Rattle.rg_c_plan.specs.View.{guard_tree};
+ghost use Rattle.rg_c_plan.specs.Changes.{moving};
 ghost use Rattle.rg_c.specs.Bodies.{mark_of};
 ghost use Rattle.rg_c.specs.StepTexts.{section_note, step_text};
 ghost use Rattle.rg_c.specs.Fitting.{AssignmentsFit, GuardFits};
@@ -15,15 +16,15 @@ use crate::moves::test_of;
 use crate::notes::{is_section, names_text};
 use crate::steps::{Doing, push_done};
 use itoa::Buffer;
+use rg_c_plan::change::moving;
 use rg_c_plan::kind::Kind;
 use rg_c_plan::way::{met_words, way_of};
-use rg_c_report::moves::moving;
 use rg_tree::condition::Assign;
 use rg_tree::tree::Formula;
 use rg_words::Layout;
 use std::alloc::{AllocError, Global};
 
-/// The words and their kinds, the part's place, from 0, and whether steps are marked.
+/// The words and their kinds as the part sees them, the part's place, from 0, and whether steps are marked.
 #[derive(Clone, Copy)]
 pub(crate) struct Page<'a> {
     pub(crate) alloc: Global,
@@ -67,7 +68,7 @@ pub(crate) fn push_note(
     guard: Option<&Formula>,
     act: &[Assign],
 ) -> Result<(), AllocError>
-    ensures { OnOk result (string_bytes text.new ≡ string_bytes text.old ++ section_note page.now.layout.now page.now.kinds.now indent.now (guard_tree guard.entry) (map assignment act.now)) }
+    ensures { OnOk result (string_bytes text.new ≡ string_bytes text.old ++ section_note page.now.layout.now page.now.kinds.now indent.now (guard_tree guard.entry) (moving (map assignment act.now))) }
 {
     if !is_section(way_of(page.kinds, guard, act)) {
         return Ok(());
@@ -93,12 +94,13 @@ pub(crate) fn push_step(
 {
     let mark = mark_of(page, place)?;
     let moves = moving(page.alloc, act)?;
-    let way = way_of(page.kinds, guard, &moves);
+    let way = way_of(page.kinds, guard, act);
     let test = test_of(page.alloc, page.layout, guard)?;
-    push_note(page, text, indent, guard, &moves)?;
+    push_note(page, text, indent, guard, act)?;
     let doing = Doing {
         alloc: page.alloc,
         layout: page.layout,
+        kinds: page.kinds,
         indent,
         mark: &mark,
         test: &test,

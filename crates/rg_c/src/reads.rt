@@ -2,8 +2,10 @@
 
 ghost use Rattle.std.specs.Prelude.{◌≡◌, IfOk};
 ghost use Rattle.rg_c_values.specs.View.{test, value};
-ghost use Rattle.rg_c.specs.Reads.{is_load_of, is_literal, is_one_load, load_reads};
+ghost use Rattle.rg_c.specs.Reads.{is_load_of, is_literal, is_one_load, load_reads, kind_reads};
 
+use rg_c_plan::kind::Kind;
+use rg_c_plan::way::has_atomic_accesses;
 use rg_c_values::print::Read;
 use rg_c_values::tree::{Test, Value};
 use rg_words::Layout;
@@ -50,6 +52,21 @@ pub(crate) fn load_reads(
     let mut reads = vec![in alloc; Read::Plain; layout.len()]?;
     if word < reads.len() {
         reads[word] = Read::Load;
+    }
+    Ok(reads)
+}
+
+/// How words are read by their kinds: by a load where each access is atomic, and plainly else.
+pub(crate) fn kind_reads(alloc: Global, kinds: &[Kind]) -> Result<Vec<Read>, AllocError>
+    ensures { IfOk result (λ reads. reads.items ≡ kind_reads kinds.now) }
+{
+    let mut reads = Vec::new(alloc);
+    for kind in kinds {
+        reads.push(if has_atomic_accesses(*kind) {
+            Read::Load
+        } else {
+            Read::Plain
+        })?;
     }
     Ok(reads)
 }

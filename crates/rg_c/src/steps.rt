@@ -7,13 +7,15 @@ ghost use Rattle.rg_c_values.specs.View.{test};
 ghost use Rattle.rg_c_values.specs.Printed.{test_text};
 ghost use Rattle.rg_c_plan.specs.declared.way.Way.TheVariants.{Exchange};
 ghost use Rattle.rg_c.specs.Actions.{begins, copies, returns, exchanges};
-ghost use Rattle.rg_c.specs.Steps.{written, written_or_stored, changed, exchange_step};
+ghost use Rattle.rg_c.specs.declared.actions.Target.TheVariants.{Word, Local};
+ghost use Rattle.rg_c.specs.Steps.{assigned_to, plain_step, exchange_step};
+ghost use Rattle.rg_c.specs.Texts.{actions_text};
 ghost use Rattle.rg_c.specs.Fitting.{AssignmentsFit};
-ghost use Rattle.rg_c.specs.StepTexts.{is_true, marked, wait_text, waits, enter_text, leave_text, held_free, held_begins, held_ends, held_tested, held_text, loaded_wait, loaded_text, after_text, changed_text, tried_text, before_text, exchange_text, done_text};
+ghost use Rattle.rg_c.specs.StepTexts.{is_true, marked, wait_text, waits, enter_text, leave_text, held_free, held_begins, held_ends, held_tested, held_text, loaded_wait, loaded_text, after_text, changed_text, tried_text, before_text, exchange_text, bare_text, done_text};
 
 use crate::actions::{
-    push_begin, push_changes, push_copies, push_discard, push_exchange, push_load, push_returns,
-    push_writes, push_writes_or_stores,
+    Target, Words, push_all_assigned, push_begin, push_copies, push_discard, push_exchange,
+    push_load, push_returns,
 };
 use crate::lines::{
     inner, push_attempt_line, push_block_close, push_block_open, push_done_line, push_done_open,
@@ -21,8 +23,9 @@ use crate::lines::{
     push_loop_open, push_mark_line, push_wait_line,
 };
 use crate::moves::{local_reads, targets_beside};
-use crate::reads::{is_one_load, load_reads};
+use crate::reads::{is_one_load, kind_reads, load_reads};
 use crate::used::is_used;
+use rg_c_plan::kind::Kind;
 use rg_c_plan::way::Way;
 use rg_c_values::print::{Read, print_test};
 use rg_c_values::tree::Test;
@@ -30,15 +33,36 @@ use rg_tree::condition::Assign;
 use rg_words::Layout;
 use std::alloc::{AllocError, Global};
 
-/// A step to be written: its indent, its mark or an empty text, its test, and its assignments.
+/// A step to be written: the words and their kinds as its part sees them, its indent, its mark or an empty text, its test, and its assignments.
 #[derive(Clone, Copy)]
 pub(crate) struct Doing<'a> {
     pub(crate) alloc: Global,
     pub(crate) layout: &'a Layout,
+    pub(crate) kinds: &'a [Kind],
     pub(crate) indent: &'a str,
     pub(crate) mark: &'a str,
     pub(crate) test: &'a Test,
     pub(crate) act: &'a [Assign],
+}
+
+/// Adds its assignments, to words or to their locals, where words are read so.
+fn push_act(
+    d: &Doing<'_>,
+    text: &mut String,
+    reads: &[Read],
+    indent: &str,
+    to: Target,
+) -> Result<(), AllocError>
+    requires { AssignmentsFit (length d.now.layout.now) (map assignment d.now.act.now) }
+    ensures { OnOk result (string_bytes text.new ≡ string_bytes text.old ++ actions_text d.now.layout.now reads.now indent.now (map (assigned_to (widths_of d.now.layout.now) d.now.kinds.now to) (map assignment d.now.act.now))) }
+{
+    let words = Words {
+        alloc: d.alloc,
+        layout: d.layout,
+        kinds: d.kinds,
+        reads,
+    };
+    push_all_assigned(&words, text, indent, to, d.act)
 }
 
 /// Whether a test is always true.
@@ -90,15 +114,15 @@ fn push_wait(d: &Doing<'_>, text: &mut String, reads: &[Read]) -> Result<(), All
     push_block_close(text, d.indent)
 }
 
-/// Adds waiting until a test that reads plain words is true.
+/// Adds waiting until a test is true, if it isn't always.
 #[tactic(auto, unfolding(crate::specs::StepTexts::waits))]
-fn push_waits(d: &Doing<'_>, text: &mut String) -> Result<(), AllocError>
-    ensures { OnOk result (string_bytes text.new ≡ string_bytes text.old ++ waits d.now.layout.now d.now.indent.now d.now.mark.now (test d.now.test.now)) }
+fn push_waits(d: &Doing<'_>, text: &mut String, reads: &[Read]) -> Result<(), AllocError>
+    ensures { OnOk result (string_bytes text.new ≡ string_bytes text.old ++ waits d.now.layout.now reads.now d.now.indent.now d.now.mark.now (test d.now.test.now)) }
 {
     if is_true(d.test) {
         return push_marked(text, d.indent, d.mark);
     }
-    push_wait(d, text, &[])
+    push_wait(d, text, reads)
 }
 
 /// Adds what a step begins with that is done in a section or over a local; a load has a local only where that is used.
@@ -117,7 +141,7 @@ pub(crate) fn push_enter(
         Way::Load(word) if used => push_load(alloc, text, layout, indent, word),
         Way::Load(word) => push_discard(alloc, text, layout, indent, word),
         Way::Section => push_enter_line(text, indent),
-        Way::Direct | Way::Store(_) | Way::Exchange(_) => Ok(()),
+        Way::Direct | Way::Store(_) | Way::Exchange(_) | Way::Select => Ok(()),
     }
 }
 
@@ -128,7 +152,7 @@ pub(crate) fn push_leave(text: &mut String, indent: &str, way: Way) -> Result<()
 {
     match way {
         Way::Section => push_leave_line(text, indent),
-        Way::Direct | Way::Load(_) | Way::Store(_) | Way::Exchange(_) => Ok(()),
+        Way::Direct | Way::Load(_) | Way::Store(_) | Way::Exchange(_) | Way::Select => Ok(()),
     }
 }
 
@@ -141,14 +165,14 @@ fn push_held_free(
     way: Way,
 ) -> Result<(), AllocError>
     requires { AssignmentsFit (length d.now.layout.now) (map assignment d.now.act.now) }
-    ensures { OnOk result (string_bytes text.new ≡ string_bytes text.old ++ held_free d.now.layout.now reads.now d.now.indent.now d.now.mark.now way (test d.now.test.now) (map (written (widths_of d.now.layout.now)) (map assignment d.now.act.now))) }
+    ensures { OnOk result (string_bytes text.new ≡ string_bytes text.old ++ held_free d.now.layout.now reads.now d.now.indent.now d.now.mark.now way (test d.now.test.now) (map (assigned_to (widths_of d.now.layout.now) d.now.kinds.now Word) (map assignment d.now.act.now))) }
 {
     let inside = inner(d.alloc, d.indent)?;
-    let used = is_used(d.alloc, d.layout, way, d.test, d.act)?;
+    let used = is_used(d.alloc, d.layout, d.kinds, way, d.test, d.act)?;
     push_block_open(text, d.indent)?;
     push_marked(text, &inside, d.mark)?;
     push_enter(d.alloc, text, d.layout, &inside, used, way)?;
-    push_writes(d.alloc, text, d.layout, reads, &inside, d.act)?;
+    push_act(d, text, reads, &inside, Target::Word)?;
     push_leave(text, &inside, way)?;
     push_block_close(text, d.indent)
 }
@@ -162,11 +186,11 @@ fn push_held_begins(
     way: Way,
 ) -> Result<(), AllocError>
     requires { AssignmentsFit (length d.now.layout.now) (map assignment d.now.act.now) }
-    ensures { OnOk result (string_bytes text.new ≡ string_bytes text.old ++ held_begins d.now.layout.now reads.now d.now.indent.now d.now.mark.now way (test d.now.test.now) (map (written (widths_of d.now.layout.now)) (map assignment d.now.act.now))) }
+    ensures { OnOk result (string_bytes text.new ≡ string_bytes text.old ++ held_begins d.now.layout.now reads.now d.now.indent.now d.now.mark.now way (test d.now.test.now) (map (assigned_to (widths_of d.now.layout.now) d.now.kinds.now Word) (map assignment d.now.act.now))) }
 {
     let inside = inner(d.alloc, d.indent)?;
     let t = test_text(d.alloc, d.layout, reads, d.test)?;
-    let used = is_used(d.alloc, d.layout, way, d.test, d.act)?;
+    let used = is_used(d.alloc, d.layout, d.kinds, way, d.test, d.act)?;
     push_loop_open(text, d.indent)?;
     push_attempt_line(text, &inside)?;
     push_marked(text, &inside, d.mark)?;
@@ -195,14 +219,14 @@ fn push_made(
     indent: &str,
 ) -> Result<(), AllocError>
     requires { AssignmentsFit (length d.now.layout.now) (map assignment d.now.act.now) }
-    ensures { OnOk result (string_bytes text.new ≡ string_bytes text.old ++ after_text d.now.layout.now reads.now indent.now (map (written (widths_of d.now.layout.now)) (map assignment d.now.act.now))) }
+    ensures { OnOk result (string_bytes text.new ≡ string_bytes text.old ++ after_text d.now.layout.now reads.now indent.now (map (assigned_to (widths_of d.now.layout.now) d.now.kinds.now Word) (map assignment d.now.act.now))) }
 {
     if d.act.len() == 0 {
         return Ok(());
     }
     let deep = inner(d.alloc, indent)?;
     push_done_open(text, indent)?;
-    push_writes(d.alloc, text, d.layout, reads, &deep, d.act)?;
+    push_act(d, text, reads, &deep, Target::Word)?;
     push_block_close(text, indent)
 }
 
@@ -215,7 +239,7 @@ fn push_held_tested(
     way: Way,
 ) -> Result<(), AllocError>
     requires { AssignmentsFit (length d.now.layout.now) (map assignment d.now.act.now) }
-    ensures { OnOk result (string_bytes text.new ≡ string_bytes text.old ++ held_tested d.now.layout.now reads.now d.now.indent.now d.now.mark.now way (test d.now.test.now) (map (written (widths_of d.now.layout.now)) (map assignment d.now.act.now))) }
+    ensures { OnOk result (string_bytes text.new ≡ string_bytes text.old ++ held_tested d.now.layout.now reads.now d.now.indent.now d.now.mark.now way (test d.now.test.now) (map (assigned_to (widths_of d.now.layout.now) d.now.kinds.now Word) (map assignment d.now.act.now))) }
 {
     let inside = inner(d.alloc, d.indent)?;
     push_held_begins(d, text, reads, way)?;
@@ -227,7 +251,7 @@ fn push_held_tested(
 #[tactic(auto, unfolding(crate::specs::StepTexts::held_text))]
 fn push_held(d: &Doing<'_>, text: &mut String, reads: &[Read], way: Way) -> Result<(), AllocError>
     requires { AssignmentsFit (length d.now.layout.now) (map assignment d.now.act.now) }
-    ensures { OnOk result (string_bytes text.new ≡ string_bytes text.old ++ held_text d.now.layout.now reads.now d.now.indent.now d.now.mark.now way (test d.now.test.now) (map (written (widths_of d.now.layout.now)) (map assignment d.now.act.now))) }
+    ensures { OnOk result (string_bytes text.new ≡ string_bytes text.old ++ held_text d.now.layout.now reads.now d.now.indent.now d.now.mark.now way (test d.now.test.now) (map (assigned_to (widths_of d.now.layout.now) d.now.kinds.now Word) (map assignment d.now.act.now))) }
 {
     if is_true(d.test) {
         push_held_free(d, text, reads, way)
@@ -249,12 +273,12 @@ fn push_loaded_wait(d: &Doing<'_>, text: &mut String, word: usize) -> Result<(),
 #[tactic(auto, unfolding(crate::specs::StepTexts::loaded_text))]
 fn push_loaded(d: &Doing<'_>, text: &mut String, word: usize) -> Result<(), AllocError>
     requires { AssignmentsFit (length d.now.layout.now) (map assignment d.now.act.now) }
-    ensures { OnOk result (string_bytes text.new ≡ string_bytes text.old ++ loaded_text d.now.layout.now d.now.indent.now d.now.mark.now word (test d.now.test.now) (map (written (widths_of d.now.layout.now)) (map assignment d.now.act.now))) }
+    ensures { OnOk result (string_bytes text.new ≡ string_bytes text.old ++ loaded_text d.now.layout.now d.now.kinds.now d.now.indent.now d.now.mark.now word (test d.now.test.now) (map (assigned_to (widths_of d.now.layout.now) d.now.kinds.now Word) (map assignment d.now.act.now))) }
 {
     if d.act.len() == 0 && is_one_load(word, d.test) {
         return push_loaded_wait(d, text, word);
     }
-    let reads = local_reads(d.alloc, d.layout, Some(word), &[])?;
+    let reads = local_reads(d.alloc, d.kinds, word, &[])?;
     push_held(d, text, &reads, Way::Load(word))
 }
 
@@ -288,9 +312,9 @@ fn push_changed(
     others: &[usize],
 ) -> Result<(), AllocError>
     requires { AssignmentsFit (length d.now.layout.now) (map assignment d.now.act.now) }
-    ensures { OnOk result (string_bytes text.new ≡ string_bytes text.old ++ changed_text d.now.layout.now reads.now indent.now (map (changed (widths_of d.now.layout.now)) (map assignment d.now.act.now) ++ exchanges word ∷ []) (map returns others.now)) }
+    ensures { OnOk result (string_bytes text.new ≡ string_bytes text.old ++ changed_text d.now.layout.now reads.now indent.now (map (assigned_to (widths_of d.now.layout.now) d.now.kinds.now Local) (map assignment d.now.act.now) ++ exchanges word ∷ []) (map returns others.now)) }
 {
-    push_changes(d.alloc, text, d.layout, reads, indent, d.act)?;
+    push_act(d, text, reads, indent, Target::Local)?;
     push_exchange(d.alloc, text, d.layout, indent, word)?;
     push_after(d, text, indent, others)
 }
@@ -306,7 +330,7 @@ fn push_tried(
     others: &[usize],
 ) -> Result<(), AllocError>
     requires { AssignmentsFit (length d.now.layout.now) (map assignment d.now.act.now) }
-    ensures { OnOk result (string_bytes text.new ≡ string_bytes text.old ++ tried_text d.now.layout.now reads.now indent.now (test d.now.test.now) (map (changed (widths_of d.now.layout.now)) (map assignment d.now.act.now) ++ exchanges word ∷ []) (map returns others.now)) }
+    ensures { OnOk result (string_bytes text.new ≡ string_bytes text.old ++ tried_text d.now.layout.now reads.now indent.now (test d.now.test.now) (map (assigned_to (widths_of d.now.layout.now) d.now.kinds.now Local) (map assignment d.now.act.now) ++ exchanges word ∷ []) (map returns others.now)) }
 {
     if is_true(d.test) {
         return push_changed(d, text, reads, indent, word, others);
@@ -343,7 +367,7 @@ fn push_attempts(
     others: &[usize],
 ) -> Result<(), AllocError>
     requires { AssignmentsFit (length d.now.layout.now) (map assignment d.now.act.now) }
-    ensures { OnOk result (string_bytes text.new ≡ string_bytes text.old ++ exchange_text d.now.layout.now reads.now d.now.indent.now d.now.mark.now (exchange_step (widths_of d.now.layout.now) word others.now (test d.now.test.now) (map assignment d.now.act.now))) }
+    ensures { OnOk result (string_bytes text.new ≡ string_bytes text.old ++ exchange_text d.now.layout.now reads.now d.now.indent.now d.now.mark.now (exchange_step (widths_of d.now.layout.now) d.now.kinds.now word others.now (test d.now.test.now) (map assignment d.now.act.now))) }
 {
     let inside = inner(d.alloc, d.indent)?;
     push_loop_open(text, d.indent)?;
@@ -359,31 +383,35 @@ fn push_attempts(
 #[tactic(auto, unfolding(crate::specs::StepTexts::done_text))]
 fn push_exchanged(d: &Doing<'_>, text: &mut String, word: usize) -> Result<(), AllocError>
     requires { AssignmentsFit (length d.now.layout.now) (map assignment d.now.act.now) }
-    ensures { OnOk result (string_bytes text.new ≡ string_bytes text.old ++ done_text d.now.layout.now d.now.indent.now d.now.mark.now (Exchange word) (test d.now.test.now) (map assignment d.now.act.now)) }
+    ensures { OnOk result (string_bytes text.new ≡ string_bytes text.old ++ done_text d.now.layout.now d.now.kinds.now d.now.indent.now d.now.mark.now (Exchange word) (test d.now.test.now) (map assignment d.now.act.now)) }
 {
     let others = targets_beside(d.alloc, word, d.act)?;
-    let reads = local_reads(d.alloc, d.layout, Some(word), &others)?;
+    let reads = local_reads(d.alloc, d.kinds, word, &others)?;
     push_attempts(d, text, &reads, word, &others)
+}
+
+/// Adds a step without locals.
+#[tactic(auto, unfolding(crate::specs::StepTexts::bare_text))]
+fn push_bare(d: &Doing<'_>, text: &mut String) -> Result<(), AllocError>
+    requires { AssignmentsFit (length d.now.layout.now) (map assignment d.now.act.now) }
+    ensures { OnOk result (string_bytes text.new ≡ string_bytes text.old ++ bare_text d.now.layout.now d.now.kinds.now d.now.indent.now d.now.mark.now (plain_step (widths_of d.now.layout.now) d.now.kinds.now [] (test d.now.test.now) (map assignment d.now.act.now))) }
+{
+    let reads = kind_reads(d.alloc, d.kinds)?;
+    push_waits(d, text, &reads)?;
+    push_act(d, text, &reads, d.indent, Target::Word)
 }
 
 /// Adds a step that is done in this way.
 #[tactic(auto, unfolding(crate::specs::StepTexts::done_text))]
 pub(crate) fn push_done(d: &Doing<'_>, text: &mut String, way: Way) -> Result<(), AllocError>
     requires { AssignmentsFit (length d.now.layout.now) (map assignment d.now.act.now) }
-    ensures { OnOk result (string_bytes text.new ≡ string_bytes text.old ++ done_text d.now.layout.now d.now.indent.now d.now.mark.now way (test d.now.test.now) (map assignment d.now.act.now)) }
+    ensures { OnOk result (string_bytes text.new ≡ string_bytes text.old ++ done_text d.now.layout.now d.now.kinds.now d.now.indent.now d.now.mark.now way (test d.now.test.now) (map assignment d.now.act.now)) }
 {
     match way {
-        Way::Direct => {
-            push_waits(d, text)?;
-            push_writes(d.alloc, text, d.layout, &[], d.indent, d.act)
-        }
-        Way::Store(word) => {
-            push_waits(d, text)?;
-            push_writes_or_stores(d.alloc, text, d.layout, d.indent, word, d.act)
-        }
+        Way::Direct | Way::Select | Way::Store(_) => push_bare(d, text),
         Way::Load(word) => push_loaded(d, text, word),
         Way::Section => {
-            let reads = local_reads(d.alloc, d.layout, None, &[])?;
+            let reads = kind_reads(d.alloc, d.kinds)?;
             push_held(d, text, &reads, way)
         }
         Way::Exchange(word) => push_exchanged(d, text, word),

@@ -11,43 +11,37 @@ use crate::lines::{
 };
 use crate::moves::local_reads;
 use crate::page::{Page, digits, mark_of};
-use crate::reads::{is_one_load, load_reads};
+use crate::reads::{is_one_load, kind_reads, load_reads};
 use crate::steps::{is_true, push_enter, push_leave, push_marked, test_text};
 use crate::used::is_used;
+use rg_c_plan::kind::Kind;
 use rg_c_plan::way::Way;
 use rg_c_values::print::Read;
 use rg_c_values::tree::Test;
-use rg_words::Layout;
 use std::alloc::{AllocError, Global};
 
 /// How words are read by a test that can stand in an `if` or a `while`, if it can.
-fn bare_reads(
-    alloc: Global,
-    layout: &Layout,
-    way: Way,
-    t: &Test,
-) -> Result<Option<Vec<Read>>, AllocError>
-    ensures { IfOk result (λ o. option_map (λ v. v.items) o ≡ bare_reads layout.now way (test t.now)) }
+fn bare_reads(page: &Page<'_>, way: Way, t: &Test) -> Result<Option<Vec<Read>>, AllocError>
+    ensures { IfOk result (λ o. option_map (λ v. v.items) o ≡ bare_reads (page_tree page.now) way (test t.now)) }
 {
     match way {
-        Way::Direct => Ok(Some(local_reads(alloc, layout, None, &[])?)),
-        Way::Load(word) if is_one_load(word, t) => Ok(Some(load_reads(alloc, layout, word)?)),
+        Way::Direct | Way::Select => Ok(Some(kind_reads(page.alloc, page.kinds)?)),
+        Way::Load(word) if is_one_load(word, t) => {
+            Ok(Some(load_reads(page.alloc, page.layout, word)?))
+        }
         Way::Load(_) | Way::Store(_) | Way::Exchange(_) | Way::Section => Ok(None),
     }
 }
 
 /// How words are read by a test that is worked out before.
-fn go_reads(alloc: Global, layout: &Layout, way: Way) -> Result<Vec<Read>, AllocError>
-    ensures { IfOk result (λ reads. reads.items ≡ go_reads layout.now way) }
+fn go_reads(alloc: Global, kinds: &[Kind], way: Way) -> Result<Vec<Read>, AllocError>
+    ensures { IfOk result (λ reads. reads.items ≡ go_reads kinds.now way) }
 {
     match way {
-        Way::Load(word) => local_reads(alloc, layout, Some(word), &[]),
-        Way::Direct | Way::Store(_) | Way::Exchange(_) | Way::Section => local_reads(
-            alloc,
-            layout,
-            None,
-            &[],
-        ),
+        Way::Load(word) => local_reads(alloc, kinds, word, &[]),
+        Way::Direct | Way::Store(_) | Way::Exchange(_) | Way::Select | Way::Section => {
+            kind_reads(alloc, kinds)
+        }
     }
 }
 
@@ -66,9 +60,9 @@ fn push_go(
     let mark = mark_of(page, place)?;
     let number = digits(page.alloc, place as u64)?;
     let inside = inner(page.alloc, indent)?;
-    let reads = go_reads(page.alloc, page.layout, way)?;
+    let reads = go_reads(page.alloc, page.kinds, way)?;
     let asked = test_text(page.alloc, page.layout, &reads, t)?;
-    let used = is_used(page.alloc, page.layout, way, t, &[])?;
+    let used = is_used(page.alloc, page.layout, page.kinds, way, t, &[])?;
     push_go_open(text, indent, &number)?;
     push_marked(text, &inside, &mark)?;
     push_enter(page.alloc, text, page.layout, &inside, used, way)?;
@@ -89,7 +83,7 @@ pub(crate) fn push_if_begins(
 ) -> Result<(), AllocError>
     ensures { OnOk result (string_bytes text.new ≡ string_bytes text.old ++ if_begins (page_tree page.now) indent.now place way (test t.now)) }
 {
-    match bare_reads(page.alloc, page.layout, way, t)? {
+    match bare_reads(page, way, t)? {
         Some(reads) => {
             let mark = mark_of(page, place)?;
             let asked = test_text(page.alloc, page.layout, &reads, t)?;
@@ -139,7 +133,7 @@ pub(crate) fn push_loop_begins(
 ) -> Result<(), AllocError>
     ensures { OnOk result (string_bytes text.new ≡ string_bytes text.old ++ loop_begins (page_tree page.now) indent.now place way (test t.now)) }
 {
-    match bare_reads(page.alloc, page.layout, way, t)? {
+    match bare_reads(page, way, t)? {
         Some(reads) => push_bare_loop(page, text, indent, place, &reads, t),
         None => {
             let number = digits(page.alloc, place as u64)?;

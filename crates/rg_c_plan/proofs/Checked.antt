@@ -1,23 +1,25 @@
 -- The tests that the code makes of kinds decide whether they are sound.
-use Rattle.std.proofs.Common.{◌≡◌, ◌∙◌, ℕ, suc, get_or, ◌+◌, ◌<◌, Bool, true, false, not, ◌&&◌, ◌||◌, nat_eq, List, [], ◌∷◌, Option, Some, None, length, inl, inr, refl, ap, sym, arith}
+use Rattle.std.proofs.Common.{◌≡◌, ◌∙◌, ℕ, suc, get_or, ◌+◌, ◌<◌, Bool, true, false, not, ◌&&◌, ◌||◌, nat_eq, List, [], ◌∷◌, Option, Some, None, length, cond, refl, ap, sym, subst, arith}
 use Rattle.std.specs.Bool.{Decides}
-use Rattle.std.specs.List.{AllPairs, list_any, list_all, find}
+use Rattle.std.specs.List.{AllPairs, list_any, list_all}
 use Rattle.std.specs.Option.{option_map_or}
-use Rattle.std.proofs.lemmas.Bool.{true≢false, not-true, not_from_false, false_from_ne_true, or_parts, or_from, or_left, or_right, and_parts, and_from, eqb-true, eq-eqb, cases_lt, or_cases}
-use Rattle.std.proofs.lemmas.List.{get_or_past}
-use Rattle.std.proofs.lemmas.List.Elements.{All-contains, All-contains_itself}
+use Rattle.std.proofs.lemmas.Bool.{true≢false, not-true, not_from_false, false_from_ne_true, or_parts, or_from, and_parts, and_from}
+use Rattle.std.proofs.lemmas.List.FromFn.{length-map-range_with_len, get_or-map-range_with_len}
 use Rattle.std.proofs.lemmas.List.Kept.{AllPairs-cons}
 use Rattle.rg_tree.specs.Statements.{ProgramTree}
-use Rattle.rg_tree.specs.Trees.{Proposition, Assignment}
 use Rattle.rg_c_plan.specs.declared.access.Access.{Access}
 use Rattle.rg_c_plan.specs.declared.kind.Kind.{Kind}
-use Rattle.rg_c_plan.specs.declared.kind.Kind.TheVariants.{Fixed, Own, Atomic, Guarded}
-use Rattle.rg_c_plan.specs.Accesses.{StepTree, steps_of_parts, touches, accesses, world_access, is_fixed, is_touched, meet, some_meet, places}
-use Rattle.rg_c_plan.specs.Ways.{kind_at, is_atomic, is_guarded, touches_atomic, touches_met}
-use Rattle.rg_c_plan.specs.Sound.{IsSound}
-use Rattle.rg_c_plan.specs.Inner.Tests.{meets_no_other, is_step_sound, is_word_sound, are_words_sound}
-use Rattle.rg_c_plan.proofs.Places.{all_at, all_from, any_at}
-use Rattle.rg_c_plan.proofs.Lists.{all_fail, none_passes, passes_each, passes_all, found_passes, found_none}
+use Rattle.rg_c_plan.specs.declared.kind.Kind.TheVariants.{Fixed, Own, Published, Atomic, Guarded}
+use Rattle.rg_c_plan.specs.declared.planned.Unplanned.{Unplanned}
+use Rattle.rg_c_plan.specs.Accesses.{StepTree, accesses, world_access, is_fixed, is_touched, meet, some_meet, places}
+use Rattle.rg_c_plan.specs.Ways.{kind_at}
+use Rattle.rg_c_plan.specs.Once.{is_one_access}
+use Rattle.rg_c_plan.specs.Views.{ViewTree, views}
+use Rattle.rg_c_plan.specs.Kinds.{bare_kind, bare_kinds, is_crowded, kind_among, kind_of, kinds_of, failed, failing_step, failing, unplanned}
+use Rattle.rg_c_plan.specs.Sound.{are_one_access, IsSound}
+use Rattle.rg_c_plan.specs.Inner.Tests.{is_word_sound, are_words_sound}
+use Rattle.rg_c_plan.proofs.Places.{all_at, all_from}
+use Rattle.rg_c_plan.proofs.Lists.{all_fail, none_passes}
 
 -- no two of these meet
 abbrev pub Apart : List Access → Type 0
@@ -40,79 +42,58 @@ test_from_apart (x ∷ xs) h =
     (test_from_apart xs (λ i j d less within.
     ap (λ (y : Access). meet y (get_or xs j d)) (sym (next_of x xs i d)) ∙ ap (λ (y : Access). meet (get_or (x ∷ xs) (i + 1) d) y) (sym (next_of x xs j d)) ∙ h (i + 1) (j + 1) d (omega (arith, less)) (omega (arith, within))))
 
-module _ (kinds : List Kind) (guard : Option Proposition) (act : List Assignment) where
-  -- only words with a kind are met
-  pub met_within : (k : ℕ) → touches_met kinds guard act k ≡ true → k < length kinds
-  met_within k h =
-      elim (cases_lt k (length kinds)) [
-        | inl l ↦ l
-        | inr g ↦
-            let past : kind_at kinds k ≡ Own = get_or_past kinds k Own g in
-            let none : touches_met kinds guard act k ≡ false = ap (λ (kind : Kind). (is_atomic kind || is_guarded kind) && touches k guard act) past in
-            absurd (true≢false (sym h ∙ none))
-      ]
+-- where no step of a part fails, each is one access
+each_one : (kinds : List Kind) (ss : List StepTree) → failing_step kinds ss ≡ None → list_all (λ s. is_one_access kinds s.guard s.act) ss ≡ true
+each_one kinds [] h = refl
+each_one kinds (s ∷ ss) h = by (is_one_access kinds s.guard s.act) refl h (each_one kinds ss)
+  where
+    by : (b : Bool) → is_one_access kinds s.guard s.act ≡ b → cond b (failing_step kinds ss) (Some (failed kinds s)) ≡ None →
+        (failing_step kinds ss ≡ None → list_all (λ t. is_one_access kinds t.guard t.act) ss ≡ true) → list_all (λ t. is_one_access kinds t.guard t.act) (s ∷ ss) ≡ true
+    by true e k rest = and_from (is_one_access kinds s.guard s.act) (list_all (λ t. is_one_access kinds t.guard t.act) ss) e (rest k)
+    by false e k rest = cc k
 
-  -- an atomic word is met
-  pub atomic_met : (k : ℕ) → touches_atomic kinds guard act k ≡ true → touches_met kinds guard act k ≡ true
-  atomic_met k h =
-      let parts = and_parts (is_atomic (kind_at kinds k)) (touches k guard act) h in
-      and_from (is_atomic (kind_at kinds k) || is_guarded (kind_at kinds k)) (touches k guard act) (or_left (is_atomic (kind_at kinds k)) (is_guarded (kind_at kinds k)) parts.0) parts.1
+none_fails : (kinds : List Kind) (ss : List StepTree) → list_all (λ s. is_one_access kinds s.guard s.act) ss ≡ true → failing_step kinds ss ≡ None
+none_fails kinds [] h = refl
+none_fails kinds (s ∷ ss) h =
+    let parts = and_parts (is_one_access kinds s.guard s.act) (list_all (λ t. is_one_access kinds t.guard t.act) ss) h in
+    rw parts.0 (none_fails kinds ss parts.1)
 
--- a step that touches an atomic word touches no other atomic or guarded one
-abbrev pub MeetsOne : List Kind → StepTree → Type 0
-MeetsOne kinds s = (k j : ℕ) → touches_atomic kinds s.guard s.act k ≡ true → touches_met kinds s.guard s.act j ≡ true → j ≡ k
+pub each_one_access : (vs : List ViewTree) → failing vs ≡ None → are_one_access vs ≡ true
+each_one_access [] h = refl
+each_one_access (v ∷ vs) h = by (failing_step v.kinds v.steps) refl h (each_one_access vs)
+  where
+    by : (o : Option Unplanned) → failing_step v.kinds v.steps ≡ o → option_map_or (λ u. Some u) o (failing vs) ≡ None → (failing vs ≡ None → are_one_access vs ≡ true) → are_one_access (v ∷ vs) ≡ true
+    by None e k rest = and_from (list_all (λ s. is_one_access v.kinds s.guard s.act) v.steps) (are_one_access vs) (each_one v.kinds v.steps e) (rest k)
+    by (Some u) e k rest = cc k
 
-module _ (kinds : List Kind) (s : StepTree) where
-  pub meets_one : is_step_sound kinds s ≡ true → MeetsOne kinds s
-  meets_one h k j atomic met = by_found (find (touches_atomic kinds s.guard s.act) (places kinds)) refl h
-    where
-      by_found : (o : Option ℕ) → find (touches_atomic kinds s.guard s.act) (places kinds) ≡ o → option_map_or (meets_no_other kinds s) o true ≡ true → j ≡ k
-      by_found None e t =
-          let none = found_none (touches_atomic kinds s.guard s.act) (places kinds) e in
-          let within = met_within kinds s.guard s.act k (atomic_met kinds s.guard s.act k atomic) in
-          absurd (true≢false (sym (any_at (touches_atomic kinds s.guard s.act) 0 (length kinds) k (omega arith) (omega (arith, within)) atomic) ∙ none))
-      by_found (Some m) e t = is_m j met ∙ sym (is_m k (atomic_met kinds s.guard s.act k atomic))
-        where
-          is_m : (i : ℕ) → touches_met kinds s.guard s.act i ≡ true → i ≡ m
-          is_m i here =
-              let within = met_within kinds s.guard s.act i here in
-              let either = all_at (λ i. nat_eq i m || not (touches_met kinds s.guard s.act i)) 0 (length kinds) t i (omega arith) (omega (arith, within)) in
-              elim (or_cases (nat_eq i m) (not (touches_met kinds s.guard s.act i)) either) [
-                | inl same ↦ eqb-true i m same
-                | inr away ↦ absurd (true≢false (sym here ∙ not-true (touches_met kinds s.guard s.act i) away))
-              ]
-
-  pub step_passes : MeetsOne kinds s → is_step_sound kinds s ≡ true
-  step_passes h = by_found (find (touches_atomic kinds s.guard s.act) (places kinds)) refl
-    where
-      by_found : (o : Option ℕ) → find (touches_atomic kinds s.guard s.act) (places kinds) ≡ o → option_map_or (meets_no_other kinds s) o true ≡ true
-      by_found None e = refl
-      by_found (Some m) e = all_from (λ i. nat_eq i m || not (touches_met kinds s.guard s.act i)) 0 (length kinds) (λ i from to. at i (touches_met kinds s.guard s.act i) refl)
-        where
-          at : (i : ℕ) (b : Bool) → touches_met kinds s.guard s.act i ≡ b → (nat_eq i m || not (touches_met kinds s.guard s.act i)) ≡ true
-          at i true met = or_left (nat_eq i m) (not (touches_met kinds s.guard s.act i)) (eq-eqb i m (h m i (found_passes (touches_atomic kinds s.guard s.act) (places kinds) m e) met))
-          at i false met = or_right (nat_eq i m) (not (touches_met kinds s.guard s.act i)) (not_from_false (touches_met kinds s.guard s.act i) met)
+pub none_is_failing : (vs : List ViewTree) → are_one_access vs ≡ true → failing vs ≡ None
+none_is_failing [] h = refl
+none_is_failing (v ∷ vs) h =
+    let parts = and_parts (list_all (λ s. is_one_access v.kinds s.guard s.act) v.steps) (are_one_access vs) h in
+    rw (none_fails v.kinds v.steps parts.0) (none_is_failing vs parts.1)
 
 module _ (p : ProgramTree) where
   -- what the test of a word says
   pub record WordIsSound (kind : Kind) (k : ℕ) : Type 0 where
     pub fixed : Decides (is_fixed p.words k) (kind ≡ Fixed)
+    pub published : kind ≡ Published → ⊥
     pub own : kind ≡ Own → some_meet (accesses p k) ≡ false
     pub guarded : kind ≡ Guarded → is_touched (world_access k p.words p.spec.rely) ≡ false
 
   pub word_is_sound : (kind : Kind) (k : ℕ) → is_word_sound p kind k ≡ true → WordIsSound kind k
-  word_is_sound Fixed k h = record { fixed = (λ e. refl, λ e. h); own = λ e. cc e; guarded = λ e. cc e }
+  word_is_sound Fixed k h = record { fixed = (λ e. refl, λ e. h); published = λ e. cc e; own = λ e. cc e; guarded = λ e. cc e }
   word_is_sound Own k h =
       let parts = and_parts (not (is_fixed p.words k)) (not (some_meet (accesses p k))) h in
       let free = not-true (is_fixed p.words k) parts.0 in
-      record { fixed = (λ e. absurd (true≢false (sym e ∙ free)), λ e. cc e); own = λ e. not-true (some_meet (accesses p k)) parts.1; guarded = λ e. cc e }
+      record { fixed = (λ e. absurd (true≢false (sym e ∙ free)), λ e. cc e); published = λ e. cc e; own = λ e. not-true (some_meet (accesses p k)) parts.1; guarded = λ e. cc e }
+  word_is_sound Published k h = cc h
   word_is_sound Atomic k h =
       let free = not-true (is_fixed p.words k) h in
-      record { fixed = (λ e. absurd (true≢false (sym e ∙ free)), λ e. cc e); own = λ e. cc e; guarded = λ e. cc e }
+      record { fixed = (λ e. absurd (true≢false (sym e ∙ free)), λ e. cc e); published = λ e. cc e; own = λ e. cc e; guarded = λ e. cc e }
   word_is_sound Guarded k h =
       let parts = and_parts (not (is_fixed p.words k)) (not (is_touched (world_access k p.words p.spec.rely))) h in
       let free = not-true (is_fixed p.words k) parts.0 in
-      record { fixed = (λ e. absurd (true≢false (sym e ∙ free)), λ e. cc e); own = λ e. cc e; guarded = λ e. not-true (is_touched (world_access k p.words p.spec.rely)) parts.1 }
+      record { fixed = (λ e. absurd (true≢false (sym e ∙ free)), λ e. cc e); published = λ e. cc e; own = λ e. cc e; guarded = λ e. not-true (is_touched (world_access k p.words p.spec.rely)) parts.1 }
 
   free_word : (kind : Kind) (k : ℕ) → WordIsSound kind k → (kind ≡ Fixed → ⊥) → not (is_fixed p.words k) ≡ true
   free_word kind k w ne = not_from_false (is_fixed p.words k) (false_from_ne_true (is_fixed p.words k) (λ e. ne (w.fixed.0 e)))
@@ -120,19 +101,21 @@ module _ (p : ProgramTree) where
   pub word_passes : (kind : Kind) (k : ℕ) → WordIsSound kind k → is_word_sound p kind k ≡ true
   word_passes Fixed k w = w.fixed.1 refl
   word_passes Own k w = and_from (not (is_fixed p.words k)) (not (some_meet (accesses p k))) (free_word Own k w (λ e. cc e)) (not_from_false (some_meet (accesses p k)) (w.own refl))
+  word_passes Published k w = absurd (w.published refl)
   word_passes Atomic k w = free_word Atomic k w (λ e. cc e)
   word_passes Guarded k w =
       and_from (not (is_fixed p.words k)) (not (is_touched (world_access k p.words p.spec.rely))) (free_word Guarded k w (λ e. cc e)) (not_from_false (is_touched (world_access k p.words p.spec.rely)) (w.guarded refl))
 
   -- kinds that pass the tests are sound
-  pub sound_from_tests : (kinds : List Kind) → length kinds ≡ length p.words → are_words_sound p kinds ≡ true → list_all (is_step_sound kinds) (steps_of_parts p.parts) ≡ true → IsSound kinds p
+  pub sound_from_tests : (kinds : List Kind) → length kinds ≡ length p.words → are_words_sound p kinds ≡ true → failing (views p kinds) ≡ None → IsSound kinds p
   sound_from_tests kinds size words steps =
       record {
         count = size;
         fixed = λ k less. (word k less).fixed;
+        published = λ k less. (word k less).published;
         own = λ k less e. apart_from_test (accesses p k) ((word k less).own e);
-        atomic = λ s inside. meets_one kinds s (All-contains (λ t. is_step_sound kinds t ≡ true) (steps_of_parts p.parts) s (passes_each (is_step_sound kinds) (steps_of_parts p.parts) steps) inside);
         guarded = λ k less e. (word k less).guarded e;
+        steps = each_one_access (views p kinds) steps;
       }
     where
       word : (k : ℕ) → k < length p.words → WordIsSound (kind_at kinds k) k
@@ -146,11 +129,43 @@ module _ (p : ProgramTree) where
       let less : k < length p.words = omega (arith, to, size) in
       word_passes (kind_at kinds k) k (record {
         fixed = sound.fixed k less;
+        published = sound.published k less;
         own = λ e. test_from_apart (accesses p k) (sound.own k less e);
         guarded = λ e. sound.guarded k less e;
       }))
 
-  pub steps_pass : (kinds : List Kind) → IsSound kinds p → list_all (is_step_sound kinds) (steps_of_parts p.parts) ≡ true
-  steps_pass kinds sound =
-      let ss = steps_of_parts p.parts in
-      passes_all (is_step_sound kinds) ss (λ i d less. step_passes kinds (get_or ss i d) (sound.atomic (get_or ss i d) (All-contains_itself ss i d less)))
+  -- the chosen kinds pass the test of a word
+  chosen_kind : (vs : List ViewTree) (k : ℕ) → WordIsSound (kind_among p vs (bare_kind p k) k) k
+  chosen_kind vs k = by (is_fixed p.words k) refl
+    where
+      crowded : (t c : Bool) → is_touched (world_access k p.words p.spec.rely) ≡ t → is_fixed p.words k ≡ false → WordIsSound (cond (not t && c) Guarded Atomic) k
+      crowded true c e f = word_is_sound Atomic k (not_from_false (is_fixed p.words k) f)
+      crowded false true e f =
+          word_is_sound Guarded k (and_from (not (is_fixed p.words k)) (not (is_touched (world_access k p.words p.spec.rely))) (not_from_false (is_fixed p.words k) f) (not_from_false (is_touched (world_access k p.words p.spec.rely)) e))
+      crowded false false e f = word_is_sound Atomic k (not_from_false (is_fixed p.words k) f)
+
+      meeting : (m : Bool) → some_meet (accesses p k) ≡ m → is_fixed p.words k ≡ false → WordIsSound (kind_among p vs (cond (not m) Own Atomic) k) k
+      meeting true e f = crowded (is_touched (world_access k p.words p.spec.rely)) (is_crowded vs k) refl f
+      meeting false e f =
+          word_is_sound Own k (and_from (not (is_fixed p.words k)) (not (some_meet (accesses p k))) (not_from_false (is_fixed p.words k) f) (not_from_false (some_meet (accesses p k)) e))
+
+      by : (b : Bool) → is_fixed p.words k ≡ b → WordIsSound (kind_among p vs (cond b Fixed (cond (not (some_meet (accesses p k))) Own Atomic)) k) k
+      by true e = word_is_sound Fixed k e
+      by false e = meeting (some_meet (accesses p k)) refl e
+
+  pub bare_at : (k : ℕ) → k < length p.words → kind_at (bare_kinds p) k ≡ bare_kind p k
+  bare_at k less = get_or-map-range_with_len (bare_kind p) 0 (length p.words) k k Own less (omega arith)
+
+  kinds_length : length (kinds_of p) ≡ length p.words
+  kinds_length = length-map-range_with_len (kind_of p) 0 (length p.words)
+
+  -- where no step is refused, they are sound
+  pub chosen_sound : unplanned p ≡ None → IsSound (kinds_of p) p
+  chosen_sound none =
+      sound_from_tests (kinds_of p) kinds_length
+      (all_from (λ i. is_word_sound p (kind_at (kinds_of p) i) i) 0 (length (kinds_of p)) (λ k from to.
+      let size = kinds_length in
+      let less : k < length p.words = omega (arith, to, size) in
+      let is : kind_at (kinds_of p) k ≡ kind_of p k = get_or-map-range_with_len (kind_of p) 0 (length p.words) k k Own less (omega arith) in
+      word_passes (kind_at (kinds_of p) k) k (subst (λ (kind : Kind). WordIsSound kind k) (sym is) (chosen_kind (views p (bare_kinds p)) k))))
+      none

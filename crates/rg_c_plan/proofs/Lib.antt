@@ -1,6 +1,7 @@
 mod Places
 mod Lists
+mod Indices
+mod Singles
 mod Checked
-mod Chosen
 mod Written
 mod Meeting

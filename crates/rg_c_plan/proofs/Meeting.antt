@@ -1,95 +1,144 @@
 -- What sound kinds are good for.
-use Rattle.std.proofs.Common.{◌≡◌, ◌∙◌, ◌≢◌, ℕ, suc, ◌+◌, ◌<◌, Bool, true, false, not, ◌&&◌, ◌||◌, nat_eq, List, Option, Some, None, length, get_or, slice_get, map, option_map, cond, ◌⊎◌, inl, inr, refl, ap, sym, arith}
-use Rattle.std.specs.Prelude.{is_some}
-use Rattle.std.specs.List.{Contains, find}
+use Rattle.std.proofs.Common.{◌≡◌, ◌∙◌, ◌≢◌, ℕ, zero, suc, ◌+◌, ◌<◌, ◌≤◌, Bool, true, false, not, ◌&&◌, ◌||◌, nat_eq, List, [], ◌∷◌, Option, Some, None, length, get_or, slice_get, map, option_map, cond, ◌⊎◌, inl, inr, refl, ap, sym, subst, arith}
+use Rattle.std.specs.List.{AllPairs, Contains, list_all}
 use Rattle.std.specs.Option.{option_map_or}
-use Rattle.std.proofs.lemmas.Bool.{true≢false, or_left, or_right, or_cases, and_parts, and_from, cases_order}
-use Rattle.std.proofs.lemmas.List.{length-map}
+use Rattle.std.proofs.lemmas.Bool.{true≢false, not-true, not_from_false, false_from_ne_true, or_left, or_right, or_parts, or_cases, and_parts, and_from, ne_eqb, cases_eq, cases_lt, cases_order}
+use Rattle.std.proofs.lemmas.List.{length-map, get_or_past}
+use Rattle.std.proofs.lemmas.List.Elements.{All-contains}
+use Rattle.std.proofs.lemmas.List.FromFn.{get_or-map-range_with_len}
 use Rattle.std.proofs.lemmas.Option.{get_or_from_slice_get, slice_get-map, slice_get_within}
 use Rattle.rg_tree.specs.Trees.{Proposition, Assignment}
 use Rattle.rg_tree.specs.Statements.{PartTree, ProgramTree}
 use Rattle.rg_tree.specs.TypedPrograms.{IsTypedProgram}
+use Rattle.rg_tree.specs.Traces.{State}
 use Rattle.rg_c_plan.specs.declared.access.Access.{Access}
 use Rattle.rg_c_plan.specs.declared.kind.Kind.{Kind}
-use Rattle.rg_c_plan.specs.declared.kind.Kind.TheVariants.{Fixed, Own, Atomic, Guarded}
+use Rattle.rg_c_plan.specs.declared.kind.Kind.TheVariants.{Fixed, Own, Published, Atomic, Guarded}
 use Rattle.rg_c_plan.specs.declared.way.Way.{Way}
-use Rattle.rg_c_plan.specs.declared.way.Way.TheVariants.{Direct, Load, Store, Exchange, Section}
-use Rattle.rg_c_plan.specs.Accesses.{StepTree, steps, steps_of_parts, reads, writes, touches, part_access, world_access, accesses, is_touched, meet, places}
-use Rattle.rg_c_plan.specs.Ways.{kind_at, is_atomic, is_guarded, touches_atomic, touches_guarded, touches_met, times_assigned, way_at, way_of}
-use Rattle.rg_c_plan.specs.Sound.{IsSound}
-use Rattle.rg_c_plan.specs.Laws.{NobodyMeetsAt, word_of_way, StepsMeetAtOneWord, SectionsMeetAtGuardedWords, GuardedWordsInSections, IsStepOf, NoRaces, NoRacesOutside}
+use Rattle.rg_c_plan.specs.declared.way.Way.TheVariants.{Direct, Load, Store, Exchange, Select, Section}
+use Rattle.rg_c_plan.specs.Accesses.{StepTree, steps, reads, writes, touches, part_access, world_access, accesses, is_touched, meet, places}
+use Rattle.rg_c_plan.specs.Ways.{kind_at, is_atomic, is_published, is_guarded, exposes, touches_guarded, times_assigned, way_at, exposes_another, first_exposed, in_section, way_from, way_of}
+use Rattle.rg_c_plan.specs.Once.{is_exposed_twice, is_chosen, exposes_one, is_one_access}
+use Rattle.rg_c_plan.specs.Made.{step_made}
+use Rattle.rg_c_plan.specs.Views.{no_access, others_write, seen_kind, kinds_for, views_from}
+use Rattle.rg_c_plan.specs.Sound.{are_one_access, IsSound}
+use Rattle.rg_c_plan.specs.Laws.{IsStepOf, ExposesOne, StepsAreOneAccess, NoOtherWrites, NoOtherTouches, OthersMeetNobody, GuardedWordsInSections, NoRaces, NoRacesOutside}
 use Rattle.rg_c_plan.proofs.Places.{any_at}
-use Rattle.rg_c_plan.proofs.Lists.{passes_at, found_passes, found_none}
-use Rattle.rg_c_plan.proofs.Checked.{met_within, atomic_met}
-use Rattle.rg_c_plan.proofs.Written.{fixed_apart}
+use Rattle.rg_c_plan.proofs.Lists.{passes_at, passes_each, found_none}
+use Rattle.rg_c_plan.proofs.Singles.{step_once, chosen_step_once}
+use Rattle.rg_c_plan.proofs.Written.{NobodyMeetsAt, fixed_apart}
 
--- the word of the way at an atomic word is that word, and it isn't a section
-way_at_word : (guard : Option Proposition) (act : List Assignment) (m : ℕ) → word_of_way (way_at guard act m) ≡ Some m
-way_at_word guard act m = by_flags (not (reads m guard act) && nat_eq (times_assigned m act) 1) (not (writes m act))
+-- a way at a word isn't a section
+way_at_outside : (kinds : List Kind) (guard : Option Proposition) (act : List Assignment) (m : ℕ) → way_at kinds guard act m ≡ Section → ⊥
+way_at_outside kinds guard act m = by_flags (not (is_atomic (kind_at kinds m) && reads m guard act) && nat_eq (times_assigned m act) 1) (not (writes m act))
   where
-    by_flags : (b c : Bool) → word_of_way (cond b (Store m) (cond c (Load m) (Exchange m))) ≡ Some m
-    by_flags true c = refl
-    by_flags false true = refl
-    by_flags false false = refl
-
-no_section : (guard : Option Proposition) (act : List Assignment) (o : Option ℕ) → option_map_or (way_at guard act) o Direct ≡ Section → ⊥
-no_section guard act None e = cc e
-no_section guard act (Some m) e =
-    let same : Some m ≡ word_of_way Section = sym (way_at_word guard act m) ∙ ap (λ (way : Way). word_of_way way) e in
-    cc same
+    by_flags : (b c : Bool) → cond b (Store m) (cond c (Load m) (Exchange m)) ≡ Section → ⊥
+    by_flags true c e = cc e
+    by_flags false true e = cc e
+    by_flags false false e = cc e
 
 module _ (kinds : List Kind) (s : StepTree) where
-  guarded_met : (k : ℕ) → touches_guarded kinds s.guard s.act k ≡ true → touches_met kinds s.guard s.act k ≡ true
-  guarded_met k h =
-      let parts = and_parts (is_guarded (kind_at kinds k)) (touches k s.guard s.act) h in
-      and_from (is_atomic (kind_at kinds k) || is_guarded (kind_at kinds k)) (touches k s.guard s.act) (or_right (is_atomic (kind_at kinds k)) (is_guarded (kind_at kinds k)) parts.0) parts.1
+  -- a word without a kind is neither exposed nor guarded
+  has_kind : (k : ℕ) → (kind_at kinds k ≡ Own → ⊥) → k < length kinds
+  has_kind k ne = elim (cases_lt k (length kinds)) [ inl l ↦ l | inr g ↦ absurd (ne (get_or_past kinds k Own g)) ]
+
+  exposed_within : (k : ℕ) → exposes kinds s.guard s.act k ≡ true → k < length kinds
+  exposed_within k h = has_kind k (λ own.
+      let none : exposes kinds s.guard s.act k ≡ false = ap (λ (kind : Kind). (is_atomic kind && touches k s.guard s.act) || (is_published kind && writes k s.act)) own in
+      true≢false (sym h ∙ none))
 
   pub guarded_in_section : (k : ℕ) → kind_at kinds k ≡ Guarded → touches k s.guard s.act ≡ true → way_of kinds s.guard s.act ≡ Section
-  guarded_in_section k e touched = by_found (find (touches_guarded kinds s.guard s.act) (places kinds)) refl
+  guarded_in_section k e touched =
+      let here : touches_guarded kinds s.guard s.act k ≡ true = and_from (is_guarded (kind_at kinds k)) (touches k s.guard s.act) (ap (λ (kind : Kind). is_guarded kind) e) touched in
+      let within = has_kind k (λ own. not_own (kind_at kinds k) e own) in
+      let inside : in_section kinds s.guard s.act ≡ true = any_at (touches_guarded kinds s.guard s.act) 0 (length kinds) k (omega arith) (omega (arith, within)) here in
+      rw inside refl
     where
-      by_found : (o : Option ℕ) → find (touches_guarded kinds s.guard s.act) (places kinds) ≡ o → cond (is_some o) Section (option_map_or (way_at s.guard s.act) (find (touches_atomic kinds s.guard s.act) (places kinds)) Direct) ≡ Section
-      by_found (Some g) f = refl
-      by_found None f =
-          let here : touches_guarded kinds s.guard s.act k ≡ true = and_from (is_guarded (kind_at kinds k)) (touches k s.guard s.act) (ap (λ (kind : Kind). is_guarded kind) e) touched in
-          let within = met_within kinds s.guard s.act k (guarded_met k here) in
-          absurd (true≢false (sym (any_at (touches_guarded kinds s.guard s.act) 0 (length kinds) k (omega arith) (omega (arith, within)) here) ∙ found_none (touches_guarded kinds s.guard s.act) (places kinds) f))
+      not_own : (kind : Kind) → kind ≡ Guarded → kind ≡ Own → ⊥
+      not_own kind g o = let both : Guarded ≡ Own = sym g ∙ o in cc both
 
-  module _ (p : ProgramTree) (sound : IsSound kinds p) (inside : Contains (steps_of_parts p.parts) s) (k : ℕ) (atomic : touches_atomic kinds s.guard s.act k ≡ true) where
-    -- a step that touches an atomic word isn't done in a section
-    pub atomic_outside : way_of kinds s.guard s.act ≡ Section → ⊥
-    atomic_outside e = by_found (find (touches_guarded kinds s.guard s.act) (places kinds)) refl e
-      where
-        by_found : (o : Option ℕ) → find (touches_guarded kinds s.guard s.act) (places kinds) ≡ o → cond (is_some o) Section (option_map_or (way_at s.guard s.act) (find (touches_atomic kinds s.guard s.act) (places kinds)) Direct) ≡ Section → ⊥
-        by_found None f w = no_section s.guard s.act (find (touches_atomic kinds s.guard s.act) (places kinds)) w
-        by_found (Some g) f w =
-            let guarded = found_passes (touches_guarded kinds s.guard s.act) (places kinds) g f in
-            let same : g ≡ k = sound.atomic s inside k g atomic (guarded_met g guarded) in
-            let first = (and_parts (is_guarded (kind_at kinds g)) (touches g s.guard s.act) guarded).0 in
-            let second = (and_parts (is_atomic (kind_at kinds k)) (touches k s.guard s.act) atomic).0 in
-            not_both (kind_at kinds k) (ap (λ i. is_guarded (kind_at kinds i)) (sym same) ∙ first) second
-          where
-            not_both : (kind : Kind) → is_guarded kind ≡ true → is_atomic kind ≡ true → ⊥
-            not_both Fixed g a = cc g
-            not_both Own g a = cc g
-            not_both Atomic g a = cc g
-            not_both Guarded g a = cc a
+  -- a step outside of sections that exposes one word at most
+  one_exposed : exposes_one kinds s.guard s.act ≡ true → ExposesOne kinds s
+  one_exposed h =
+      let parts = and_parts (not (in_section kinds s.guard s.act)) (option_map_or (λ k. not (exposes_another kinds s.guard s.act k)) (first_exposed kinds s.guard s.act) true) h in
+      (outside (not-true (in_section kinds s.guard s.act) parts.0), by_found (first_exposed kinds s.guard s.act) refl parts.1)
+    where
+      outside : in_section kinds s.guard s.act ≡ false → way_of kinds s.guard s.act ≡ Section → ⊥
+      outside free e = by_way (first_exposed kinds s.guard s.act) (sym (ap (λ b. cond b Section (option_map_or (way_from kinds s.guard s.act) (first_exposed kinds s.guard s.act) Direct)) free) ∙ e)
+        where
+          by_way : (o : Option ℕ) → option_map_or (way_from kinds s.guard s.act) o Direct ≡ Section → ⊥
+          by_way None w = cc w
+          by_way (Some m) w = by_another (exposes_another kinds s.guard s.act m) w
+            where
+              by_another : (b : Bool) → cond b Select (way_at kinds s.guard s.act m) ≡ Section → ⊥
+              by_another true w = cc w
+              by_another false w = way_at_outside kinds s.guard s.act m w
 
-    -- it is done at that word
-    pub done_at : word_of_way (way_of kinds s.guard s.act) ≡ Some k
-    done_at = by_found (find (touches_guarded kinds s.guard s.act) (places kinds)) refl
-      where
-        at : (o : Option ℕ) → find (touches_atomic kinds s.guard s.act) (places kinds) ≡ o → word_of_way (option_map_or (way_at s.guard s.act) o Direct) ≡ Some k
-        at None f =
-            let within = met_within kinds s.guard s.act k (atomic_met kinds s.guard s.act k atomic) in
-            absurd (true≢false (sym (any_at (touches_atomic kinds s.guard s.act) 0 (length kinds) k (omega arith) (omega (arith, within)) atomic) ∙ found_none (touches_atomic kinds s.guard s.act) (places kinds) f))
-        at (Some m) f =
-            let here = found_passes (touches_atomic kinds s.guard s.act) (places kinds) m f in
-            let same : m ≡ k = sound.atomic s inside k m atomic (atomic_met kinds s.guard s.act m here) in
-            way_at_word s.guard s.act m ∙ ap (λ i. Some i) same
+      by_found : (o : Option ℕ) → first_exposed kinds s.guard s.act ≡ o → option_map_or (λ k. not (exposes_another kinds s.guard s.act k)) o true ≡ true →
+          (k j : ℕ) → exposes kinds s.guard s.act k ≡ true → exposes kinds s.guard s.act j ≡ true → j ≡ k
+      by_found None f t k j hk hj =
+          let within = exposed_within k hk in
+          absurd (true≢false (sym (any_at (exposes kinds s.guard s.act) 0 (length kinds) k (omega arith) (omega (arith, within)) hk) ∙ found_none (exposes kinds s.guard s.act) (places kinds) f))
+      by_found (Some m) f t k j hk hj = is_m j hj ∙ sym (is_m k hk)
+        where
+          is_m : (i : ℕ) → exposes kinds s.guard s.act i ≡ true → i ≡ m
+          is_m i h = elim (cases_eq i m) [
+            | inl e ↦ e
+            | inr ne ↦
+                let within = exposed_within i h in
+                let other : exposes_another kinds s.guard s.act m ≡ true =
+                any_at (λ n. not (nat_eq n m) && exposes kinds s.guard s.act n) 0 (length kinds) i (omega arith) (omega (arith, within))
+                (and_from (not (nat_eq i m)) (exposes kinds s.guard s.act i) (not_from_false (nat_eq i m) (ne_eqb i m ne)) h) in
+                absurd (true≢false (sym other ∙ not-true (exposes_another kinds s.guard s.act m) t))
+          ]
 
-        by_found : (o : Option ℕ) → find (touches_guarded kinds s.guard s.act) (places kinds) ≡ o → word_of_way (cond (is_some o) Section (option_map_or (way_at s.guard s.act) (find (touches_atomic kinds s.guard s.act) (places kinds)) Direct)) ≡ Some k
-        by_found None f = at (find (touches_atomic kinds s.guard s.act) (places kinds)) refl
-        by_found (Some g) f = absurd (atomic_outside (ap (λ (o : Option ℕ). cond (is_some o) Section (option_map_or (way_at s.guard s.act) (find (touches_atomic kinds s.guard s.act) (places kinds)) Direct)) f))
+  -- one access, in each of its forms
+  one_access : is_one_access kinds s.guard s.act ≡ true → ExposesOne kinds s ⊎ ((state : State) → step_made kinds state s.guard s.act ≤ 1)
+  one_access h =
+      elim (or_cases (exposes_one kinds s.guard s.act) (not (is_exposed_twice kinds s.guard s.act) || is_chosen kinds s.guard s.act) h) [
+        | inl one ↦ inl (one_exposed one)
+        | inr more ↦
+            elim (or_cases (not (is_exposed_twice kinds s.guard s.act)) (is_chosen kinds s.guard s.act) more) [
+              | inl once ↦ inr (λ state. step_once kinds state s.guard s.act (not-true (is_exposed_twice kinds s.guard s.act) once))
+              | inr chosen ↦ inr (λ state. chosen_step_once kinds state s.guard s.act chosen)
+            ]
+      ]
+
+-- what passes for all parts passes for the steps of each
+part_passes : (p : ProgramTree) (kinds : List Kind) (m : ℕ) (parts : List PartTree) (i : ℕ) (part : PartTree) → are_one_access (views_from p kinds m parts) ≡ true → slice_get parts i ≡ Some part →
+    list_all (λ s. is_one_access (kinds_for p kinds (m + i)) s.guard s.act) (steps part.body) ≡ true
+part_passes p kinds m [] i part h e = absurd (nothing_there i e)
+  where
+    nothing_there : (i : ℕ) → slice_get (let none : List PartTree = [] in none) i ≡ Some part → ⊥
+    nothing_there zero e = cc e
+    nothing_there (suc i) e = cc e
+part_passes p kinds m (q ∷ parts) zero part h e =
+    let passed = (and_parts (list_all (λ s. is_one_access (kinds_for p kinds m) s.guard s.act) (steps q.body)) (are_one_access (views_from p kinds (m + 1) parts)) h).0 in
+    let same : q ≡ part = cc e in
+    let place : m ≡ m + 0 = omega arith in
+    subst (λ n. list_all (λ s. is_one_access (kinds_for p kinds n) s.guard s.act) (steps part.body) ≡ true) place
+    (subst (λ (r : PartTree). list_all (λ s. is_one_access (kinds_for p kinds m) s.guard s.act) (steps r.body) ≡ true) same passed)
+part_passes p kinds m (q ∷ parts) (suc i) part h e =
+    let rest = (and_parts (list_all (λ s. is_one_access (kinds_for p kinds m) s.guard s.act) (steps q.body)) (are_one_access (views_from p kinds (m + 1) parts)) h).1 in
+    let place : m + 1 + i ≡ m + suc i = omega arith in
+    subst (λ n. list_all (λ s. is_one_access (kinds_for p kinds n) s.guard s.act) (steps part.body) ≡ true) place (part_passes p kinds (m + 1) parts i part rest e)
+
+pub steps_are_one_access : StepsAreOneAccess
+steps_are_one_access kinds p sound i s at =
+    let view = kinds_for p kinds i in
+    let place : 0 + i ≡ i = omega arith in
+    let passed : list_all (λ (t : StepTree). is_one_access view t.guard t.act) (steps at.0.body) ≡ true =
+    subst (λ n. list_all (λ (t : StepTree). is_one_access (kinds_for p kinds n) t.guard t.act) (steps at.0.body) ≡ true) place (part_passes p kinds 0 p.parts i at.0 sound.steps at.1) in
+    let each = passes_each (λ (t : StepTree). is_one_access view t.guard t.act) (steps at.0.body) passed in
+    one_access view s (All-contains (λ (t : StepTree). is_one_access view t.guard t.act ≡ true) (steps at.0.body) s each at.2)
+
+-- the kind of a word to a part
+kind_seen : (p : ProgramTree) (kinds : List Kind) (i k : ℕ) → k < length p.words → kind_at (kinds_for p kinds i) k ≡ seen_kind (kind_at kinds k) (others_write p i k)
+kind_seen p kinds i k less = get_or-map-range_with_len (λ j. seen_kind (kind_at kinds j) (others_write p i j)) 0 (length p.words) k k Own less (omega arith)
+
+pub guarded_in_sections : GuardedWordsInSections
+guarded_in_sections kinds p i s k less e touched =
+    guarded_in_section (kinds_for p kinds i) s k (kind_seen p kinds i k less ∙ ap (λ (kind : Kind). seen_kind kind (others_write p i k)) e) touched
 
 -- the kind of a word at which parties meet
 module _ (kinds : List Kind) (p : ProgramTree) (typed : IsTypedProgram p) (sound : IsSound kinds p) (k : ℕ) (less : k < length p.words) where
@@ -99,25 +148,9 @@ module _ (kinds : List Kind) (p : ProgramTree) (typed : IsTypedProgram p) (sound
       cases : (kind : Kind) → kind_at kinds k ≡ kind → G
       cases Fixed e = nobody (fixed_apart p typed k ((sound.fixed k less).1 e))
       cases Own e = nobody (sound.own k less e)
+      cases Published e = absurd (sound.published k less e)
       cases Atomic e = atomic e
       cases Guarded e = guarded e
-
-pub steps_meet_at_one_word : StepsMeetAtOneWord
-steps_meet_at_one_word kinds p typed sound s inside outside k less touched =
-    by_kind kinds p typed sound k less ((word_of_way (way_of kinds s.guard s.act) ≡ Some k) ⊎ NobodyMeetsAt p k)
-    (λ nobody. inr nobody)
-    (λ e. inl (done_at kinds s p sound inside k (and_from (is_atomic (kind_at kinds k)) (touches k s.guard s.act) (ap (λ (kind : Kind). is_atomic kind) e) touched)))
-    (λ e. absurd (outside (guarded_in_section kinds s k e touched)))
-
-pub sections_meet : SectionsMeetAtGuardedWords
-sections_meet kinds p typed sound s inside way k less touched =
-    by_kind kinds p typed sound k less ((kind_at kinds k ≡ Guarded) ⊎ NobodyMeetsAt p k)
-    (λ nobody. inr nobody)
-    (λ e. absurd (atomic_outside kinds s p sound inside k (and_from (is_atomic (kind_at kinds k)) (touches k s.guard s.act) (ap (λ (kind : Kind). is_atomic kind) e) touched) way))
-    (λ e. inl e)
-
-pub guarded_in_sections : GuardedWordsInSections
-guarded_in_sections kinds s k e touched = guarded_in_section kinds s k e touched
 
 module _ (p : ProgramTree) (k : ℕ) where
   -- how the i-th part accesses the word
@@ -187,12 +220,76 @@ module _ (p : ProgramTree) (k : ℕ) where
       met : meet world (access_of a.0) ≡ false
       met = ap (λ (z : Access). meet world z) (sym (party_at i a.0 world a.1)) ∙ nobody 0 (i + 1) world (omega arith) (party_within i a.0 a.1)
 
+module _ (p : ProgramTree) (k : ℕ) where
+  -- how a party accesses the word
+  abbrev access_at : ℕ → Access
+  access_at j = get_or (accesses p k) j no_access
+
+  meet_not : (m n : ℕ) → m ≢ n → m < length (accesses p k) → n < length (accesses p k) → is_touched (access_at m) ≡ true → (access_at n).writes ≡ true → NobodyMeetsAt p k → ⊥
+  meet_not m n ne hm hn touched writing nobody =
+      elim (cases_order m n) [
+        | inl e ↦ ne e
+        | inr (inl l) ↦
+            true≢false (sym (or_left (is_touched (access_at m) && (access_at n).writes) ((access_at m).writes && is_touched (access_at n)) (and_from (is_touched (access_at m)) (access_at n).writes touched writing))
+            ∙ nobody m n no_access l hn)
+        | inr (inr g) ↦
+            true≢false (sym (or_right (is_touched (access_at n) && (access_at m).writes) ((access_at n).writes && is_touched (access_at m)) (and_from (access_at n).writes (is_touched (access_at m)) writing touched))
+            ∙ nobody n m no_access g hm)
+      ]
+
+  module _ (i : ℕ) (s : StepTree) (at : IsStepOf p i s) where
+    own_within : i + 1 < length (accesses p k)
+    own_within = party_within p k i at.0 at.1
+
+    own_touched : touches k s.guard s.act ≡ true → is_touched (access_at (i + 1)) ≡ true
+    own_touched h = ap (λ (z : Access). is_touched z) (party_at p k i at.0 no_access at.1) ∙ touched_by p k at.0 s at.2 h
+
+    own_written : writes k s.act ≡ true → (access_at (i + 1)).writes ≡ true
+    own_written h = ap (λ (z : Access). z.writes) (party_at p k i at.0 no_access at.1) ∙ written_by p k at.0 s at.2 h
+
+    -- where nobody meets at the word, no other party writes what the step reads, or touches what it writes
+    apart_writes : NobodyMeetsAt p k → reads k s.guard s.act ≡ true → NoOtherWrites p i k
+    apart_writes nobody h j within ne =
+        false_from_ne_true (access_at j).writes (λ w. meet_not (i + 1) j (λ e. ne (sym e)) own_within within (own_touched (or_left (reads k s.guard s.act) (writes k s.act) h)) w nobody)
+
+    apart_touches : NobodyMeetsAt p k → writes k s.act ≡ true → NoOtherTouches p i k
+    apart_touches nobody h j within ne = false_from_ne_true (is_touched (access_at j)) (λ t. meet_not j (i + 1) ne within own_within t (own_written h) nobody)
+
+  -- where no other party writes
+  unwritten_by_others : (i : ℕ) → others_write p i k ≡ false → NoOtherWrites p i k
+  unwritten_by_others i h j within ne =
+      false_from_ne_true (access_at j).writes (λ w.
+      true≢false (sym (any_at (λ n. not (nat_eq n (i + 1)) && (access_at n).writes) 0 (length (accesses p k)) j (omega arith) (omega (arith, within))
+      (and_from (not (nat_eq j (i + 1))) (access_at j).writes (not_from_false (nat_eq j (i + 1)) (ne_eqb j (i + 1) ne)) w)) ∙ h))
+
+pub others_meet_nobody : OthersMeetNobody
+others_meet_nobody kinds p typed sound i s at k less unexposed free =
+    by_kind kinds p typed sound k less ((reads k s.guard s.act ≡ true → NoOtherWrites p i k) × (writes k s.act ≡ true → NoOtherTouches p i k))
+    (λ nobody. (apart_writes p k i s at nobody, apart_touches p k i s at nobody))
+    (λ e. by (others_write p i k) refl e)
+    (λ e. absurd (free e))
+  where
+    view : List Kind
+    view = kinds_for p kinds i
+
+    hidden : (kind : Kind) → kind_at view k ≡ kind → ((is_atomic kind && touches k s.guard s.act) || (is_published kind && writes k s.act)) ≡ false
+    hidden kind e = ap (λ (l : Kind). (is_atomic l && touches k s.guard s.act) || (is_published l && writes k s.act)) (sym e) ∙ unexposed
+
+    by : (b : Bool) → others_write p i k ≡ b → kind_at kinds k ≡ Atomic → (reads k s.guard s.act ≡ true → NoOtherWrites p i k) × (writes k s.act ≡ true → NoOtherTouches p i k)
+    by true written e =
+        let seen : kind_at view k ≡ Atomic = kind_seen p kinds i k less ∙ ap (λ (kind : Kind). seen_kind kind (others_write p i k)) e ∙ ap (seen_kind Atomic) written in
+        let none = or_parts (reads k s.guard s.act) (writes k s.act) (or_parts (touches k s.guard s.act) false (hidden Atomic seen)).0 in
+        (λ h. absurd (true≢false (sym h ∙ none.0)), λ h. absurd (true≢false (sym h ∙ none.1)))
+    by false written e =
+        let seen : kind_at view k ≡ Published = kind_seen p kinds i k less ∙ ap (λ (kind : Kind). seen_kind kind (others_write p i k)) e ∙ ap (seen_kind Atomic) written in
+        (λ h. unwritten_by_others p k i written, λ h. absurd (true≢false (sym h ∙ hidden Published seen)))
+
 pub no_races : NoRaces
 no_races kinds p typed sound i j ne s t a b k less writing touching =
-    by_kind kinds p typed sound k less ((kind_at kinds k ≡ Atomic) ⊎ ((way_of kinds s.guard s.act ≡ Section) × (way_of kinds t.guard t.act ≡ Section)))
+    by_kind kinds p typed sound k less ((kind_at kinds k ≡ Atomic) ⊎ ((way_of (kinds_for p kinds i) s.guard s.act ≡ Section) × (way_of (kinds_for p kinds j) t.guard t.act ≡ Section)))
     (λ nobody. absurd (parts_meet p k i j ne s t a b writing touching nobody))
     (λ e. inl e)
-    (λ e. inr (guarded_in_section kinds s k e (or_right (reads k s.guard s.act) (writes k s.act) writing), guarded_in_section kinds t k e touching))
+    (λ e. inr (guarded_in_sections kinds p i s k less e (or_right (reads k s.guard s.act) (writes k s.act) writing), guarded_in_sections kinds p j t k less e touching))
 
 pub no_races_outside : NoRacesOutside
 no_races_outside kinds p typed sound i s a k less touching outside writing =

@@ -1,5 +1,5 @@
 -- No step of a typed program writes a fixed word, so nobody meets at one.
-use Rattle.std.proofs.Common.{◌≡◌, ◌∙◌, ℕ, true, false, not, ◌&&◌, nat_eq, List, [], ◌∷◌, ◌++◌, get_or, map, refl, ap, sym, arith}
+use Rattle.std.proofs.Common.{◌≡◌, ◌∙◌, ℕ, Bool, true, false, not, cond, ◌&&◌, nat_eq, List, [], ◌∷◌, ◌++◌, get_or, map, refl, ap, sym, arith}
 use Rattle.std.specs.List.{All, AllPairs}
 use Rattle.std.proofs.lemmas.Bool.{true≢false, not_from_true, ne_eqb, or_from, and_left, and_right}
 use Rattle.std.proofs.lemmas.List.Elements.{All-nil, All-cons, All-append}
@@ -8,17 +8,23 @@ use Rattle.rg_tree.specs.Trees.{Assignment}
 use Rattle.rg_tree.specs.Statements.{Statement, skip, assign, await, sequence, branch, loop, Items, one, more, PartTree, ProgramTree}
 use Rattle.rg_tree.specs.TypedPrograms.{TargetsFree, IsTypedStatement, AreTypedItems, AreTypedParts, IsTypedProgram}
 use Rattle.rg_c_plan.specs.declared.access.Access.{Access}
-use Rattle.rg_c_plan.specs.Accesses.{StepTree, steps, steps_of_items, writes, part_access, world_access, is_fixed, is_touched, meet}
-use Rattle.rg_c_plan.specs.Laws.{NobodyMeetsAt}
+use Rattle.rg_c_plan.specs.Changes.{is_word, moving}
+use Rattle.rg_c_plan.specs.Accesses.{StepTree, steps, steps_of_items, writes, part_access, world_access, accesses, is_fixed, is_touched, meet}
 use Rattle.rg_c_plan.proofs.Lists.{none_passes}
 
+-- no two parties meet at a word
+abbrev pub NobodyMeetsAt : ProgramTree → ℕ → Type 0
+NobodyMeetsAt p k = AllPairs (λ a b. meet a b ≡ false) (accesses p k)
+
 module _ (words : List Word) (k : ℕ) (fixed : is_fixed words k ≡ true) where
-  free_targets : (act : List Assignment) → TargetsFree words act → writes k act ≡ false
+  free_targets : (act : List Assignment) → TargetsFree words act → writes k (moving act) ≡ false
   free_targets [] t = refl
-  free_targets (a ∷ act) t =
-      or_from (nat_eq k a.target) (writes k act)
-      (ne_eqb k a.target (λ e. true≢false (sym fixed ∙ ap (λ i. get_or (fixed_of words) i false) e ∙ t.0)))
-      (free_targets act t.1)
+  free_targets (a ∷ act) t = by (is_word a.target a.value) (free_targets act t.1)
+    where
+      by : (b : Bool) → writes k (moving act) ≡ false → writes k (cond (not b) (a ∷ moving act) (moving act)) ≡ false
+      by true rest = rest
+      by false rest =
+          or_from (nat_eq k a.target) (writes k (moving act)) (ne_eqb k a.target (λ e. true≢false (sym fixed ∙ ap (λ i. get_or (fixed_of words) i false) e ∙ t.0))) rest
 
   -- none of these steps writes the word
   abbrev Unwritten : List StepTree → Type 0

@@ -8,8 +8,9 @@ use Rattle.rg_words.specs.declared.operators.Comparison.TheVariants.{Equal}
 use Rattle.rg_tree.specs.Trees.{Expression, Proposition, Assignment, number, word, next_word, inverse, binary, shifted, choice, truth, negation, connected, compared}
 use Rattle.rg_tree.specs.Statements.{Statement, skip, assign, await, sequence, branch, loop, Items, one, more, PartTree, ProgramTree}
 use Rattle.rg_c_plan.specs.declared.access.Access.{Access}
+use Rattle.rg_c_plan.specs.Changes.{ChangeTree, moving, change_of}
 
--- a step of a part: its line, what it waits for or tests, if anything, and what it assigns, in order
+-- a step of a part: its line, what it waits for or tests, if anything, and what it assigns, in order, but for assignments of words to themselves
 pub record StepTree : Type 0 where
   pub line : ℕ
   pub guard : Option Proposition
@@ -19,8 +20,8 @@ pub record StepTree : Type 0 where
 abbrev mutual
   pub steps : Statement → List StepTree
   steps (skip row) = record { line = row; guard = None; act = [] } ∷ []
-  steps (assign row a) = record { line = row; guard = None; act = a ∷ [] } ∷ []
-  steps (await row b act) = record { line = row; guard = Some b; act = act } ∷ []
+  steps (assign row a) = record { line = row; guard = None; act = moving (a ∷ []) } ∷ []
+  steps (await row b act) = record { line = row; guard = Some b; act = moving act } ∷ []
   steps (sequence row s items) = steps s ++ steps_of_items items
   steps (branch row b s t) = record { line = row; guard = Some b; act = [] } ∷ (steps s ++ steps t)
   steps (loop row b s) = record { line = row; guard = Some b; act = [] } ∷ steps s
@@ -51,9 +52,17 @@ abbrev mutual
   stands_in_formula k (connected c f g) = stands_in_formula k f || stands_in_formula k g
   stands_in_formula k (compared c a b) = stands_in k a || stands_in k b
 
--- a step with this guard or test, if it has one, and these assignments reads a word: it stands in the guard, or in a value
+-- a word stands in a guard or test, if there is one
+abbrev pub stands_in_test : ℕ → Option Proposition → Bool
+stands_in_test k test = option_map_or (λ f. stands_in_formula k f) test false
+
+-- it is read by a change
+abbrev pub is_read_by : ℕ → ChangeTree → Bool
+is_read_by k c = stands_in_test k c.test || stands_in k c.value
+
+-- a step with this guard or test, if it has one, and these assignments reads a word: it stands in the guard, or is read by a change
 abbrev pub reads : ℕ → Option Proposition → List Assignment → Bool
-reads k guard act = option_map_or (λ f. stands_in_formula k f) guard false || list_any (λ a. stands_in k a.value) act
+reads k guard act = stands_in_test k guard || list_any (λ a. is_read_by k (change_of a)) act
 
 -- it writes a word: a target
 abbrev pub writes : ℕ → List Assignment → Bool

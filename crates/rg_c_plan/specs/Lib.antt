@@ -1,7 +1,11 @@
+pub mod Changes
 pub mod Accesses
 pub mod View
-pub mod Kinds
 pub mod Ways
+pub mod Once
+pub mod Made
+pub mod Views
+pub mod Kinds
 pub mod Sound
 pub mod Laws
 pub mod Inner

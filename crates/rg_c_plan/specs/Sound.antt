@@ -1,18 +1,25 @@
 -- When kinds of words are sound, whoever chose them.
-use Rattle.std.specs.Prelude.{◌≡◌, ℕ, ◌<◌, true, false, List, length}
+use Rattle.std.specs.Prelude.{◌≡◌, ℕ, ◌<◌, Bool, true, false, List, length}
 use Rattle.std.specs.Bool.{Decides}
-use Rattle.std.specs.List.{AllPairs, Contains}
+use Rattle.std.specs.List.{AllPairs, list_all}
 use Rattle.rg_tree.specs.Statements.{ProgramTree}
-use Rattle.rg_c_plan.specs.Accesses.{StepTree, steps_of_parts, accesses, world_access, is_fixed, is_touched, meet}
-use Rattle.rg_c_plan.specs.Ways.{kind_at, touches_atomic, touches_met}
+use Rattle.rg_c_plan.specs.Accesses.{accesses, world_access, is_fixed, is_touched, meet}
+use Rattle.rg_c_plan.specs.Ways.{kind_at}
+use Rattle.rg_c_plan.specs.Once.{is_one_access}
+use Rattle.rg_c_plan.specs.Views.{ViewTree, views}
 use Rattle.rg_c_plan.specs.declared.kind.Kind.{Kind}
-use Rattle.rg_c_plan.specs.declared.kind.Kind.TheVariants.{Fixed, Own, Guarded}
+use Rattle.rg_c_plan.specs.declared.kind.Kind.TheVariants.{Fixed, Own, Published, Guarded}
 
--- each word has a kind, and the fixed kind exactly where it is fixed; no two parties meet at an own word; a step that touches an atomic word touches no other
--- atomic word and no guarded one; the world outside neither reads nor writes a guarded word
+-- each step of these parts is one access
+abbrev pub are_one_access : List ViewTree → Bool
+are_one_access vs = list_all (λ (v : ViewTree). list_all (λ s. is_one_access v.kinds s.guard s.act) v.steps) vs
+
+-- each word has a kind, and the fixed kind exactly where it is fixed; none is published but to a part; no two parties meet at an own word; the world outside neither
+-- reads nor writes a guarded word; and each step is one access, as its part sees the words
 pub record IsSound (kinds : List Kind) (p : ProgramTree) : Type 0 where
   pub count : length kinds ≡ length p.words
   pub fixed : (k : ℕ) → k < length p.words → Decides (is_fixed p.words k) (kind_at kinds k ≡ Fixed)
+  pub published : (k : ℕ) → k < length p.words → kind_at kinds k ≡ Published → ⊥
   pub own : (k : ℕ) → k < length p.words → kind_at kinds k ≡ Own → AllPairs (λ a b. meet a b ≡ false) (accesses p k)
-  pub atomic : (s : StepTree) → Contains (steps_of_parts p.parts) s → (k j : ℕ) → touches_atomic kinds s.guard s.act k ≡ true → touches_met kinds s.guard s.act j ≡ true → j ≡ k
   pub guarded : (k : ℕ) → k < length p.words → kind_at kinds k ≡ Guarded → is_touched (world_access k p.words p.spec.rely) ≡ false
+  pub steps : are_one_access (views p kinds) ≡ true

@@ -7,7 +7,10 @@ pub enum Kind {
     Fixed,
     /// Plain: no two parties meet at it.
     Own,
-    /// Each access to it is atomic: a step that touches it touches no other word at which it may meet others.
+    /// Atomic to all others, and written by no other party than the part that looks: that part reads it as its own. No program's word is of this
+    /// kind; `kinds_for` gives it to the words that a part publishes.
+    Published,
+    /// Each access to it is atomic: a step makes at most one access to a word of this kind, or exposes no other word.
     Atomic,
     /// Plain, and touched in critical sections alone.
     Guarded,

@@ -1,15 +1,15 @@
 //! What sound kinds are good for, as laws: functions that do nothing, and whose contracts are the laws.
 
-ghost use Rattle.rg_c_plan.specs.Laws.{StepsMeetAtOneWord, SectionsMeetAtGuardedWords, GuardedWordsInSections, NoRaces, NoRacesOutside};
+ghost use Rattle.rg_c_plan.specs.Laws.{StepsAreOneAccess, OthersMeetNobody, GuardedWordsInSections, NoRaces, NoRacesOutside};
 
-/// Where kinds are sound, a step outside of sections meets others at the word of its way alone.
-pub fn steps_meet_at_one_word()
-    ensures { StepsMeetAtOneWord }
+/// Where kinds are sound, each step exposes one word at most, outside of sections; or in each state it makes at most one access to an atomic word.
+pub fn steps_are_one_access()
+    ensures { StepsAreOneAccess }
 {}
 
-/// A step in a section meets others at guarded words alone, which are touched in sections alone.
-pub fn sections_meet_sections()
-    ensures sound { SectionsMeetAtGuardedWords }
+/// A step meets nobody at a word that it neither exposes nor touches in a section, and guarded words are touched in sections alone.
+pub fn others_meet_nobody()
+    ensures others { OthersMeetNobody }
     ensures sections { GuardedWordsInSections }
 {}
 

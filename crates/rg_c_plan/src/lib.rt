@@ -2,12 +2,16 @@
 #![tactic(auto)]
 
 pub mod access;
+pub mod change;
+mod chosen;
 pub mod kind;
 pub mod laws;
 mod mention;
+mod once;
 pub mod plan;
 pub mod planned;
-mod shared;
 pub mod sound;
 pub mod step;
+mod twice;
+pub mod views;
 pub mod way;

@@ -5,15 +5,17 @@ ghost use Rattle.std.specs.List.{list_any};
 ghost use Rattle.rg_tree.specs.View.{expression, formula};
 ghost use Rattle.rg_tree.specs.ConditionTrees.{assignment};
 ghost use Rattle.rg_c_plan.specs.View.{guard_tree};
-ghost use Rattle.rg_c_plan.specs.Accesses.{stands_in, stands_in_formula, reads, writes, touches, keeps, conjuncts};
+ghost use Rattle.rg_c_plan.specs.Changes.{moves, moving, change_of};
+ghost use Rattle.rg_c_plan.specs.Accesses.{stands_in, stands_in_formula, stands_in_test, is_read_by, reads, writes, touches, keeps, conjuncts};
 
+use crate::change::{change_of, moves};
 use rg_tree::condition::Assign;
 use rg_tree::tree::{Expr, Formula};
 use rg_words::operators::{Comparison, Connective};
 
 /// Whether a word, primed or not, stands in an expression.
 #[cycle(mention)]
-fn stands_in(word: usize, e: &Expr) -> bool
+pub(crate) fn stands_in(word: usize, e: &Expr) -> bool
     ensures { result ≡ stands_in word (expression e.now) }
 {
     match e {
@@ -40,34 +42,49 @@ fn stands_in_formula(word: usize, f: &Formula) -> bool
     }
 }
 
-/// Whether a word stands in a value.
-fn values_read(word: usize, act: &[Assign]) -> bool
-    ensures { result ≡ list_any (λ a. stands_in word a.value) (map assignment act.now) }
+/// Whether a word stands in a guard or test, if there is one.
+fn stands_in_test(word: usize, test: Option<&Formula>) -> bool
+    ensures { result ≡ stands_in_test word (guard_tree test.entry) }
+{
+    match test {
+        Some(f) => stands_in_formula(word, f),
+        None => false,
+    }
+}
+
+/// Whether a word is read by an assignment that changes something.
+fn is_read_by(word: usize, a: &Assign) -> bool
+    ensures { result ≡ moves (assignment a.now) && is_read_by word (change_of (assignment a.now)) }
+{
+    let c = change_of(a);
+    moves(a) && (stands_in_test(word, c.test) || stands_in(word, c.value))
+}
+
+/// Whether a word is read by one of these.
+fn changes_read(word: usize, act: &[Assign]) -> bool
+    ensures { result ≡ list_any (λ a. is_read_by word (change_of a)) (moving (map assignment act.now)) }
 {
     for a in act {
-        if stands_in(word, &a.value) {
+        if is_read_by(word, a) {
             return true;
         }
     }
     false
 }
 
-/// Whether a step with this guard or test, if it has one, and these assignments reads a word: it stands in the guard, or in a value.
+/// Whether a step with this guard or test, if it has one, and these assignments reads a word: it stands in the guard, or is read by a change.
 pub(crate) fn reads(word: usize, guard: Option<&Formula>, act: &[Assign]) -> bool
-    ensures { result ≡ reads word (guard_tree guard.entry) (map assignment act.now) }
+    ensures { result ≡ reads word (guard_tree guard.entry) (moving (map assignment act.now)) }
 {
-    match guard {
-        Some(f) if stands_in_formula(word, f) => true,
-        _ => values_read(word, act),
-    }
+    stands_in_test(word, guard) || changes_read(word, act)
 }
 
-/// Whether these assignments write a word.
+/// Whether these assignments write a word: one that changes something does.
 pub(crate) fn writes(word: usize, act: &[Assign]) -> bool
-    ensures { result ≡ writes word (map assignment act.now) }
+    ensures { result ≡ writes word (moving (map assignment act.now)) }
 {
     for a in act {
-        if word == a.word {
+        if moves(a) && word == a.word {
             return true;
         }
     }
@@ -76,7 +93,7 @@ pub(crate) fn writes(word: usize, act: &[Assign]) -> bool
 
 /// Whether a step with this guard or test and these assignments reads or writes a word.
 pub(crate) fn touches(word: usize, guard: Option<&Formula>, act: &[Assign]) -> bool
-    ensures { result ≡ touches word (guard_tree guard.entry) (map assignment act.now) }
+    ensures { result ≡ touches word (guard_tree guard.entry) (moving (map assignment act.now)) }
 {
     reads(word, guard, act) || writes(word, act)
 }

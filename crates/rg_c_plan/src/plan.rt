@@ -1,39 +1,82 @@
 //! The choice of a kind for each word.
 
-ghost use Rattle.std.specs.Prelude.{◌≡◌, ◌<◌, length, map, Some, None, IfOk, IfErr, OnOk};
+ghost use Rattle.std.specs.Prelude.{◌≡◌, ◌<◌, length, map, None, Some, IfOk, IfErr, OnOk};
 ghost use Rattle.rg_tree.specs.ProgramTrees.{program as program_tree};
-ghost use Rattle.rg_c_plan.specs.View.{step};
-ghost use Rattle.rg_c_plan.specs.Accesses.{steps_of_parts};
-ghost use Rattle.rg_c_plan.specs.Kinds.{shared_words, kind_of, kinds_of, unplanned};
-ghost use Rattle.rg_c_plan.specs.Inner.Tests.{kind_from};
+ghost use Rattle.rg_c_plan.specs.View.{view};
+ghost use Rattle.rg_c_plan.specs.Kinds.{bare_kind, bare_kinds, kind_among, kinds_of, unplanned};
 ghost use Rattle.rg_c_plan.specs.Sound.{IsSound};
 
+use crate::access::{accesses, is_touched, some_meet, world_access};
 use crate::kind::Kind;
+use crate::once::{failing, is_crowded};
 use crate::planned::{Plan, Unplanned};
-use crate::shared::{first_unplanned, outside_words, shared_words, some_crowded};
-use crate::step::{Step, steps_of_parts};
+use crate::views::{PartView, views};
+use crate::way::kind_at;
 use rg_tree::program::Program;
-use rg_words::Layout;
 use std::alloc::{AllocError, Global};
 
-/// The kind of a word.
-fn kind_of(layout: &Layout, shared: &[bool], steps: &[Step<'_>], word: usize) -> Kind
-    requires { word < length layout.now }
-    ensures { result ≡ kind_from layout.now shared.now (map step steps.now) word }
+/// The kind of a word where no step were in a section.
+fn bare_kind(alloc: Global, program: &Program, word: usize) -> Result<Kind, AllocError>
+    requires { word < length program.now.layout }
+    ensures { IfOk result (λ kind. kind ≡ bare_kind (program_tree program.now) word) }
 {
-    if layout.is_fixed(word) {
-        Kind::Fixed
-    } else if !matches!(shared.get(word), Some(true)) {
-        Kind::Own
-    } else if some_crowded(shared, word, steps) {
-        Kind::Guarded
-    } else {
+    if program.layout.is_fixed(word) {
+        return Ok(Kind::Fixed);
+    }
+    let list = accesses(alloc, program, word)?;
+    Ok(if some_meet(&list) {
         Kind::Atomic
+    } else {
+        Kind::Own
+    })
+}
+
+/// The kinds of words where no step were in a section.
+#[tactic(auto, using(crate::proofs::Places::range_more, crate::proofs::Places::range_over))]
+fn bare_kinds(alloc: Global, program: &Program) -> Result<Vec<Kind>, AllocError>
+    ensures { IfOk result (λ list. list.items ≡ bare_kinds (program_tree program.now)) }
+{
+    let mut list = Vec::new(alloc);
+    for word in 0..program.layout.len() {
+        list.push(bare_kind(alloc, program, word)?)?;
+    }
+    Ok(list)
+}
+
+/// The kind of a word that is of this bare kind, beside these parts.
+fn kind_among(program: &Program, views: &[PartView<'_>], kind: Kind, word: usize) -> Kind
+    requires { word < length program.now.layout }
+    ensures { result ≡ kind_among (program_tree program.now) (map view views.now) kind word }
+{
+    match kind {
+        Kind::Atomic => {
+            let world = world_access(word, &program.layout, &program.spec.rely);
+            if !is_touched(world) && is_crowded(views, word) {
+                Kind::Guarded
+            } else {
+                Kind::Atomic
+            }
+        }
+        _ => kind,
     }
 }
 
+/// The kind of each word.
+#[tactic(auto, using(crate::proofs::Places::range_more, crate::proofs::Places::range_over))]
+fn kinds_of(alloc: Global, program: &Program) -> Result<Vec<Kind>, AllocError>
+    ensures { IfOk result (λ list. list.items ≡ kinds_of (program_tree program.now)) }
+{
+    let bare = bare_kinds(alloc, program)?;
+    let views = views(alloc, program, &bare)?;
+    let mut kinds = Vec::new(alloc);
+    for word in 0..program.layout.len() {
+        kinds.push(kind_among(program, &views, kind_at(&bare, word), word))?;
+    }
+    Ok(kinds)
+}
+
 /// A kind for each word, such that each step is done as `way_of` says, and that is sound: a fixed word is `Fixed`; one at which no two parties meet is `Own`; one
-/// that a step touches beside another one at which parties meet is `Guarded`; all others are `Atomic`.
+/// for which a step needs a section is `Guarded`; all others are `Atomic`.
 ///
 /// # Errors
 ///
@@ -47,15 +90,10 @@ pub fn plan(alloc: Global, program: &Program) -> Result<Result<Plan, Unplanned>,
     ensures planned { IfOk result (λ r. OnOk r (unplanned (program_tree program.now) ≡ None)) }
     ensures unplanned { IfOk result (λ r. IfErr r (λ u. unplanned (program_tree program.now) ≡ Some u)) }
 {
-    let shared = shared_words(alloc, program)?;
-    let outside = outside_words(alloc, program)?;
-    let steps = steps_of_parts(alloc, &program.parts)?;
-    if let Some(step) = first_unplanned(&shared, &outside, &steps) {
+    let kinds = kinds_of(alloc, program)?;
+    let views = views(alloc, program, &kinds)?;
+    if let Some(step) = failing(&views) {
         return Ok(Err(step));
-    }
-    let mut kinds = Vec::new(alloc);
-    for word in 0..program.layout.len() {
-        kinds.push(kind_of(&program.layout, &shared, &steps, word))?;
     }
     Ok(Ok(Plan { kinds }))
 }

@@ -8,11 +8,11 @@ pub struct Plan {
     pub kinds: Vec<Kind>,
 }
 
-/// A step that no C does at once: it touches two shared words or more, and the world outside touches one of them.
+/// A step that no C of this form does at once: it makes more than one access to words that the world outside touches, or to one of them and to others.
 #[derive(Clone, Copy, Debug, PartialEq, Eq)]
 pub struct Unplanned {
     /// The line of the step's statement, from 1.
     pub line: u32,
-    /// The first such word: its place in the layout, from 0.
+    /// The first such word that the world outside touches: its place in the layout, from 0.
     pub word: usize,
 }

@@ -1,54 +1,18 @@
 //! The check that kinds of words are sound.
 
-ghost use Rattle.std.specs.Prelude.{◌≡◌, ◌<◌, length, map, IfOk};
+ghost use Rattle.std.specs.Prelude.{◌≡◌, ◌<◌, length, IfOk};
 ghost use Rattle.std.specs.Bool.{Decides};
-ghost use Rattle.std.specs.List.{list_all};
 ghost use Rattle.rg_tree.specs.ProgramTrees.{program as program_tree};
-ghost use Rattle.rg_c_plan.specs.View.{step};
 ghost use Rattle.rg_c_plan.specs.Sound.{IsSound};
-ghost use Rattle.rg_c_plan.specs.Inner.Tests.{meets_no_other, is_step_sound, is_word_sound, are_words_sound};
+ghost use Rattle.rg_c_plan.specs.Inner.Tests.{is_word_sound, are_words_sound};
 
 use crate::access::{accesses, is_touched, some_meet, world_access};
 use crate::kind::Kind;
-use crate::step::{Step, steps_of_parts};
-use crate::way::{first_atomic, kind_at, touches_met};
+use crate::once::failing;
+use crate::views::views;
+use crate::way::kind_at;
 use rg_tree::program::Program;
 use std::alloc::{AllocError, Global};
-
-/// Whether a step touches no atomic or guarded word besides this one.
-#[tactic(auto, using(crate::proofs::Places::range_more, crate::proofs::Places::range_over))]
-fn meets_no_other(kinds: &[Kind], s: &Step<'_>, word: usize) -> bool
-    ensures { result ≡ meets_no_other kinds.now (step s.now) word }
-{
-    for other in 0..kinds.len() {
-        if other != word && touches_met(kinds, s.guard, s.act, other) {
-            return false;
-        }
-    }
-    true
-}
-
-/// Whether a step touches no atomic word, or one alone and no guarded one.
-fn is_step_sound(kinds: &[Kind], s: &Step<'_>) -> bool
-    ensures { result ≡ is_step_sound kinds.now (step s.now) }
-{
-    match first_atomic(kinds, s.guard, s.act) {
-        Some(word) => meets_no_other(kinds, s, word),
-        None => true,
-    }
-}
-
-/// Whether each of these steps is sound.
-fn are_steps_sound(kinds: &[Kind], steps: &[Step<'_>]) -> bool
-    ensures { result ≡ list_all (is_step_sound kinds.now) (map step steps.now) }
-{
-    for s in steps {
-        if !is_step_sound(kinds, s) {
-            return false;
-        }
-    }
-    true
-}
 
 /// Whether a word of this kind is sound.
 fn is_word_sound(
@@ -67,6 +31,7 @@ fn is_word_sound(
             let list = accesses(alloc, program, word)?;
             Ok(!fixed && !some_meet(&list))
         }
+        Kind::Published => Ok(false),
         Kind::Atomic => Ok(!fixed),
         Kind::Guarded => {
             let access = world_access(word, &program.layout, &program.spec.rely);
@@ -101,6 +66,9 @@ pub fn is_sound(alloc: Global, kinds: &[Kind], program: &Program) -> Result<bool
     if !are_words_sound(alloc, kinds, program)? {
         return Ok(false);
     }
-    let steps = steps_of_parts(alloc, &program.parts)?;
-    Ok(are_steps_sound(kinds, &steps))
+    let views = views(alloc, program, kinds)?;
+    match failing(&views) {
+        Some(_) => Ok(false),
+        None => Ok(true),
+    }
 }

@@ -3,6 +3,7 @@
 ghost use Rattle.std.specs.Prelude.{◌≡◌, ◌++◌, ◌∷◌, [], map, OnOk, IfOk};
 ghost use Rattle.rg_tree.specs.ConditionTrees.{assignment};
 ghost use Rattle.rg_tree.specs.ProgramView.{statement, items, part as part_tree};
+ghost use Rattle.rg_c_plan.specs.Changes.{moving};
 ghost use Rattle.rg_c_plan.specs.Accesses.{steps, steps_of_items, steps_of_parts};
 ghost use Rattle.rg_c_plan.specs.View.{guard_tree, step};
 
@@ -20,6 +21,7 @@ pub struct Step<'a> {
     pub line: u32,
     /// What it waits for or tests.
     pub guard: Option<&'a Formula>,
+    /// What it assigns, in order; assignments of words to themselves change nothing, and are passed over.
     pub act: &'a [Assign],
 }
 
@@ -30,7 +32,7 @@ fn push_step<'a>(
     act: &'a [Assign],
     list: &mut Vec<Step<'a>>,
 ) -> Result<(), AllocError>
-    ensures { OnOk result (map step list.new.items ≡ map step list.old.items ++ record { line = line; guard = guard_tree guard.entry; act = map assignment act.now } ∷ []) }
+    ensures { OnOk result (map step list.new.items ≡ map step list.old.items ++ record { line = line; guard = guard_tree guard.entry; act = moving (map assignment act.now) } ∷ []) }
 {
     list.push(Step { line, guard, act })?;
     Ok(())

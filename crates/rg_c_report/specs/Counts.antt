@@ -1,20 +1,20 @@
 -- How many steps are done in each way, and what is said of that.
 use Rattle.std.specs.Prelude.{ℕ, Bool, true, false, List, ◌++◌, codes, length, map}
-use Rattle.std.specs.List.{filter}
+use Rattle.std.specs.List.{filter, flat_map}
 use Rattle.std.specs.Fmt.{decimal}
-use Rattle.rg_tree.specs.Statements.{PartTree}
-use Rattle.rg_c_plan.specs.Accesses.{StepTree, steps_of_parts}
+use Rattle.rg_tree.specs.Statements.{ProgramTree}
+use Rattle.rg_c_plan.specs.Accesses.{StepTree}
 use Rattle.rg_c_plan.specs.Ways.{way_of}
+use Rattle.rg_c_plan.specs.Views.{ViewTree, views}
 use Rattle.rg_c_plan.specs.declared.kind.Kind.{Kind}
 use Rattle.rg_c_plan.specs.declared.way.Way.{Way}
-use Rattle.rg_c_plan.specs.declared.way.Way.TheVariants.{Direct, Load, Store, Exchange, Section}
+use Rattle.rg_c_plan.specs.declared.way.Way.TheVariants.{Direct, Load, Store, Exchange, Select, Section}
 use Rattle.rg_c_report.specs.declared.counts.Counts.{Counts}
-use Rattle.rg_c_report.specs.Moving.{moving}
 use Rattle.rg_c_report.specs.Words.{counted}
 
--- how a step is done: as its assignments that move are
+-- how a step is done, by the kinds of words as its part sees them
 abbrev pub way_of_step : List Kind → StepTree → Way
-way_of_step kinds s = way_of kinds s.guard (moving s.act)
+way_of_step kinds s = way_of kinds s.guard s.act
 
 -- the way is this one
 abbrev pub is_direct : Way → Bool
@@ -33,6 +33,10 @@ abbrev pub is_exchange : Way → Bool
 is_exchange (Exchange k) = true
 is_exchange way = false
 
+abbrev pub is_select : Way → Bool
+is_select Select = true
+is_select way = false
+
 abbrev pub is_section : Way → Bool
 is_section Section = true
 is_section way = false
@@ -49,12 +53,17 @@ counts_of_ways ways = record {
   loads = count_of is_load ways;
   stores = count_of is_store ways;
   exchanges = count_of is_exchange ways;
+  selects = count_of is_select ways;
   sections = count_of is_section ways;
 }
 
--- how many steps of these parts are done in each way
-abbrev pub counts_of : List Kind → List PartTree → Counts
-counts_of kinds parts = counts_of_ways (map (way_of_step kinds) (steps_of_parts parts))
+-- how the steps of these parts are done
+abbrev pub ways_of : List ViewTree → List Way
+ways_of vs = flat_map (λ (v : ViewTree). map (way_of_step v.kinds) v.steps) vs
+
+-- how many steps of a program are done in each way
+abbrev pub counts_of : ProgramTree → List Kind → Counts
+counts_of p kinds = counts_of_ways (ways_of (views p kinds))
 
 -- what is said of the steps, of those that meet no other part, of loads and stores
 unfoldable pub counts_first : Counts → List ℕ
@@ -64,11 +73,12 @@ counts_first counts =
     ++ (counted counts.loads (codes " is one load, ") (codes " are one load, ")
     ++ counted counts.stores (codes " is one store,") (codes " are one store,")))))
 
--- and of exchanges and sections
+-- and of exchanges, of accesses that are chosen, and of sections
 unfoldable pub counts_second : Counts → List ℕ
 counts_second counts =
     counted counts.exchanges (codes " is one compare-and-exchange, ") (codes " are one compare-and-exchange, ")
-    ++ counted counts.sections (codes " is a critical section.") (codes " are a critical section.")
+    ++ (counted counts.selects (codes " accesses one of several words, ") (codes " access one of several words, ")
+    ++ counted counts.sections (codes " is a critical section.") (codes " are a critical section."))
 
 -- the whole sentence
 unfoldable pub counts_text : Counts → List ℕ

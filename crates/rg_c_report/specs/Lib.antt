@@ -1,5 +1,4 @@
 pub mod Words
-pub mod Moving
 pub mod Counts
 pub mod Parties
 pub mod Reports

@@ -8,11 +8,11 @@ use Rattle.rg_tree.specs.Trees.{Proposition, Assignment}
 use Rattle.rg_tree.specs.Statements.{PartTree, ProgramTree}
 use Rattle.rg_c_plan.specs.Accesses.{StepTree, steps, steps_of_parts}
 use Rattle.rg_c_plan.specs.Ways.{kind_at, is_guarded, way_of, met_words}
+use Rattle.rg_c_plan.specs.Views.{kinds_for}
 use Rattle.rg_c_plan.specs.declared.kind.Kind.{Kind}
-use Rattle.rg_c_plan.specs.declared.kind.Kind.TheVariants.{Fixed, Own, Atomic, Guarded}
+use Rattle.rg_c_plan.specs.declared.kind.Kind.TheVariants.{Fixed, Own, Published, Atomic, Guarded}
 use Rattle.rg_c_plan.specs.declared.way.Way.{Way}
-use Rattle.rg_c_plan.specs.declared.way.Way.TheVariants.{Direct, Load, Store, Exchange, Section}
-use Rattle.rg_c_report.specs.Moving.{moving}
+use Rattle.rg_c_plan.specs.declared.way.Way.TheVariants.{Direct, Load, Store, Exchange, Select, Section}
 use Rattle.rg_c_report.specs.Words.{joined, name_of, counted, commas}
 use Rattle.rg_c_report.specs.Counts.{counts_of, counts_text}
 use Rattle.rg_c_report.specs.Parties.{parties_text}
@@ -21,6 +21,7 @@ use Rattle.rg_c_report.specs.Parties.{parties_text}
 abbrev pub kind_text : Kind → List ℕ
 kind_text Fixed = codes "fixed"
 kind_text Own = codes "plain"
+kind_text Published = codes "atomic"
 kind_text Atomic = codes "atomic"
 kind_text Guarded = codes "in critical sections"
 
@@ -60,18 +61,23 @@ abbrev pub words_text : ProgramTree → List Kind → List StepTree → ℕ → 
 words_text p kinds ss k zero = []
 words_text p kinds ss k (suc n) = word_text p kinds ss k ++ words_text p kinds ss (k + 1) n
 
+-- the words at which a step may meet others, after a text
+abbrev pub met_text : List Word → List Kind → List ℕ → Option Proposition → List Assignment → List ℕ
+met_text words kinds before guard act = before ++ commas (map (name_of words) (met_words kinds guard act))
+
 -- how a step is done with this guard or test, if it has one, and these assignments
 abbrev pub way_text : List Word → List Kind → Option Proposition → List Assignment → Way → List ℕ
 way_text words kinds guard act Direct = codes "meets no other part"
 way_text words kinds guard act (Load k) = joined (codes "one load of " ∷ name_of words k ∷ [])
 way_text words kinds guard act (Store k) = joined (codes "one store to " ∷ name_of words k ∷ [])
 way_text words kinds guard act (Exchange k) = joined (codes "one compare-and-exchange of " ∷ name_of words k ∷ [])
-way_text words kinds guard act Section = codes "a critical section, for " ++ commas (map (name_of words) (met_words kinds guard act))
+way_text words kinds guard act Select = met_text words kinds (codes "one load or store, of one of ") guard act
+way_text words kinds guard act Section = met_text words kinds (codes "a critical section, for ") guard act
 
--- a step, by its assignments that move
+-- a step
 unfoldable pub step_text : List Word → List Kind → StepTree → List ℕ
 step_text words kinds s =
-    codes "  line " ++ (decimal s.line ++ (codes ": " ++ (way_text words kinds s.guard (moving s.act) (way_of kinds s.guard (moving s.act)) ++ codes "\n")))
+    codes "  line " ++ (decimal s.line ++ (codes ": " ++ (way_text words kinds s.guard s.act (way_of kinds s.guard s.act) ++ codes "\n")))
 
 abbrev pub steps_text : List Word → List Kind → List StepTree → List ℕ
 steps_text words kinds ss = flat_map (step_text words kinds) ss
@@ -80,11 +86,13 @@ steps_text words kinds ss = flat_map (step_text words kinds) ss
 unfoldable pub part_text : List Word → List Kind → PartTree → List ℕ
 part_text words kinds part = codes "part " ++ (part.name ++ (codes "\n" ++ steps_text words kinds (steps part.body)))
 
-abbrev pub parts_text : List Word → List Kind → List PartTree → List ℕ
-parts_text words kinds parts = flat_map (part_text words kinds) parts
+-- parts, from the i-th one on, each by the kinds of words as it sees them
+abbrev pub parts_text : ProgramTree → List Kind → ℕ → List PartTree → List ℕ
+parts_text p kinds i [] = []
+parts_text p kinds i (part ∷ parts) = part_text p.words (kinds_for p kinds i) part ++ parts_text p kinds (i + 1) parts
 
 -- the words, the parts, and the counts
 abbrev pub report_text : ProgramTree → List Kind → List ℕ
 report_text p kinds =
     codes "words\n" ++ (words_text p kinds (steps_of_parts p.parts) 0 (length p.words)
-    ++ (parts_text p.words kinds p.parts ++ (counts_text (counts_of kinds p.parts) ++ codes "\n")))
+    ++ (parts_text p kinds 0 p.parts ++ (counts_text (counts_of p kinds) ++ codes "\n")))

@@ -1,16 +1,16 @@
 //! How many steps are done in each way.
 
 ghost use Rattle.std.specs.Prelude.{◌≡◌, ◌++◌, map, string_bytes, IfOk, OnOk};
-ghost use Rattle.rg_tree.specs.ProgramView.{part as part_tree};
-ghost use Rattle.rg_c_plan.specs.View.{step};
-ghost use Rattle.rg_c_report.specs.Counts.{way_of_step, counts_of_ways, counts_of, counts_first, counts_second, counts_text};
+ghost use Rattle.rg_tree.specs.ProgramTrees.{program as program_tree};
+ghost use Rattle.rg_c_plan.specs.View.{step, view};
+ghost use Rattle.rg_c_report.specs.Counts.{way_of_step, ways_of, counts_of_ways, counts_of, counts_first, counts_second, counts_text};
 
-use crate::moves::moving;
 use crate::words::{push_counted, push_number};
 use rg_c_plan::kind::Kind;
-use rg_c_plan::step::{Step, steps_of_parts};
+use rg_c_plan::step::Step;
+use rg_c_plan::views::{PartView, views};
 use rg_c_plan::way::{Way, way_of};
-use rg_tree::part::Part;
+use rg_tree::program::Program;
 use std::alloc::{AllocError, Global};
 
 /// How many steps a program has, and how many of them are done in each way.
@@ -22,24 +22,28 @@ pub struct Counts {
     pub loads: usize,
     pub stores: usize,
     pub exchanges: usize,
+    /// Those that access one of several words.
+    pub selects: usize,
     pub sections: usize,
 }
 
-/// How a step is done.
-pub(crate) fn way_of_step(alloc: Global, kinds: &[Kind], s: &Step<'_>) -> Result<Way, AllocError>
-    ensures { IfOk result (λ way. way ≡ way_of_step kinds.now (step s.now)) }
+/// Adds how each of these steps is done.
+fn push_ways(kinds: &[Kind], steps: &[Step<'_>], ways: &mut Vec<Way>) -> Result<(), AllocError>
+    ensures { OnOk result (ways.new.items ≡ ways.old.items ++ map (way_of_step kinds.now) (map step steps.now)) }
 {
-    let moves = moving(alloc, s.act)?;
-    Ok(way_of(kinds, s.guard, &moves))
+    for s in steps {
+        ways.push(way_of(kinds, s.guard, s.act))?;
+    }
+    Ok(())
 }
 
-/// How each of these steps is done.
-fn ways_of(alloc: Global, kinds: &[Kind], steps: &[Step<'_>]) -> Result<Vec<Way>, AllocError>
-    ensures { IfOk result (λ ways. ways.items ≡ map (way_of_step kinds.now) (map step steps.now)) }
+/// How the steps of these parts are done.
+fn ways_of(alloc: Global, views: &[PartView<'_>]) -> Result<Vec<Way>, AllocError>
+    ensures { IfOk result (λ ways. ways.items ≡ ways_of (map view views.now)) }
 {
     let mut ways = Vec::new(alloc);
-    for s in steps {
-        ways.push(way_of_step(alloc, kinds, s)?)?;
+    for v in views {
+        push_ways(&v.kinds, &v.steps, &mut ways)?;
     }
     Ok(ways)
 }
@@ -54,6 +58,7 @@ fn counts_of_ways(ways: &[Way]) -> Counts
         loads: 0,
         stores: 0,
         exchanges: 0,
+        selects: 0,
         sections: 0,
     };
     for way in ways {
@@ -62,20 +67,21 @@ fn counts_of_ways(ways: &[Way]) -> Counts
             Way::Load(_) => counts.loads += 1,
             Way::Store(_) => counts.stores += 1,
             Way::Exchange(_) => counts.exchanges += 1,
+            Way::Select => counts.selects += 1,
             Way::Section => counts.sections += 1,
         }
     }
     counts
 }
 
-/// How many steps these parts have, and how many are done in each way, by the kinds of words.
+/// How many steps a program has, and how many are done in each way, by the kinds of words.
 ///
 /// An error comes only where memory was refused.
-pub fn counts_of(alloc: Global, kinds: &[Kind], parts: &[Part]) -> Result<Counts, AllocError>
-    ensures { IfOk result (λ counts. counts ≡ counts_of kinds.now (map part_tree parts.now)) }
+pub fn counts_of(alloc: Global, program: &Program, kinds: &[Kind]) -> Result<Counts, AllocError>
+    ensures { IfOk result (λ counts. counts ≡ counts_of (program_tree program.now) kinds.now) }
 {
-    let steps = steps_of_parts(alloc, parts)?;
-    let ways = ways_of(alloc, kinds, &steps)?;
+    let views = views(alloc, program, kinds)?;
+    let ways = ways_of(alloc, &views)?;
     Ok(counts_of_ways(&ways))
 }
 
@@ -109,7 +115,7 @@ pub fn push_counts_first(text: &mut String, counts: &Counts) -> Result<(), Alloc
     Ok(())
 }
 
-/// Adds the second half: exchanges and sections.
+/// Adds the second half: exchanges, accesses that are chosen, and sections.
 ///
 /// An error comes only where memory was refused.
 pub fn push_counts_second(text: &mut String, counts: &Counts) -> Result<(), AllocError>
@@ -120,6 +126,12 @@ pub fn push_counts_second(text: &mut String, counts: &Counts) -> Result<(), Allo
         counts.exchanges as u64,
         " is one compare-and-exchange, ",
         " are one compare-and-exchange, ",
+    )?;
+    push_counted(
+        text,
+        counts.selects as u64,
+        " accesses one of several words, ",
+        " access one of several words, ",
     )?;
     push_counted(
         text,

@@ -2,7 +2,6 @@
 #![tactic(auto)]
 
 pub mod counts;
-pub mod moves;
 pub mod parties;
 pub mod report;
 mod words;

@@ -5,18 +5,19 @@ ghost use Rattle.rg_tree.specs.ConditionTrees.{assignment};
 ghost use Rattle.rg_tree.specs.ProgramView.{part as part_tree};
 ghost use Rattle.rg_tree.specs.ProgramTrees.{program as program_tree};
 ghost use Rattle.rg_c_plan.specs.View.{guard_tree, step};
-ghost use Rattle.rg_c_plan.specs.Ways.{kind_at};
+ghost use Rattle.rg_c_plan.specs.Changes.{moving};
+ghost use Rattle.rg_c_plan.specs.Views.{kinds_for};
 ghost use Rattle.rg_c_report.specs.Words.{name_of};
-ghost use Rattle.rg_c_report.specs.Reports.{kind_text, is_met, guarded_beside, word_beside, since_text, reason_text, word_line, word_text, words_text, way_text, step_text, steps_text, part_text, parts_text, report_text};
+ghost use Rattle.rg_c_report.specs.Reports.{kind_text, is_met, guarded_beside, word_beside, since_text, reason_text, word_line, word_text, words_text, way_text, step_text, steps_text, part_text, parts_text, report_text, met_text};
 
 use crate::counts::{counts_of, push_counts};
-use crate::moves::moving;
 use crate::parties::push_parties;
 use crate::words::{name_of, push_all, push_counted, push_listed, push_name, push_number};
 use itoa::Buffer;
 use rg_c_plan::kind::Kind;
 use rg_c_plan::step::{Step, steps_of, steps_of_parts};
-use rg_c_plan::way::{Way, met_words, way_of};
+use rg_c_plan::views::kinds_for;
+use rg_c_plan::way::{Way, kind_at, met_words, way_of};
 use rg_tree::condition::Assign;
 use rg_tree::part::Part;
 use rg_tree::program::Program;
@@ -32,23 +33,13 @@ struct Page<'a> {
     kinds: &'a [Kind],
 }
 
-/// The kind of a word; one without a kind is plain.
-fn kind_at(kinds: &[Kind], word: usize) -> Kind
-    ensures { result ≡ kind_at kinds.now word }
-{
-    match kinds.get(word) {
-        Some(kind) => *kind,
-        None => Kind::Own,
-    }
-}
-
 fn kind_text(kind: Kind) -> &'static str
     ensures { result.now ≡ kind_text kind }
 {
     match kind {
         Kind::Fixed => "fixed",
         Kind::Own => "plain",
-        Kind::Atomic => "atomic",
+        Kind::Published | Kind::Atomic => "atomic",
         Kind::Guarded => "in critical sections",
     }
 }
@@ -195,6 +186,21 @@ fn names_of<'a>(
     Ok(names)
 }
 
+/// Adds a text, and the words at which a step may meet others.
+fn push_met(
+    page: &Page<'_>,
+    text: &mut String,
+    before: &str,
+    guard: Option<&Formula>,
+    act: &[Assign],
+) -> Result<(), AllocError>
+    ensures { OnOk result (string_bytes text.new ≡ string_bytes text.old ++ met_text page.now.program.now.layout page.now.kinds.now before.now (guard_tree guard.entry) (moving (map assignment act.now))) }
+{
+    let met = met_words(page.alloc, page.kinds, guard, act)?;
+    let names = names_of(page.alloc, &page.program.layout, &met)?;
+    push_listed(text, before, &names)
+}
+
 /// Adds how a step is done with this guard or test, if it has one, and these assignments.
 fn push_way(
     page: &Page<'_>,
@@ -203,7 +209,7 @@ fn push_way(
     guard: Option<&Formula>,
     act: &[Assign],
 ) -> Result<(), AllocError>
-    ensures { OnOk result (string_bytes text.new ≡ string_bytes text.old ++ way_text page.now.program.now.layout page.now.kinds.now (guard_tree guard.entry) (map assignment act.now) way) }
+    ensures { OnOk result (string_bytes text.new ≡ string_bytes text.old ++ way_text page.now.program.now.layout page.now.kinds.now (guard_tree guard.entry) (moving (map assignment act.now)) way) }
 {
     let layout = &page.program.layout;
     match way {
@@ -216,11 +222,8 @@ fn push_way(
                 &["one compare-and-exchange of ", name_of(layout, word)],
             )
         }
-        Way::Section => {
-            let met = met_words(page.alloc, page.kinds, guard, act)?;
-            let names = names_of(page.alloc, layout, &met)?;
-            push_listed(text, "a critical section, for ", &names)
-        }
+        Way::Select => push_met(page, text, "one load or store, of one of ", guard, act),
+        Way::Section => push_met(page, text, "a critical section, for ", guard, act),
     }
 }
 
@@ -229,12 +232,11 @@ fn push_way(
 fn push_step(page: &Page<'_>, text: &mut String, s: &Step<'_>) -> Result<(), AllocError>
     ensures { OnOk result (string_bytes text.new ≡ string_bytes text.old ++ step_text page.now.program.now.layout page.now.kinds.now (step s.now)) }
 {
-    let moves = moving(page.alloc, s.act)?;
-    let way = way_of(page.kinds, s.guard, &moves);
+    let way = way_of(page.kinds, s.guard, s.act);
     text.push_str("  line ")?;
     push_number(text, u64::from(s.line))?;
     text.push_str(": ")?;
-    push_way(page, text, way, s.guard, &moves)?;
+    push_way(page, text, way, s.guard, s.act)?;
     text.push_str("\n")?;
     Ok(())
 }
@@ -261,12 +263,30 @@ fn push_part(page: &Page<'_>, text: &mut String, part: &Part) -> Result<(), Allo
     push_steps(page, text, &steps)
 }
 
+/// Adds a part, by the kinds of words as it sees them.
+fn push_seen_part(
+    page: &Page<'_>,
+    text: &mut String,
+    place: usize,
+    part: &Part,
+) -> Result<(), AllocError>
+    ensures { OnOk result (string_bytes text.new ≡ string_bytes text.old ++ part_text page.now.program.now.layout (kinds_for (program_tree page.now.program.now) page.now.kinds.now place) (part_tree part.now)) }
+{
+    let kinds = kinds_for(page.alloc, page.program, page.kinds, place)?;
+    let seen = Page {
+        alloc: page.alloc,
+        program: page.program,
+        kinds: &kinds,
+    };
+    push_part(&seen, text, part)
+}
+
 /// Adds parts.
 fn push_parts(page: &Page<'_>, text: &mut String, parts: &[Part]) -> Result<(), AllocError>
-    ensures { OnOk result (string_bytes text.new ≡ string_bytes text.old ++ parts_text page.now.program.now.layout page.now.kinds.now (map part_tree parts.now)) }
+    ensures { OnOk result (string_bytes text.new ≡ string_bytes text.old ++ parts_text (program_tree page.now.program.now) page.now.kinds.now 0 (map part_tree parts.now)) }
 {
-    for part in parts {
-        push_part(page, text, part)?;
+    for (place, part) in parts.iter().enumerate() {
+        push_seen_part(page, text, place, part)?;
     }
     Ok(())
 }
@@ -283,7 +303,7 @@ pub fn report(alloc: Global, program: &Program, kinds: &[Kind]) -> Result<String
         kinds,
     };
     let steps = steps_of_parts(alloc, &program.parts)?;
-    let counts = counts_of(alloc, kinds, &program.parts)?;
+    let counts = counts_of(alloc, program, kinds)?;
     let mut text = String::new(alloc);
     text.push_str("words\n")?;
     push_words(&page, &mut text, &steps)?;

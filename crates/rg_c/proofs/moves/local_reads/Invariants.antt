@@ -1,5 +1,5 @@
 use Rattle.std.proofs.Common.{◌≡◌, drop}
-use Rattle.rg_c.specs.StepTexts.{with_locals}
+use Rattle.rg_c.specs.Reads.{with_locals}
 use Rattle.rg_c.proofs.moves.local_reads.Given as goal
 
 abbrev pub invariant-loop-word : goal.invariant-loop-word

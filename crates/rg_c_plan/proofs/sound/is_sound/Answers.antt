@@ -1,13 +1,10 @@
-use Rattle.std.proofs.Common.{◌≡◌, ◌∙◌, List, true, length, map, sym, ap, arith}
-use Rattle.std.specs.List.{list_all}
-use Rattle.rg_tree.specs.declared.part.Part.{Part}
-use Rattle.rg_tree.specs.ProgramView.{part}
+use Rattle.std.proofs.Common.{◌≡◌, ◌∙◌, Option, Some, None, true, length, sym, ap, arith, rules}
 use Rattle.rg_tree.specs.ProgramTrees.{program as program_tree}
-use Rattle.rg_c_plan.specs.declared.step.Step.{Step}
-use Rattle.rg_c_plan.specs.View.{step}
-use Rattle.rg_c_plan.specs.Accesses.{StepTree, steps_of_parts}
-use Rattle.rg_c_plan.specs.Inner.Tests.{is_step_sound, are_words_sound}
-use Rattle.rg_c_plan.proofs.Checked.{sound_from_tests, words_pass, steps_pass}
+use Rattle.rg_c_plan.specs.declared.planned.Unplanned.{Unplanned}
+use Rattle.rg_c_plan.specs.Views.{views}
+use Rattle.rg_c_plan.specs.Kinds.{failing}
+use Rattle.rg_c_plan.specs.Inner.Tests.{are_words_sound}
+use Rattle.rg_c_plan.proofs.Checked.{sound_from_tests, words_pass, none_is_failing}
 use Rattle.rg_c_plan.proofs.sound.is_sound.Goals as goal
 
 pub returns-then-not-branch : goal.returns-then-not-branch
@@ -16,14 +13,18 @@ returns-then-not-branch c =
     let kinds = c.args.kinds.now in
     (λ e. cc e, λ sound. sym c.if-not-branch.true ∙ c.in_ok-are_words_sound.ensures ∙ words_pass p kinds sound)
 
+pub returns-in-Some : goal.returns-in-Some
+returns-in-Some c =
+    let p = program_tree c.args.program.now in
+    let kinds = c.args.kinds.now in
+    let found : failing (views p kinds) ≡ Some c.in-Some.field-0 = search rules in
+    (λ e. cc e, λ sound. let none : (let u : Option Unplanned = None in u) ≡ Some c.in-Some.field-0 = sym (none_is_failing (views p kinds) sound.steps) ∙ found in cc none)
+
 pub returns : goal.returns
 returns c =
     let p = program_tree c.args.program.now in
     let kinds = c.args.kinds.now in
     let size : length kinds ≡ length p.words = omega (arith, c.if-kinds-len.false, c.len.ensures.count) in
     let words : are_words_sound p kinds ≡ true = sym c.in_ok-are_words_sound.ensures ∙ c.if-not-branch.false in
-    let steps : map step c.deref-2.result.now ≡ steps_of_parts p.parts =
-    ap (λ (ss : List Step). map step ss) c.deref-2.ensures.value ∙ c.in_ok-steps.ensures ∙ ap (λ (ps : List Part). steps_of_parts (map part ps)) c.deref.ensures.value in
-    let is : c.are_steps_sound.result ≡ list_all (is_step_sound kinds) (steps_of_parts p.parts) =
-    c.are_steps_sound.ensures ∙ ap (λ (ss : List StepTree). list_all (is_step_sound kinds) ss) steps in
-    (λ e. sound_from_tests p kinds size words (sym is ∙ e), λ sound. is ∙ steps_pass p kinds sound)
+    let none : failing (views p kinds) ≡ None = search rules in
+    (λ e. sound_from_tests p kinds size words none, λ sound. search rules)

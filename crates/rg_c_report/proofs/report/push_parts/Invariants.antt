@@ -1,11 +1,12 @@
 use Rattle.std.proofs.Common.{◌≡◌, ◌++◌, map, drop}
 use Rattle.std.specs.String.{string_bytes}
 use Rattle.rg_tree.specs.ProgramView.{part}
+use Rattle.rg_tree.specs.ProgramTrees.{program as program_tree}
 use Rattle.rg_c_report.specs.Reports.{parts_text}
 use Rattle.rg_c_report.proofs.report.push_parts.Given as goal
 
 -- those so far, and those of the rest
-abbrev pub invariant-loop-part : goal.invariant-loop-part
-invariant-loop-part l =
-    string_bytes l.text ++ parts_text l.page.program.now.layout l.page.kinds.now (map part (drop l.part-index l.parts))
-    ≡ string_bytes l.initial.text ++ parts_text l.page.program.now.layout l.page.kinds.now (map part l.parts)
+abbrev pub invariant-loop-place : goal.invariant-loop-place
+invariant-loop-place l =
+    string_bytes l.text ++ parts_text (program_tree l.page.program.now) l.page.kinds.now l.place (map part (drop l.place l.parts))
+    ≡ string_bytes l.initial.text ++ parts_text (program_tree l.page.program.now) l.page.kinds.now 0 (map part l.parts)

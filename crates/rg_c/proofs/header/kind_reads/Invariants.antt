@@ -1,6 +1,0 @@
-use Rattle.std.proofs.Common.{◌≡◌, ◌++◌, drop}
-use Rattle.rg_c.specs.Headers.{kind_reads}
-use Rattle.rg_c.proofs.header.kind_reads.Given as goal
-
-abbrev pub invariant-loop-kind : goal.invariant-loop-kind
-invariant-loop-kind l = l.reads.items ++ kind_reads (drop l.kind-index l.kinds) ≡ kind_reads l.kinds

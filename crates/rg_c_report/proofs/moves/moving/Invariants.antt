@@ -1,7 +1,0 @@
-use Rattle.std.proofs.Common.{◌≡◌, ◌++◌, map, drop}
-use Rattle.rg_tree.specs.ConditionTrees.{assignment}
-use Rattle.rg_c_report.specs.Moving.{moving}
-use Rattle.rg_c_report.proofs.moves.moving.Given as goal
-
-abbrev pub invariant-loop-a : goal.invariant-loop-a
-invariant-loop-a l = map assignment l.list.items ++ moving (map assignment (drop l.a-index l.act)) ≡ moving (map assignment l.act)
