@@ -13,5 +13,5 @@ is_proved() {
 }
 
 is_compiled() {
-    is_current "$unproved" "$made/unproved/made_from"
+    is_current "$unproved" "$made/unproved/made_from" && [ ! "$root/scripts/unproved" -nt "$made/unproved/made_from" ]
 }
