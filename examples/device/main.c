@@ -1,5 +1,8 @@
 /* The ring of interrupt_ring.rgo on a device: the interrupt of a timer puts values in, the main loop takes them out and prints them. */
-#include "board.h"
+#ifndef BOARD
+#define BOARD "board.h"
+#endif
+#include BOARD
 #include "interrupt_ring.h"
 
 #include "values.h"
@@ -13,10 +16,10 @@ void board_tick(void)
 {
     static uint32_t given;
     if (given < COUNT) {
-        const uint8_t before = words.head;
+        const uint8_t before = RGC_LOAD(&words.head);
         RGC_STORE(&words.device, values[given]);
         interrupt_ring_round_handler(&words);
-        given += words.head != before;
+        given += RGC_LOAD(&words.head) != before;
     }
 }
 
@@ -28,9 +31,9 @@ int main(void)
     }
     board_start_timer(CYCLES);
     for (uint32_t taken = 0; taken < COUNT;) {
-        const uint8_t before = words.tail;
+        const uint8_t before = RGC_LOAD(&words.tail);
         interrupt_ring_round_main(&words);
-        if (words.tail != before) {
+        if (RGC_LOAD(&words.tail) != before) {
             board_print(words.got);
             taken++;
         }

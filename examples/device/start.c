@@ -1,5 +1,8 @@
 /* From reset to main, and what board.h declares: the core's own timer, and output by semihosting, which an emulator or a debugger takes. */
-#include "board.h"
+#ifndef BOARD
+#define BOARD "board.h"
+#endif
+#include BOARD
 
 extern uint32_t data_begin[], data_end[], data_image[], bss_begin[], bss_end[], stack_top[];
 int main(void);
