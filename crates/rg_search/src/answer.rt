@@ -2,6 +2,7 @@
 
 use crate::congruence::Classes;
 use crate::plain::{Twin, plain_values};
+use crate::relations::Relations;
 use crate::shortening::{Refutation, refutation_of};
 use crate::sweep::Sweep;
 use rg_solver::code::code_for;
@@ -87,6 +88,17 @@ impl Search {
         self.close_all();
     }
 
+    /// Relates sums.
+    fn relate<W: Watcher>(&mut self, watcher: &mut W) {
+        self.solver.backtrack(0);
+        if self.steps > 0 && !self.solver.is_over() {
+            let most = self.limit(SWEEP);
+            let mut relations = Relations::new(self, most);
+            relations.run(self, watcher);
+            self.close_all();
+        }
+    }
+
     /// The congruence closure, also under cases, a first sweep, and a first search.
     fn begin<W: Watcher>(&mut self, goal: &mut Goal<'_>, watcher: &mut W) -> Outcome {
         self.close_all();
@@ -95,6 +107,7 @@ impl Search {
             self.close_cases(most);
             self.close_all();
         }
+        self.relate(watcher);
         self.sweep(FEW_CONFLICTS, FIRST_SWEEP, watcher);
         goal.conflicts = self.steps.min(FIRST_CONFLICTS);
         self.solver.search(goal, watcher)

@@ -57,10 +57,11 @@ fn take_most_used(solver: &Solver, uses: &mut [u32]) -> Option<Code> {
 }
 
 impl Search {
-    /// Closes the classes under a literal, until the solver has done so much.
+    /// Closes the classes under a literal, until the solver has done so much, or logged much.
     fn close_under(&mut self, case: Code, effort: u64) {
         let solver = &mut self.solver;
-        if solver.is_over() || solver.effort > effort || solver.value(case) != OPEN {
+        let is_done = solver.is_over() || solver.log.is_long() || solver.effort > effort;
+        if is_done || solver.value(case) != OPEN {
             return;
         }
         solver.begin_case(case);

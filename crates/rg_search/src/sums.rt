@@ -105,8 +105,46 @@ impl Sums {
         }
     }
 
-    /// Opens exclusive ors down to the leaves. Whether none is left.
+    /// Opens exclusive ors down to the leaves, and in place of two words that are picked from two others, or the other way round, these.
+    /// Whether none is left.
     fn open(&mut self, search: &mut Search) -> bool {
+        for _ in 0..MOST_OPENED {
+            if !self.open_all(search) {
+                return false;
+            }
+            if !self.open_picked(search) {
+                return true;
+            }
+        }
+        false
+    }
+
+    /// Takes out two leaves of which one picks what the other doesn't, and has what they pick from opened. Whether there are any.
+    fn open_picked(&mut self, search: &mut Search) -> bool {
+        for place in 0..self.leaves.len() {
+            let leaf = at(&self.leaves, place, 0);
+            let Some(operands) = search.solver.circuit.picked(variable_of(leaf)) else {
+                continue;
+            };
+            for other in place.saturating_add(1)..self.leaves.len() {
+                let second = at(&self.leaves, other, 0);
+                if search
+                    .solver
+                    .circuit
+                    .picks_others(variable_of(leaf), variable_of(second))
+                {
+                    self.turn(leaf, &mut search.solver.lacks_memory);
+                    self.turn(second, &mut search.solver.lacks_memory);
+                    self.push(search, operands);
+                    return true;
+                }
+            }
+        }
+        false
+    }
+
+    /// Opens exclusive ors down to the leaves. Whether none is left.
+    fn open_all(&mut self, search: &mut Search) -> bool {
         for _ in 0..MOST_OPENED {
             let Some(variable) = self.stack.pop() else {
                 return true;

@@ -27,9 +27,9 @@ const SOME_CONFLICTS: u64 = 100;
 const FEW_MISSES: u64 = 10;
 
 /// The most conflicts of each clause of a sum, and in each direction of a pair that has one.
-const SUM_CONFLICTS: u64 = 30;
+const SUM_CONFLICTS: u64 = 300;
 
-const SUMMED_CONFLICTS: u64 = 300;
+const SUMMED_CONFLICTS: u64 = 1_500;
 
 /// How much more work is allowed where there may be sums, and then for that of each pair that is proved.
 const SUMS_WORK: u64 = 1_000_000;

@@ -144,4 +144,31 @@ impl Circuit {
         }
         None
     }
+
+    /// The literal by which a gate picks between two, and both: it is the negation of `c and a` or `not c and b`.
+    fn pick(&self, variable: usize) -> Option<(Code, Operands)> {
+        let (a, b) = self.halves(variable)?;
+        for (test, first) in [(a.first, a.second), (a.second, a.first)] {
+            for (other, second) in [(b.first, b.second), (b.second, b.first)] {
+                if test == negated(other) {
+                    return Some((test, Operands { first, second }));
+                }
+            }
+        }
+        None
+    }
+
+    /// What a gate picks from.
+    pub fn picked(&self, variable: usize) -> Option<Operands> {
+        Some(self.pick(variable)?.1)
+    }
+
+    /// Whether of two gates one picks what the other doesn't.
+    pub fn picks_others(&self, variable: usize, other: usize) -> bool {
+        let (Some((test, a)), Some((same, b))) = (self.pick(variable), self.pick(other)) else {
+            return false;
+        };
+        test == same && a.first == b.second && a.second == b.first
+            || test == negated(same) && a.first == b.first && a.second == b.second
+    }
 }

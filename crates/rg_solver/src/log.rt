@@ -7,6 +7,9 @@ use std::alloc::Global;
 /// The most literals and hints of a log: a search whose log has more ends.
 const MOST_LOGGED: usize = 8_000_000;
 
+/// The literals and hints of a log that is long. Each case logs what is equal under it, a clause or two for each gate.
+const LONG_LOGGED: usize = 250_000;
+
 /// A list of lists: all items in one list, and the place in it where each inner list ends.
 #[derive(Drop)]
 pub struct Lists<T> {
@@ -100,9 +103,19 @@ impl Log {
         Some(above.checked_sub(1)? as usize)
     }
 
+    /// The count of literals and hints.
+    fn count(&self) -> usize {
+        self.literals.count().saturating_add(self.hints.count())
+    }
+
     /// Whether no more may be logged.
     pub fn is_full(&self) -> bool {
-        self.literals.count().saturating_add(self.hints.count()) > MOST_LOGGED
+        self.count() > MOST_LOGGED
+    }
+
+    /// Whether so much is logged that no further cases should be looked at.
+    pub fn is_long(&self) -> bool {
+        self.count() > LONG_LOGGED
     }
 
     /// Logs a clause, and answers its number, or 0 where the empty clause is logged already.

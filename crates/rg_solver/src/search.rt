@@ -70,6 +70,23 @@ impl Solver {
         self.search(&mut goal, watcher)
     }
 
+    /// As `exclude`, with decisions on the variables of these literals alone.
+    pub fn exclude_within<W: Watcher>(
+        &mut self,
+        assumed: &[Code],
+        window: &[Code],
+        limit: u64,
+        watcher: &mut W,
+    ) -> Outcome {
+        let mut goal = Goal::new(assumed, limit, u64::MAX);
+        goal.has_cone = true;
+        self.begin_cone();
+        for literal in window {
+            self.enter(*literal);
+        }
+        self.search(&mut goal, watcher)
+    }
+
     /// Searches until the goal is decided or its effort is used up. What was learned stays.
     pub fn search<W: Watcher>(&mut self, goal: &mut Goal<'_>, watcher: &mut W) -> Outcome {
         self.backtrack(0);
@@ -184,11 +201,15 @@ impl Solver {
         None
     }
 
-    /// Collects the variables on which literals rest, the nearest first.
-    fn enter_cone(&mut self, literals: &[Code]) {
+    fn begin_cone(&mut self) {
         self.cone_stamp = self.cone_stamp.wrapping_add(1);
         self.cone.clear();
         self.near.clear();
+    }
+
+    /// Collects the variables on which literals rest, the nearest first.
+    fn enter_cone(&mut self, literals: &[Code]) {
+        self.begin_cone();
         for literal in literals {
             self.enter(*literal);
         }
