@@ -1,0 +1,1 @@
+words x:16 y:16 z:16 show ((if (((if ((x + y) < x) then 65535 else (x + y)) + z) < (if ((x + y) < x) then 65535 else (x + y))) then 65535 else ((if ((x + y) < x) then 65535 else (x + y)) + z)) = (if ((x + (if ((y + z) < y) then 65535 else (y + z))) < x) then 65535 else (x + (if ((y + z) < y) then 65535 else (y + z)))))
