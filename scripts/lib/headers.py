@@ -55,19 +55,28 @@ def check_loops(text):
 
 
 def declared(text, name):
-    """The members of the struct in order: the name, and `const`, `atomic` or `plain`, or `world` for an atomic one that others than parts write."""
+    """The members of the struct in order, each item of an array by itself: the name, as `head` or `slot[0]`, a kind, and the comment. The kind is `const`, `atomic`
+    or `plain`, or `world` for an atomic one that others than parts write."""
     found = re.search(rf"^struct {name} \{{\n(.*?)^\}};", text, re.M | re.S)
     demand(found, f"there is no struct {name}")
-    members = re.findall(r"^ +([^/*\n][^;\n]*?)\b(\w+);(?: */\*(.*?)\*/)?", found[1], re.M | re.S)
-    kind = lambda it, comment: "const" if it.startswith("const ") else "plain" if "RGC_ATOMIC(" not in it else "world" if "outside" in comment else "atomic"
-    return [(member, kind(it, comment)) for it, member, comment in members]
+    others = dict(re.findall(r"^ +/\* (\w+\[\d+\]): (.*?) \*/$", found[1], re.M))
+    members = []
+    for it, array, count, comment in re.findall(r"^ +([^/*\n][^;\n]*?)\b(\w+)(?:\[(\d+)\])?;(?: */\*(.*?)\*/)?", found[1], re.M | re.S):
+        for member in [f"{array}[{item}]" for item in range(int(count))] if count else [array]:
+            note = others.pop(member, comment)
+            kind = "const" if it.startswith("const ") else "plain" if "RGC_ATOMIC(" not in it else "world" if "outside" in note else "atomic"
+            members.append((member, kind, note))
+    demand(not others, f"{[*others][:1]} is no item of an array")
+    return members
 
 
 def numbered(members, words):
-    """The members by the numbers of their words, which stand in the order of the words; each is called as its word, or has `w_` before it."""
+    """The members by the numbers of their words, which stand in the order of the words; each is called as its word, or has `w_` before it, and an item as
+    `slot[0]` is the word `slot_0`."""
     found, number = {}, 0
-    for member, kind in members:
-        while number < len(words) and member not in (words[number][0], f"w_{words[number][0]}"):
+    for member, kind, _ in members:
+        called = re.sub(r"\[(\d+)\]$", r"_\1", member)
+        while number < len(words) and called not in (words[number][0], f"w_{words[number][0]}"):
             number += 1
         demand(number < len(words), f"{member} isn't the name of a word, or stands before another one")
         found[number] = (member, kind)
@@ -92,11 +101,27 @@ def start_of(text, name, members):
     found = re.search(rf"^#define RGC_START_{name} \{{ (.*) \}}$", text, re.M)
     if not found:
         return None
-    values = {member: int(value) for member, value in re.findall(r"\.(\w+) = (?:UINT64_C\()?(\d+)", found[1])}
+    values = {member: int(value) for member, value in re.findall(r"\.(\w+(?:\[\d+\])?) = (?:UINT64_C\()?(\d+)", found[1])}
     return {number: values.get(member, 0) for number, (member, _) in members.items()}
 
 
-def accesses_of(text, name):
+def accessed(line, members):
+    """The accesses of a line, in order: the members, of which one is accessed, and where the access ends."""
+    found = []
+    for it in re.finditer(r"w->(\w+)", line):
+        end, depth = it.end(), 0
+        if line.startswith("[", end):
+            for end in range(end, len(line)):
+                depth += {"[": 1, "]": -1}.get(line[end], 0)
+                if not depth:
+                    break
+            end += 1
+        member = line[it.start(1) : end]
+        found.append(([member] if member in members else [other for other in members if other.startswith(f"{it[1]}[")], end))
+    return found
+
+
+def accesses_of(text, name, members):
     """The accesses that stand in the functions of the parts, in order: the part, the member, whether it is assigned, and whether that is in a section."""
     found, part, inside = [], None, False
     for line in re.sub(r"/\*.*?\*/", "", text, flags=re.S).split("\n"):
@@ -104,15 +129,17 @@ def accesses_of(text, name):
         part = head[1] if head and " void " in line else None if head else part
         inside = (inside or "RGC_ENTER(w)" in line) and "RGC_LEAVE(w)" not in line
         if part:
-            assigned = re.match(r" *(?:w->|RGC_STORE\(&w->)(\w+)(?: = |,)", line)
-            found += [(part, it[1], bool(assigned) and it.end() == assigned.end(1), inside) for it in re.finditer(r"w->(\w+)", line)]
+            is_store = re.match(r" *RGC_STORE\(&w->| *w->", line)
+            for at, (several, end) in enumerate(accessed(line, members)):
+                is_assigned = bool(is_store) and at == 0 and line.startswith((" = ", ","), end)
+                found += [(part, member, is_assigned, inside) for member in several]
     return found
 
 
 def check_accesses(header, name):
     """Sees that of the members that two parts access and one assigns a plain one is accessed in sections alone."""
     parts, assigned, places = {}, set(), {}
-    for part, member, is_assigned, inside in accesses_of(header.text, name):
+    for part, member, is_assigned, inside in accesses_of(header.text, name, header.kinds):
         parts.setdefault(member, set()).add(part)
         places.setdefault(member, set()).add(inside)
         assigned |= {member} if is_assigned else set()
@@ -123,8 +150,9 @@ def check_accesses(header, name):
 def read(text, name, code):
     """The header, of which a name is the prefix."""
     check_loops(text)
-    members = numbered(declared(text, name), code["words"])
+    fields = declared(text, name)
+    members = numbered(fields, code["words"])
     names = {number: member for number, (member, _) in members.items()}
     rounds = tuple(re.findall(rf"^static inline void {name}_round_(\w+)\(", text, re.M))
-    moved = {*re.findall(r"^ +[^/*\n][^;\n]*?\b(\w+);[^\n]*; written by [^*\n]*\boutside\b", text, re.M)}
+    moved = {member for member, _, note in fields if re.search(r"; written by .*\boutside\b", note)}
     return Header(text, names, dict(members.values()), counts_of(text), rounds, start_of(text, name, members), moved)

@@ -1,6 +1,8 @@
 -- The text of a header.
-use Rattle.std.specs.Prelude.{ℕ, zero, suc, ◌+◌, nat_eq, Bool, false, ◌&&◌, List, [], ◌∷◌, ◌++◌, codes, length, slice_index, if◌then◌else◌}
-use Rattle.std.specs.List.{list_any}
+use Rattle.std.specs.Prelude.{ℕ, zero, suc, ◌+◌, nat_eq, Bool, true, false, ◌&&◌, List, [], ◌∷◌, ◌++◌, codes, length, take, drop, slice_index, if◌then◌else◌}
+use Rattle.std.specs.List.{list_any, list_all}
+use Rattle.std.specs.Option.{option_map_or}
+use Rattle.std.specs.Str.{bytes_eq}
 use Rattle.std.specs.Fmt.{decimal}
 use Rattle.rg_words.specs.Layout.{Word, widths_of}
 use Rattle.rg_words.specs.declared.operators.Connective.TheVariants.{And, Or, Implies, Iff}
@@ -10,10 +12,11 @@ use Rattle.rg_tree.specs.Statements.{Statement, skip, assign, await, sequence, b
 use Rattle.rg_c_plan.specs.declared.kind.Kind.{Kind}
 use Rattle.rg_c_plan.specs.declared.kind.Kind.TheVariants.{Fixed, Own, Published, Atomic, Guarded}
 use Rattle.rg_c_plan.specs.Accesses.{places}
-use Rattle.rg_c_plan.specs.Ways.{kind_at, is_atomic, is_guarded}
+use Rattle.rg_c_plan.specs.Ways.{kind_at, has_atomic_accesses, is_atomic, is_guarded}
 use Rattle.rg_c_plan.specs.Views.{kinds_for}
 use Rattle.rg_c_values.specs.Translation.{container, test_in_c}
 use Rattle.rg_c_values.specs.Printed.{test_text}
+use Rattle.rg_c_values.specs.Arrays.{array_of, array_length, array_name, indexed, member_of}
 use Rattle.rg_c_report.specs.declared.counts.Counts.{Counts}
 use Rattle.rg_c_report.specs.Counts.{counts_first, counts_second, counts_of}
 use Rattle.rg_c_report.specs.Parties.{parties_text}
@@ -22,7 +25,7 @@ use Rattle.rg_c.specs.Texts.{name_of, type_of}
 use Rattle.rg_c.specs.Lines.{block_close}
 use Rattle.rg_c.specs.Bodies.{PageTree, statement_text, loop_text}
 use Rattle.rg_c.specs.Starts.{start_text}
-use Rattle.rg_c.specs.Heads.{top_open, promise_head, promise_line, rests_text, guard_open, atomics_open, lock_free_line, atomics_close, hooks_text, sections_text, struct_open, field_line, struct_close, assertion_text, part_open, round_open, round_call, part_close, guard_close}
+use Rattle.rg_c.specs.Heads.{top_open, promise_head, promise_line, rests_text, guard_open, atomics_open, lock_free_line, atomics_close, hooks_text, sections_text, struct_open, field_line, item_line, struct_close, assertion_text, part_open, round_open, round_call, part_close, guard_close}
 
 -- how a word of this kind is declared, and what is said of it
 abbrev pub kind_before : Kind → List ℕ
@@ -54,10 +57,41 @@ bits_text w = decimal w ++ (if nat_eq w 1 then codes " bit" else codes " bits")
 unfoldable pub note_text : ProgramTree → List Kind → ℕ → List ℕ
 note_text p kinds k = bits_text (slice_index (widths_of p.words) k) ++ (codes ", " ++ (kind_what (kind_at kinds k) ++ (codes "; " ++ parties_text p k)))
 
--- the k-th word as a field
-unfoldable pub field_text : ProgramTree → List Kind → ℕ → List ℕ
-field_text p kinds k =
+-- the k-th word as a field of its own
+unfoldable pub own_field : ProgramTree → List Kind → ℕ → List ℕ
+own_field p kinds k =
     field_line (kind_before (kind_at kinds k)) (type_of p.words k) (kind_after (kind_at kinds k)) (name_of p.words k) (note_text p kinds k)
+
+abbrev pub is_fixed_kind : Kind → Bool
+is_fixed_kind Fixed = true
+is_fixed_kind kind = false
+
+-- how an array is declared whose items have these kinds: as an atomic word, if an item has atomic accesses; as a fixed one, if all are fixed
+abbrev pub kind_of_items : List Kind → Kind
+kind_of_items kinds = if list_any has_atomic_accesses kinds then Atomic else if list_all is_fixed_kind kinds then Fixed else Own
+
+-- the kinds of n words, from the j-th one on
+abbrev pub kinds_from : List Kind → ℕ → ℕ → List Kind
+kinds_from kinds j n = take n (drop j kinds)
+
+-- an array that begins at the j-th word and has n items, of this kind, with what is said of the first one
+unfoldable pub array_field : ProgramTree → List Kind → Kind → ℕ → ℕ → List ℕ
+array_field p kinds kind j n =
+    field_line (kind_before kind) (type_of p.words j) (kind_after kind) (indexed (array_name p.words j) (decimal n)) (note_text p kinds j)
+
+-- what is said of the k-th word in an array that begins at the j-th, where it isn't what is said of that one
+unfoldable pub item_note : ProgramTree → List Kind → ℕ → ℕ → List ℕ
+item_note p kinds j k = if bytes_eq (note_text p kinds k) (note_text p kinds j) then [] else item_line (member_of p.words k) (note_text p kinds k)
+
+-- the k-th word in an array that begins at the j-th: where it is the first one, the array is declared
+abbrev pub item_field : ProgramTree → List Kind → ℕ → ℕ → List ℕ
+item_field p kinds k j =
+    let n = array_length p.words j in
+    if nat_eq j k then array_field p kinds (kind_of_items (kinds_from kinds j n)) j n else item_note p kinds j k
+
+-- the k-th word as a field, or in an array
+unfoldable pub field_text : ProgramTree → List Kind → ℕ → List ℕ
+field_text p kinds k = option_map_or (item_field p kinds k) (array_of p.words k) (own_field p kinds k)
 
 -- n fields, from the k-th one on
 abbrev pub fields_text : ProgramTree → List Kind → ℕ → ℕ → List ℕ

@@ -102,6 +102,15 @@ field_line before kind after name what = joined (
     ∷ what
     ∷ codes " */\n" ∷ [])
 
+-- what is said of an item of an array, where it isn't what is said of the first one
+unfoldable pub item_line : List ℕ → List ℕ → List ℕ
+item_line member what = joined (
+    codes "    /* "
+    ∷ member
+    ∷ codes ": "
+    ∷ what
+    ∷ codes " */\n" ∷ [])
+
 -- the end of the struct
 unfoldable pub struct_close : List ℕ
 struct_close = joined (

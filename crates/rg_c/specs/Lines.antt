@@ -10,21 +10,21 @@ joined texts = flat_map (λ t. t) texts
 unfoldable pub inner : List ℕ → List ℕ
 inner indent = joined (indent ∷ codes "    " ∷ [])
 
--- an atomic load of a word into a local
-unfoldable pub load_line : List ℕ → List ℕ → List ℕ → List ℕ
-load_line indent kind name = joined (indent ∷ codes "const " ∷ kind ∷ codes " " ∷ name ∷ codes "_ = RGC_LOAD(&w->" ∷ name ∷ codes ");\n" ∷ [])
+-- an atomic load of a word into a local; the word has this name, and is this member of the struct
+unfoldable pub load_line : List ℕ → List ℕ → List ℕ → List ℕ → List ℕ
+load_line indent kind name member = joined (indent ∷ codes "const " ∷ kind ∷ codes " " ∷ name ∷ codes "_ = RGC_LOAD(&w->" ∷ member ∷ codes ");\n" ∷ [])
 
 -- an atomic load of a word whose value isn't read
 unfoldable pub discard_line : List ℕ → List ℕ → List ℕ
-discard_line indent name = joined (indent ∷ codes "(void)RGC_LOAD(&w->" ∷ name ∷ codes ");\n" ∷ [])
+discard_line indent member = joined (indent ∷ codes "(void)RGC_LOAD(&w->" ∷ member ∷ codes ");\n" ∷ [])
 
 -- an atomic load of a word that is to be exchanged, and its local
-unfoldable pub begin_lines : List ℕ → List ℕ → List ℕ → List ℕ
-begin_lines indent kind name = joined (indent ∷ kind ∷ codes " rgc_old = RGC_LOAD(&w->" ∷ name ∷ codes ");\n" ∷ indent ∷ kind ∷ codes " " ∷ name ∷ codes "_ = rgc_old;\n" ∷ [])
+unfoldable pub begin_lines : List ℕ → List ℕ → List ℕ → List ℕ → List ℕ
+begin_lines indent kind name member = joined (indent ∷ kind ∷ codes " rgc_old = RGC_LOAD(&w->" ∷ member ∷ codes ");\n" ∷ indent ∷ kind ∷ codes " " ∷ name ∷ codes "_ = rgc_old;\n" ∷ [])
 
 -- a local with the value of a word
-unfoldable pub copy_line : List ℕ → List ℕ → List ℕ → List ℕ
-copy_line indent kind name = joined (indent ∷ kind ∷ codes " " ∷ name ∷ codes "_ = w->" ∷ name ∷ codes ";\n" ∷ [])
+unfoldable pub copy_line : List ℕ → List ℕ → List ℕ → List ℕ → List ℕ
+copy_line indent kind name member = joined (indent ∷ kind ∷ codes " " ∷ name ∷ codes "_ = w->" ∷ member ∷ codes ";\n" ∷ [])
 
 -- another value for a local
 unfoldable pub change_line : List ℕ → List ℕ → List ℕ → List ℕ
@@ -32,19 +32,19 @@ change_line indent name value = joined (indent ∷ name ∷ codes "_ = " ∷ val
 
 -- a plain write
 unfoldable pub write_line : List ℕ → List ℕ → List ℕ → List ℕ
-write_line indent name value = joined (indent ∷ codes "w->" ∷ name ∷ codes " = " ∷ value ∷ codes ";\n" ∷ [])
+write_line indent member value = joined (indent ∷ codes "w->" ∷ member ∷ codes " = " ∷ value ∷ codes ";\n" ∷ [])
 
 -- an atomic store
 unfoldable pub store_line : List ℕ → List ℕ → List ℕ → List ℕ
-store_line indent name value = joined (indent ∷ codes "RGC_STORE(&w->" ∷ name ∷ codes ", " ∷ value ∷ codes ");\n" ∷ [])
+store_line indent member value = joined (indent ∷ codes "RGC_STORE(&w->" ∷ member ∷ codes ", " ∷ value ∷ codes ");\n" ∷ [])
 
 -- a compare-and-exchange of a word for its local
-unfoldable pub exchange_line : List ℕ → List ℕ → List ℕ
-exchange_line indent name = joined (indent ∷ codes "rgc_done = RGC_CAS(&w->" ∷ name ∷ codes ", rgc_old, " ∷ name ∷ codes "_);\n" ∷ [])
+unfoldable pub exchange_line : List ℕ → List ℕ → List ℕ → List ℕ
+exchange_line indent name member = joined (indent ∷ codes "rgc_done = RGC_CAS(&w->" ∷ member ∷ codes ", rgc_old, " ∷ name ∷ codes "_);\n" ∷ [])
 
 -- a plain write of a local to its word
-unfoldable pub return_line : List ℕ → List ℕ → List ℕ
-return_line indent name = joined (indent ∷ codes "w->" ∷ name ∷ codes " = " ∷ name ∷ codes "_;\n" ∷ [])
+unfoldable pub return_line : List ℕ → List ℕ → List ℕ → List ℕ
+return_line indent name member = joined (indent ∷ codes "w->" ∷ member ∷ codes " = " ∷ name ∷ codes "_;\n" ∷ [])
 
 -- the beginning of a block
 unfoldable pub block_open : List ℕ → List ℕ

@@ -11,7 +11,7 @@ use Rattle.rg_tree.specs.Statements.{ProgramTree}
 use Rattle.rg_tree.specs.TypedPrograms.{IsTypedProgram}
 use Rattle.rg_tree.specs.Traces.{State, holds_at}
 use Rattle.rg_c_plan.specs.Accesses.{places}
-use Rattle.rg_c.specs.Texts.{name_of}
+use Rattle.rg_c_values.specs.Arrays.{member_of}
 use Rattle.rg_c.specs.Heads.{start_lines}
 
 -- the number that a formula gives the k-th word: that of its first conjunct of the form (word = number) or (number = word)
@@ -43,7 +43,7 @@ constant_text n = if nat_lt n (2 ^ 32) then decimal n ++ codes "u" else codes "U
 
 -- the k-th member and its value
 abbrev pub member_text : List Word → ℕ → ℕ → List ℕ
-member_text words k n = codes "." ++ (name_of words k ++ (codes " = " ++ constant_text n))
+member_text words k n = codes "." ++ (member_of words k ++ (codes " = " ++ constant_text n))
 
 -- members from the k-th one on, each after a comma
 abbrev pub more_members : List Word → ℕ → State → List ℕ

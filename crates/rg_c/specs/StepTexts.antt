@@ -9,6 +9,7 @@ use Rattle.rg_c_plan.specs.Ways.{way_of, met_words}
 use Rattle.rg_c_values.specs.declared.print.Read.{Read}
 use Rattle.rg_c_values.specs.CTrees.{CTest, c_truth, c_not, c_joined, c_compared}
 use Rattle.rg_c_values.specs.Printed.{test_text}
+use Rattle.rg_c_values.specs.Arrays.{member_of}
 use Rattle.rg_c.specs.Actions.{Action, CStep}
 use Rattle.rg_c_plan.specs.Changes.{moving}
 use Rattle.rg_c_report.specs.Counts.{is_section}
@@ -41,7 +42,7 @@ waits words reads i mark t = if is_true t then marked i mark else wait_text word
 -- how a step begins and ends that is done in a section, or over a local; a load has a local only where that is used
 unfoldable pub enter_text : List Word → List ℕ → Bool → Way → List ℕ
 enter_text words i used Direct = []
-enter_text words i used (Load x) = if used then load_line i (type_of words x) (name_of words x) else discard_line i (name_of words x)
+enter_text words i used (Load x) = if used then load_line i (type_of words x) (name_of words x) (member_of words x) else discard_line i (member_of words x)
 enter_text words i used (Store x) = []
 enter_text words i used (Exchange x) = []
 enter_text words i used Select = []
@@ -119,14 +120,14 @@ done_text words kinds i mark Section t act = let c = step_by (widths_of words) k
 done_text words kinds i mark (Exchange x) t act =
     exchange_text words (local_reads kinds (x ∷ targets_beside (x ∷ []) act)) i mark (step_by (widths_of words) kinds (Exchange x) t act)
 
--- names of words in C, each after a comma, and with commas between them
+-- words as members of the struct, each after a comma, and with commas between them
 abbrev pub more_names : List Word → List ℕ → List ℕ
 more_names words [] = []
-more_names words (k ∷ ks) = codes ", " ++ (name_of words k ++ more_names words ks)
+more_names words (k ∷ ks) = codes ", " ++ (member_of words k ++ more_names words ks)
 
 abbrev pub names_text : List Word → List ℕ → List ℕ
 names_text words [] = []
-names_text words (k ∷ ks) = name_of words k ++ more_names words ks
+names_text words (k ∷ ks) = member_of words k ++ more_names words ks
 
 -- of a step in a section, at which words it may meet others; nothing of another step
 unfoldable pub section_note : List Word → List Kind → List ℕ → Option Proposition → List Assignment → List ℕ

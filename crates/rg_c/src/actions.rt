@@ -5,13 +5,14 @@ ghost use Rattle.rg_words.specs.Layout.{widths_of};
 ghost use Rattle.rg_tree.specs.Fits.{ExpressionFits, FormulaFits};
 ghost use Rattle.rg_tree.specs.View.{expression, formula};
 ghost use Rattle.rg_tree.specs.ConditionTrees.{assignment};
+ghost use Rattle.rg_c_values.specs.Arrays.{member_of};
 ghost use Rattle.rg_c_values.specs.View.{value};
 ghost use Rattle.rg_c_values.specs.Translation.{test_in_c};
 ghost use Rattle.rg_c_values.specs.Printed.{value_text, test_text};
 ghost use Rattle.rg_c.specs.Actions.{loads, begins, copies, exchanges, returns};
 ghost use Rattle.rg_c.specs.Steps.{given, assigned_to, value_for};
 ghost use Rattle.rg_c.specs.Lines.{discard_line};
-ghost use Rattle.rg_c.specs.Texts.{name_of, type_text, type_of, action_text, actions_text};
+ghost use Rattle.rg_c.specs.Texts.{name_of, given_name, type_text, type_of, action_text, actions_text};
 ghost use Rattle.rg_c.specs.Fitting.{AssignmentsFit};
 
 use crate::lines::{
@@ -23,7 +24,7 @@ use crate::reads::is_load_of;
 use rg_c_plan::change::change_of;
 use rg_c_plan::kind::Kind;
 use rg_c_plan::way::{has_atomic_accesses, kind_at};
-use rg_c_values::names::push_c_name;
+use rg_c_values::arrays::{push_member_of, push_name};
 use rg_c_values::print::{Read, print_test, print_value};
 use rg_c_values::translate::{stored_in_c, test_in_c};
 use rg_c_values::tree::Value;
@@ -38,12 +39,16 @@ pub(crate) fn name_of(alloc: Global, layout: &Layout, word: usize) -> Result<Str
     ensures { IfOk result (λ text. string_bytes text ≡ name_of layout.now word) }
 {
     let mut text = String::new(alloc);
-    let name = if word < layout.len() {
-        layout.name(word)
-    } else {
-        ""
-    };
-    push_c_name(&mut text, name)?;
+    push_name(&mut text, layout, word)?;
+    Ok(text)
+}
+
+/// A word as a member of the struct.
+pub(crate) fn member_of(alloc: Global, layout: &Layout, word: usize) -> Result<String, AllocError>
+    ensures { IfOk result (λ text. string_bytes text ≡ member_of layout.now word) }
+{
+    let mut text = String::new(alloc);
+    push_member_of(&mut text, layout, word)?;
     Ok(text)
 }
 
@@ -115,8 +120,9 @@ pub(crate) fn push_load(
     ensures { OnOk result (string_bytes text.new ≡ string_bytes text.old ++ action_text layout.now [] indent.now (loads word)) }
 {
     let name = name_of(alloc, layout, word)?;
+    let member = member_of(alloc, layout, word)?;
     let kind = type_of(layout, word);
-    push_load_line(text, indent, kind, &name)
+    push_load_line(text, indent, kind, &name, &member)
 }
 
 /// Adds the load of a word whose value isn't read.
@@ -127,10 +133,10 @@ pub(crate) fn push_discard(
     indent: &str,
     word: usize,
 ) -> Result<(), AllocError>
-    ensures { OnOk result (string_bytes text.new ≡ string_bytes text.old ++ discard_line indent.now (name_of layout.now word)) }
+    ensures { OnOk result (string_bytes text.new ≡ string_bytes text.old ++ discard_line indent.now (member_of layout.now word)) }
 {
-    let name = name_of(alloc, layout, word)?;
-    push_discard_line(text, indent, &name)
+    let member = member_of(alloc, layout, word)?;
+    push_discard_line(text, indent, &member)
 }
 
 /// Adds the load of a word that is to be exchanged, and its local.
@@ -144,8 +150,9 @@ pub(crate) fn push_begin(
     ensures { OnOk result (string_bytes text.new ≡ string_bytes text.old ++ action_text layout.now [] indent.now (begins word)) }
 {
     let name = name_of(alloc, layout, word)?;
+    let member = member_of(alloc, layout, word)?;
     let kind = type_of(layout, word);
-    push_begin_lines(text, indent, kind, &name)
+    push_begin_lines(text, indent, kind, &name, &member)
 }
 
 /// Adds a local with the value of a word.
@@ -159,8 +166,9 @@ pub(crate) fn push_copy(
     ensures { OnOk result (string_bytes text.new ≡ string_bytes text.old ++ action_text layout.now [] indent.now (copies word)) }
 {
     let name = name_of(alloc, layout, word)?;
+    let member = member_of(alloc, layout, word)?;
     let kind = type_of(layout, word);
-    push_copy_line(text, indent, kind, &name)
+    push_copy_line(text, indent, kind, &name, &member)
 }
 
 /// Adds the exchange of a word for its local.
@@ -174,7 +182,8 @@ pub(crate) fn push_exchange(
     ensures { OnOk result (string_bytes text.new ≡ string_bytes text.old ++ action_text layout.now [] indent.now (exchanges word)) }
 {
     let name = name_of(alloc, layout, word)?;
-    push_exchange_line(text, indent, &name)
+    let member = member_of(alloc, layout, word)?;
+    push_exchange_line(text, indent, &name, &member)
 }
 
 /// Adds what gives a word the value of its local.
@@ -188,7 +197,8 @@ pub(crate) fn push_return(
     ensures { OnOk result (string_bytes text.new ≡ string_bytes text.old ++ action_text layout.now [] indent.now (returns word)) }
 {
     let name = name_of(alloc, layout, word)?;
-    push_return_line(text, indent, &name)
+    let member = member_of(alloc, layout, word)?;
+    push_return_line(text, indent, &name, &member)
 }
 
 /// Adds locals with the values of words.
@@ -239,6 +249,16 @@ pub(crate) struct Words<'a> {
     pub(crate) reads: &'a [Read],
 }
 
+/// What a value is given to: a word as a member of the struct, or the name of its local without `_`.
+fn given_name(w: &Words<'_>, to: Target, word: usize) -> Result<String, AllocError>
+    ensures { IfOk result (λ text. string_bytes text ≡ given_name w.now.layout.now to word) }
+{
+    match to {
+        Target::Word => member_of(w.alloc, w.layout, word),
+        Target::Local => name_of(w.alloc, w.layout, word),
+    }
+}
+
 /// Adds that a word, or its local, gets a value.
 fn push_given(
     w: &Words<'_>,
@@ -250,7 +270,7 @@ fn push_given(
 ) -> Result<(), AllocError>
     ensures { OnOk result (string_bytes text.new ≡ string_bytes text.old ++ action_text w.now.layout.now w.now.reads.now indent.now (given w.now.kinds.now to word (value v.now))) }
 {
-    let name = name_of(w.alloc, w.layout, word)?;
+    let name = given_name(w, to, word)?;
     let value = value_text(w.alloc, w.layout, w.reads, v)?;
     match to {
         Target::Word if has_atomic_accesses(kind_at(w.kinds, word)) => {

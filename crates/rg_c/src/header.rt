@@ -1,23 +1,24 @@
 //! A program as one header of C11.
 
-ghost use Rattle.std.specs.Prelude.{◌≡◌, ◌++◌, ◌+◌, ◌<◌, ◌^◌, [], codes, length, map, string_bytes, IfOk, OnOk};
-ghost use Rattle.std.specs.List.{list_any};
+ghost use Rattle.std.specs.Prelude.{◌≡◌, ◌++◌, ◌+◌, ◌<◌, ◌^◌, [], codes, decimal, length, map, string_bytes, IfOk, OnOk};
+ghost use Rattle.std.specs.List.{list_any, list_all};
 ghost use Rattle.rg_tree.specs.Fits.{FormulaFits};
 ghost use Rattle.rg_tree.specs.View.{formula};
 ghost use Rattle.rg_tree.specs.ProgramView.{statement, specification, part as part_tree};
 ghost use Rattle.rg_tree.specs.ProgramTrees.{program as program_tree};
 ghost use Rattle.rg_code.specs.Code.{count_of};
-ghost use Rattle.rg_c_plan.specs.Ways.{kind_at, is_guarded};
-ghost use Rattle.rg_c.specs.Headers.{kind_before, kind_after, kind_what, bits_text, note_text, field_text, fields_text, struct_text, conjunct_lines, promise_text, promises_text, counts_text, top_text, has_atomic, lock_free_text, lock_free_texts, atomics_text, macros_text, asserted, run_text, one_round, all_rounds, round_text, is_always, body_text, part_text, seen_part_text, parts_text, header_text};
+ghost use Rattle.rg_c_plan.specs.Ways.{kind_at, has_atomic_accesses, is_guarded};
+ghost use Rattle.rg_c_values.specs.Arrays.{array_length, array_name, indexed, member_of};
+ghost use Rattle.rg_c.specs.Headers.{kind_before, kind_after, kind_what, bits_text, note_text, own_field, is_fixed_kind, kind_of_items, kinds_from, array_field, item_note, field_text, fields_text, struct_text, conjunct_lines, promise_text, promises_text, counts_text, top_text, has_atomic, lock_free_text, lock_free_texts, atomics_text, macros_text, asserted, run_text, one_round, all_rounds, round_text, is_always, body_text, part_text, seen_part_text, parts_text, header_text};
 ghost use Rattle.rg_c.specs.Fitting.{StatementFits, SpecificationFits, PartsFit};
 ghost use Rattle.rg_c.specs.Pages.{page as page_tree};
 
-use crate::actions::{name_of, type_of};
+use crate::actions::{member_of, name_of, type_of};
 use crate::heads::{
     promise_head, push_assertion_text, push_atomics_close, push_atomics_open, push_field_line,
-    push_guard_close, push_guard_open, push_hooks_text, push_lock_free_line, push_part_close,
-    push_part_open, push_promise_line, push_rests_text, push_round_call, push_round_open,
-    push_sections_text, push_struct_close, push_struct_open, push_top_open,
+    push_guard_close, push_guard_open, push_hooks_text, push_item_line, push_lock_free_line,
+    push_part_close, push_part_open, push_promise_line, push_rests_text, push_round_call,
+    push_round_open, push_sections_text, push_struct_close, push_struct_open, push_top_open,
 };
 use crate::lines::push_block_close;
 use crate::page::{Page, digits};
@@ -27,9 +28,10 @@ use crate::statements::{push_loop, push_statement};
 use crate::steps::test_text;
 use rg_c_plan::kind::Kind;
 use rg_c_plan::views::kinds_for;
-use rg_c_plan::way::kind_at;
+use rg_c_plan::way::{has_atomic_accesses, kind_at};
 use rg_c_report::counts::{Counts, counts_of, push_counts_first, push_counts_second};
 use rg_c_report::parties::push_parties;
+use rg_c_values::arrays::{array_length, array_of, push_array_name};
 use rg_c_values::pieces::container;
 use rg_c_values::translate::test_in_c;
 use rg_tree::part::{Part, Spec};
@@ -110,9 +112,9 @@ fn note_text(
     Ok(text)
 }
 
-/// Adds a word as a field.
-#[tactic(auto, unfolding(crate::specs::Headers::field_text))]
-fn push_field(
+/// Adds a word as a field of its own.
+#[tactic(auto, unfolding(crate::specs::Headers::own_field))]
+fn push_own_field(
     alloc: Global,
     text: &mut String,
     program: &Program,
@@ -120,7 +122,7 @@ fn push_field(
     word: usize,
 ) -> Result<(), AllocError>
     requires { word < length program.now.layout }
-    ensures { OnOk result (string_bytes text.new ≡ string_bytes text.old ++ field_text (program_tree program.now) kinds.now word) }
+    ensures { OnOk result (string_bytes text.new ≡ string_bytes text.old ++ own_field (program_tree program.now) kinds.now word) }
 {
     let kind = kind_at(kinds, word);
     let name = name_of(alloc, &program.layout, word)?;
@@ -133,6 +135,137 @@ fn push_field(
         &name,
         &note,
     )
+}
+
+fn is_fixed_kind(kind: Kind) -> bool
+    ensures { result ≡ is_fixed_kind kind }
+{
+    match kind {
+        Kind::Fixed => true,
+        Kind::Own | Kind::Published | Kind::Atomic | Kind::Guarded => false,
+    }
+}
+
+/// Whether a word of one of these kinds has atomic accesses.
+fn some_atomic(kinds: &[Kind]) -> bool
+    ensures { result ≡ list_any has_atomic_accesses kinds.now }
+{
+    kinds.iter().any(|kind| has_atomic_accesses(*kind))
+}
+
+/// Whether all of these kinds are fixed.
+fn all_fixed(kinds: &[Kind]) -> bool
+    ensures { result ≡ list_all is_fixed_kind kinds.now }
+{
+    kinds.iter().all(|kind| is_fixed_kind(*kind))
+}
+
+/// How an array is declared whose items have these kinds.
+fn kind_of_items(kinds: &[Kind]) -> Kind
+    ensures { result ≡ kind_of_items kinds.now }
+{
+    if some_atomic(kinds) {
+        Kind::Atomic
+    } else if all_fixed(kinds) {
+        Kind::Fixed
+    } else {
+        Kind::Own
+    }
+}
+
+/// The kinds of so many words, from this one on.
+fn kinds_from(kinds: &[Kind], first: usize, count: usize) -> &[Kind]
+    ensures { result.now ≡ kinds_from kinds.now first count }
+{
+    let rest = kinds.get(first..).unwrap_or(&[]);
+    rest.get(..count).unwrap_or(rest)
+}
+
+/// The name of an array, with its length.
+fn array_text(
+    alloc: Global,
+    layout: &Layout,
+    first: usize,
+    count: usize,
+) -> Result<String, AllocError>
+    requires { first < length layout.now }
+    ensures { IfOk result (λ text. string_bytes text ≡ indexed (array_name layout.now first) (decimal count)) }
+{
+    let count = digits(alloc, count as u64)?;
+    let mut text = String::new(alloc);
+    push_array_name(&mut text, layout, first)?;
+    text.push_str("[")?;
+    text.push_str(&count)?;
+    text.push_str("]")?;
+    Ok(text)
+}
+
+/// Adds an array that begins at a word.
+#[tactic(auto, unfolding(crate::specs::Headers::array_field))]
+fn push_array_field(
+    alloc: Global,
+    text: &mut String,
+    program: &Program,
+    kinds: &[Kind],
+    first: usize,
+) -> Result<(), AllocError>
+    requires { first < length program.now.layout }
+    ensures { OnOk result (string_bytes text.new ≡ string_bytes text.old ++ array_field (program_tree program.now) kinds.now (kind_of_items (kinds_from kinds.now first (array_length program.now.layout first))) first (array_length program.now.layout first)) }
+{
+    let count = array_length(&program.layout, first);
+    let kind = kind_of_items(kinds_from(kinds, first, count));
+    let name = array_text(alloc, &program.layout, first, count)?;
+    let note = note_text(alloc, program, kinds, first)?;
+    push_field_line(
+        text,
+        kind_before(kind),
+        type_of(&program.layout, first),
+        kind_after(kind),
+        &name,
+        &note,
+    )
+}
+
+/// Adds what is said of an item of an array, where it isn't what is said of the first one.
+#[tactic(auto, unfolding(crate::specs::Headers::item_note))]
+fn push_item_note(
+    alloc: Global,
+    text: &mut String,
+    program: &Program,
+    kinds: &[Kind],
+    first: usize,
+    word: usize,
+) -> Result<(), AllocError>
+    requires first { first < length program.now.layout }
+    requires word { word < length program.now.layout }
+    ensures { OnOk result (string_bytes text.new ≡ string_bytes text.old ++ item_note (program_tree program.now) kinds.now first word) }
+{
+    let of_first = note_text(alloc, program, kinds, first)?;
+    let note = note_text(alloc, program, kinds, word)?;
+    if note.as_str() == of_first.as_str() {
+        return Ok(());
+    }
+    let member = member_of(alloc, &program.layout, word)?;
+    push_item_line(text, &member, &note)
+}
+
+/// Adds a word as a field, or in an array.
+#[tactic(auto, unfolding(crate::specs::Headers::field_text))]
+fn push_field(
+    alloc: Global,
+    text: &mut String,
+    program: &Program,
+    kinds: &[Kind],
+    word: usize,
+) -> Result<(), AllocError>
+    requires { word < length program.now.layout }
+    ensures { OnOk result (string_bytes text.new ≡ string_bytes text.old ++ field_text (program_tree program.now) kinds.now word) }
+{
+    match array_of(&program.layout, word) {
+        None => push_own_field(alloc, text, program, kinds, word),
+        Some(first) if first == word => push_array_field(alloc, text, program, kinds, word),
+        Some(first) => push_item_note(alloc, text, program, kinds, first, word),
+    }
 }
 
 /// Adds the struct of the words.

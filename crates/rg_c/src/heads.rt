@@ -1,7 +1,7 @@
 //! The pieces of which a header is made.
 
 ghost use Rattle.std.specs.Prelude.{◌≡◌, ◌++◌, string_bytes, IfOk, OnOk};
-ghost use Rattle.rg_c.specs.Heads.{top_open, promise_head, promise_line, rests_text, guard_open, atomics_open, lock_free_line, atomics_close, hooks_text, sections_text, struct_open, field_line, struct_close, start_lines, assertion_text, part_open, round_open, round_call, part_close, guard_close};
+ghost use Rattle.rg_c.specs.Heads.{top_open, promise_head, promise_line, rests_text, guard_open, atomics_open, lock_free_line, atomics_close, hooks_text, sections_text, struct_open, field_line, item_line, struct_close, start_lines, assertion_text, part_open, round_open, round_call, part_close, guard_close};
 
 use crate::lines::push_all;
 use std::alloc::{AllocError, Global};
@@ -188,6 +188,14 @@ pub(crate) fn push_field_line(
             "    ", before, kind, after, " ", name, "; /* ", what, " */\n",
         ],
     )
+}
+
+/// Adds what is said of an item of an array.
+#[tactic(auto, unfolding(crate::specs::Heads::item_line))]
+pub(crate) fn push_item_line(text: &mut String, member: &str, what: &str) -> Result<(), AllocError>
+    ensures { OnOk result (string_bytes text.new ≡ string_bytes text.old ++ item_line member.now what.now) }
+{
+    push_all(text, &["    /* ", member, ": ", what, " */\n"])
 }
 
 /// Adds the end of the struct.

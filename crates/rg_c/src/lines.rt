@@ -26,15 +26,16 @@ pub(crate) fn inner(alloc: Global, indent: &str) -> Result<String, AllocError>
     Ok(text)
 }
 
-/// Adds an atomic load of a word into a local.
+/// Adds an atomic load of a word into a local. The word has this name, and is this member of the struct.
 #[tactic(auto, unfolding(crate::specs::Lines::load_line))]
 pub(crate) fn push_load_line(
     text: &mut String,
     indent: &str,
     kind: &str,
     name: &str,
+    member: &str,
 ) -> Result<(), AllocError>
-    ensures { OnOk result (string_bytes text.new ≡ string_bytes text.old ++ load_line indent.now kind.now name.now) }
+    ensures { OnOk result (string_bytes text.new ≡ string_bytes text.old ++ load_line indent.now kind.now name.now member.now) }
 {
     push_all(
         text,
@@ -45,7 +46,7 @@ pub(crate) fn push_load_line(
             " ",
             name,
             "_ = RGC_LOAD(&w->",
-            name,
+            member,
             ");\n",
         ],
     )
@@ -56,11 +57,11 @@ pub(crate) fn push_load_line(
 pub(crate) fn push_discard_line(
     text: &mut String,
     indent: &str,
-    name: &str,
+    member: &str,
 ) -> Result<(), AllocError>
-    ensures { OnOk result (string_bytes text.new ≡ string_bytes text.old ++ discard_line indent.now name.now) }
+    ensures { OnOk result (string_bytes text.new ≡ string_bytes text.old ++ discard_line indent.now member.now) }
 {
-    push_all(text, &[indent, "(void)RGC_LOAD(&w->", name, ");\n"])
+    push_all(text, &[indent, "(void)RGC_LOAD(&w->", member, ");\n"])
 }
 
 /// Adds an atomic load of a word that is to be exchanged, and its local.
@@ -70,8 +71,9 @@ pub(crate) fn push_begin_lines(
     indent: &str,
     kind: &str,
     name: &str,
+    member: &str,
 ) -> Result<(), AllocError>
-    ensures { OnOk result (string_bytes text.new ≡ string_bytes text.old ++ begin_lines indent.now kind.now name.now) }
+    ensures { OnOk result (string_bytes text.new ≡ string_bytes text.old ++ begin_lines indent.now kind.now name.now member.now) }
 {
     push_all(
         text,
@@ -79,7 +81,7 @@ pub(crate) fn push_begin_lines(
             indent,
             kind,
             " rgc_old = RGC_LOAD(&w->",
-            name,
+            member,
             ");\n",
             indent,
             kind,
@@ -97,10 +99,11 @@ pub(crate) fn push_copy_line(
     indent: &str,
     kind: &str,
     name: &str,
+    member: &str,
 ) -> Result<(), AllocError>
-    ensures { OnOk result (string_bytes text.new ≡ string_bytes text.old ++ copy_line indent.now kind.now name.now) }
+    ensures { OnOk result (string_bytes text.new ≡ string_bytes text.old ++ copy_line indent.now kind.now name.now member.now) }
 {
-    push_all(text, &[indent, kind, " ", name, "_ = w->", name, ";\n"])
+    push_all(text, &[indent, kind, " ", name, "_ = w->", member, ";\n"])
 }
 
 /// Adds another value for a local.
@@ -121,12 +124,12 @@ pub(crate) fn push_change_line(
 pub(crate) fn push_write_line(
     text: &mut String,
     indent: &str,
-    name: &str,
+    member: &str,
     value: &str,
 ) -> Result<(), AllocError>
-    ensures { OnOk result (string_bytes text.new ≡ string_bytes text.old ++ write_line indent.now name.now value.now) }
+    ensures { OnOk result (string_bytes text.new ≡ string_bytes text.old ++ write_line indent.now member.now value.now) }
 {
-    push_all(text, &[indent, "w->", name, " = ", value, ";\n"])
+    push_all(text, &[indent, "w->", member, " = ", value, ";\n"])
 }
 
 /// Adds an atomic store.
@@ -134,12 +137,15 @@ pub(crate) fn push_write_line(
 pub(crate) fn push_store_line(
     text: &mut String,
     indent: &str,
-    name: &str,
+    member: &str,
     value: &str,
 ) -> Result<(), AllocError>
-    ensures { OnOk result (string_bytes text.new ≡ string_bytes text.old ++ store_line indent.now name.now value.now) }
+    ensures { OnOk result (string_bytes text.new ≡ string_bytes text.old ++ store_line indent.now member.now value.now) }
 {
-    push_all(text, &[indent, "RGC_STORE(&w->", name, ", ", value, ");\n"])
+    push_all(
+        text,
+        &[indent, "RGC_STORE(&w->", member, ", ", value, ");\n"],
+    )
 }
 
 /// Adds a compare-and-exchange of a word for its local.
@@ -148,15 +154,16 @@ pub(crate) fn push_exchange_line(
     text: &mut String,
     indent: &str,
     name: &str,
+    member: &str,
 ) -> Result<(), AllocError>
-    ensures { OnOk result (string_bytes text.new ≡ string_bytes text.old ++ exchange_line indent.now name.now) }
+    ensures { OnOk result (string_bytes text.new ≡ string_bytes text.old ++ exchange_line indent.now name.now member.now) }
 {
     push_all(
         text,
         &[
             indent,
             "rgc_done = RGC_CAS(&w->",
-            name,
+            member,
             ", rgc_old, ",
             name,
             "_);\n",
@@ -170,10 +177,11 @@ pub(crate) fn push_return_line(
     text: &mut String,
     indent: &str,
     name: &str,
+    member: &str,
 ) -> Result<(), AllocError>
-    ensures { OnOk result (string_bytes text.new ≡ string_bytes text.old ++ return_line indent.now name.now) }
+    ensures { OnOk result (string_bytes text.new ≡ string_bytes text.old ++ return_line indent.now name.now member.now) }
 {
-    push_all(text, &[indent, "w->", name, " = ", name, "_;\n"])
+    push_all(text, &[indent, "w->", member, " = ", name, "_;\n"])
 }
 
 /// Adds the beginning of a block.

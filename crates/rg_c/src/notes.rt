@@ -4,7 +4,7 @@ ghost use Rattle.std.specs.Prelude.{◌≡◌, ◌++◌, string_bytes, IfOk, OnO
 ghost use Rattle.rg_c_report.specs.Counts.{is_section};
 ghost use Rattle.rg_c.specs.StepTexts.{more_names, names_text};
 
-use crate::actions::name_of;
+use crate::actions::member_of;
 use rg_c_plan::way::Way;
 use rg_words::Layout;
 use std::alloc::{AllocError, Global};
@@ -19,7 +19,7 @@ pub(crate) fn is_section(way: Way) -> bool
     }
 }
 
-/// Adds names of words in C, each after a comma.
+/// Adds words as members of the struct, each after a comma.
 fn push_more_names(
     alloc: Global,
     text: &mut String,
@@ -29,14 +29,14 @@ fn push_more_names(
     ensures { OnOk result (string_bytes text.new ≡ string_bytes text.old ++ more_names layout.now words.now) }
 {
     for word in words {
-        let name = name_of(alloc, layout, *word)?;
+        let name = member_of(alloc, layout, *word)?;
         text.push_str(", ")?;
         text.push_str(&name)?;
     }
     Ok(())
 }
 
-/// Names of words in C, with commas between them.
+/// Words as members of the struct, with commas between them.
 pub(crate) fn names_text(
     alloc: Global,
     layout: &Layout,
@@ -47,7 +47,7 @@ pub(crate) fn names_text(
     match words.split_first() {
         None => Ok(String::new(alloc)),
         Some((first, rest)) => {
-            let mut text = name_of(alloc, layout, *first)?;
+            let mut text = member_of(alloc, layout, *first)?;
             push_more_names(alloc, &mut text, layout, rest)?;
             Ok(text)
         }

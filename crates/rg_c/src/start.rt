@@ -8,7 +8,7 @@ ghost use Rattle.rg_tree.specs.View.{expression, formula};
 ghost use Rattle.rg_tree.specs.ProgramTrees.{program as program_tree};
 ghost use Rattle.rg_c.specs.Starts.{given, given_value, given_values, start_of, constant_text, member_text, more_members, members_text, start_text};
 
-use crate::actions::name_of;
+use crate::actions::member_of;
 use crate::heads::push_start_lines;
 use crate::page::digits;
 use rg_tree::meaning::holds;
@@ -105,9 +105,9 @@ fn push_member(
 ) -> Result<(), AllocError>
     ensures { OnOk result (string_bytes text.new ≡ string_bytes text.old ++ member_text layout.now word n) }
 {
-    let name = name_of(alloc, layout, word)?;
+    let member = member_of(alloc, layout, word)?;
     text.push_str(".")?;
-    text.push_str(&name)?;
+    text.push_str(&member)?;
     text.push_str(" = ")?;
     push_constant(alloc, text, n)
 }

@@ -6,3 +6,5 @@ pub mod PiecesMean
 pub mod Right
 pub mod WellFormed
 pub mod NamesApart
+pub mod Places
+pub mod ArraysApart

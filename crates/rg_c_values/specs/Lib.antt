@@ -5,5 +5,6 @@ pub mod WellFormed
 pub mod Simplified
 pub mod Translation
 pub mod CNames
+pub mod Arrays
 pub mod Printed
 pub mod Laws

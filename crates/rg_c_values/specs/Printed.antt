@@ -13,6 +13,7 @@ use Rattle.rg_c_values.specs.declared.tree.Joint.TheVariants.{And, Or, Same}
 use Rattle.rg_c_values.specs.declared.print.Read.{Read}
 use Rattle.rg_c_values.specs.declared.print.Read.TheVariants.{Plain, Load, Local}
 use Rattle.rg_c_values.specs.CNames.{c_name}
+use Rattle.rg_c_values.specs.Arrays.{name_at, member_of}
 use Rattle.rg_c_values.specs.CTrees.{CValue, CTest, c_literal, c_word, c_cast, c_inverse, c_binary, c_rest, c_shifted, c_choice, c_truth, c_not, c_joined, c_compared}
 
 -- how an operation is written
@@ -56,15 +57,19 @@ number_text n = decimal n ++ codes "u"
 abbrev pub cast_text : ℕ → List ℕ
 cast_text n = codes "(uint" ++ (decimal n ++ codes "_t)")
 
--- a word of this name in C, as it is read: from the struct, by a load, or from a local
-abbrev pub read_text : Read → List ℕ → List ℕ
-read_text Plain name = codes "w->" ++ name
-read_text Load name = codes "RGC_LOAD(&w->" ++ (name ++ codes ")")
-read_text Local name = name ++ codes "_"
+-- how the k-th word is read
+abbrev pub read_of : List Read → ℕ → Read
+read_of reads k = slice_index_or reads k Plain
+
+-- a word of this name in C, which is this member of the struct, as it is read: from the struct, by a load, or from a local
+abbrev pub read_text : Read → List ℕ → List ℕ → List ℕ
+read_text Plain name member = codes "w->" ++ member
+read_text Load name member = codes "RGC_LOAD(&w->" ++ (member ++ codes ")")
+read_text Local name member = name ++ codes "_"
 
 -- the k-th word, read as is told for it
 abbrev pub word_text : List Word → List Read → ℕ → List ℕ
-word_text words reads k = read_text (slice_index_or reads k Plain) (c_name (slice_index_or (names_of words) k []))
+word_text words reads k = read_text (read_of reads k) (c_name (name_at words k)) (member_of words k)
 
 -- parentheses, unless the text stands bare
 abbrev pub opening : Bool → List ℕ

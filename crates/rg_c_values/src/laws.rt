@@ -1,6 +1,7 @@
 //! What holds of all values and tests, as laws: functions that do nothing, and whose contracts are the laws.
 
 ghost use Rattle.rg_c_values.specs.CNames.{NamesStayApart, NamesAreFree};
+ghost use Rattle.rg_c_values.specs.Arrays.{MembersStayApart};
 ghost use Rattle.rg_c_values.specs.Laws.{ValuesAreRight, TestsAreRight, StoresAreRight, ValuesAreC, TestsAreC, StoresAreC};
 
 /// What C computes is the value of the language, the truth of its test, and the value that is stored.
@@ -17,8 +18,10 @@ pub fn expressions_are_well_formed()
     ensures stores { StoresAreC }
 {}
 
-/// Words have different names in C where their names are different, and none of these means something in C or its headers, or may do so.
+/// Words have different names in C where their names are different, and none of these means something in C or its headers, or may do so. Words of one
+/// name in the struct are in one array.
 pub fn names_are_names_in_c()
     ensures apart { NamesStayApart }
     ensures free { NamesAreFree }
+    ensures members { MembersStayApart }
 {}

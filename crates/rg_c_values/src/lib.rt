@@ -1,6 +1,7 @@
 //! Values and tests of the language as expressions of C11, and what C works out of them.
 #![tactic(auto)]
 
+pub mod arrays;
 pub mod laws;
 pub mod names;
 pub mod pieces;

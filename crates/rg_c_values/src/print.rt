@@ -2,10 +2,11 @@
 
 ghost use Rattle.std.specs.Prelude.{◌≡◌, ◌++◌, decimal, string_bytes, slice_index_or, OnOk};
 ghost use Rattle.rg_c_values.specs.CNames.{c_name};
-ghost use Rattle.rg_c_values.specs.Printed.{operator_text, shift_text, comparison_text, joint_text, truth_text, number_text, cast_text, read_text, word_text, opening, closing, is_tight, is_bare, is_bare_test, is_loose, is_chain, is_bare_first, value_text, test_text};
+ghost use Rattle.rg_c_values.specs.Arrays.{name_at, member_of};
+ghost use Rattle.rg_c_values.specs.Printed.{operator_text, shift_text, comparison_text, joint_text, truth_text, number_text, cast_text, read_of, read_text, word_text, opening, closing, is_tight, is_bare, is_bare_test, is_loose, is_chain, is_bare_first, value_text, test_text};
 ghost use Rattle.rg_c_values.specs.View.{value, test};
 
-use crate::names::push_c_name;
+use crate::arrays::{push_member_of, push_name};
 use crate::tree::{Joint, Test, Value};
 use itoa::Buffer;
 use rg_words::Layout;
@@ -190,38 +191,39 @@ fn push_word(
 ) -> Result<(), AllocError>
     ensures { OnOk result (string_bytes text.new ≡ string_bytes text.old ++ word_text layout.now reads.now word) }
 {
-    let read = match reads.get(word) {
-        Some(read) => *read,
-        None => Read::Plain,
-    };
-    let name = if word < layout.len() {
-        layout.name(word)
-    } else {
-        ""
-    };
-    push_read(text, read, name)
+    push_read(text, layout, read_of(reads, word), word)
 }
 
-/// Adds a word of this name, read in this way.
-fn push_read(text: &mut String, read: Read, name: &str) -> Result<(), AllocError>
-    ensures { OnOk result (string_bytes text.new ≡ string_bytes text.old ++ read_text read (c_name name.now)) }
+/// Adds a word, read in this way.
+fn push_read(text: &mut String, layout: &Layout, read: Read, word: usize) -> Result<(), AllocError>
+    ensures { OnOk result (string_bytes text.new ≡ string_bytes text.old ++ read_text read (c_name (name_at layout.now word)) (member_of layout.now word)) }
 {
     match read {
         Read::Plain => {
             text.push_str("w->")?;
-            push_c_name(text, name)
+            push_member_of(text, layout, word)
         }
         Read::Load => {
             text.push_str("RGC_LOAD(&w->")?;
-            push_c_name(text, name)?;
+            push_member_of(text, layout, word)?;
             text.push_str(")")?;
             Ok(())
         }
         Read::Local => {
-            push_c_name(text, name)?;
+            push_name(text, layout, word)?;
             text.push_str("_")?;
             Ok(())
         }
+    }
+}
+
+/// How a word is read.
+fn read_of(reads: &[Read], word: usize) -> Read
+    ensures { result ≡ read_of reads.now word }
+{
+    match reads.get(word) {
+        Some(read) => *read,
+        None => Read::Plain,
     }
 }
 
