@@ -8,3 +8,4 @@ pub mod WellFormed
 pub mod NamesApart
 pub mod Places
 pub mod ArraysApart
+pub mod ItemsRight

@@ -6,5 +6,6 @@ pub mod Simplified
 pub mod Translation
 pub mod CNames
 pub mod Arrays
+pub mod Items
 pub mod Printed
 pub mod Laws

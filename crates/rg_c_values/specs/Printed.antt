@@ -1,19 +1,21 @@
 -- The texts of expressions of C. Each operation of the language makes one pair of parentheses at most, so that they are nested as deep as it is.
-use Rattle.std.specs.Prelude.{ℕ, Bool, true, false, List, [], ◌++◌, slice_index_or, codes}
+use Rattle.std.specs.Prelude.{ℕ, Bool, true, false, List, [], ◌++◌, codes}
 use Rattle.std.specs.Fmt.{decimal}
+use Rattle.std.specs.Option.{option_map_or}
 use Rattle.rg_words.specs.declared.operators.Operator.{Operator}
 use Rattle.rg_words.specs.declared.operators.Operator.TheVariants.{Add, Subtract, BitAnd, BitOr, BitXor}
 use Rattle.rg_words.specs.declared.operators.Shift.{Shift}
 use Rattle.rg_words.specs.declared.operators.Shift.TheVariants.{Left, Right}
 use Rattle.rg_words.specs.declared.operators.Comparison.{Comparison}
 use Rattle.rg_words.specs.declared.operators.Comparison.TheVariants.{Equal, NotEqual, Less, LessOrEqual, Greater, GreaterOrEqual}
-use Rattle.rg_words.specs.Layout.{Word, names_of}
+use Rattle.rg_words.specs.Layout.{Word}
 use Rattle.rg_c_values.specs.declared.tree.Joint.{Joint}
 use Rattle.rg_c_values.specs.declared.tree.Joint.TheVariants.{And, Or, Same}
 use Rattle.rg_c_values.specs.declared.print.Read.{Read}
 use Rattle.rg_c_values.specs.declared.print.Read.TheVariants.{Plain, Load, Local}
 use Rattle.rg_c_values.specs.CNames.{c_name}
-use Rattle.rg_c_values.specs.Arrays.{name_at, member_of}
+use Rattle.rg_c_values.specs.Arrays.{name_at, array_name, member_of}
+use Rattle.rg_c_values.specs.Items.{read_of, item_in}
 use Rattle.rg_c_values.specs.CTrees.{CValue, CTest, c_literal, c_word, c_cast, c_inverse, c_binary, c_rest, c_shifted, c_choice, c_truth, c_not, c_joined, c_compared}
 
 -- how an operation is written
@@ -57,10 +59,6 @@ number_text n = decimal n ++ codes "u"
 abbrev pub cast_text : ℕ → List ℕ
 cast_text n = codes "(uint" ++ (decimal n ++ codes "_t)")
 
--- how the k-th word is read
-abbrev pub read_of : List Read → ℕ → Read
-read_of reads k = slice_index_or reads k Plain
-
 -- a word of this name in C, which is this member of the struct, as it is read: from the struct, by a load, or from a local
 abbrev pub read_text : Read → List ℕ → List ℕ → List ℕ
 read_text Plain name member = codes "w->" ++ member
@@ -70,6 +68,29 @@ read_text Local name member = name ++ codes "_"
 -- the k-th word, read as is told for it
 abbrev pub word_text : List Word → List Read → ℕ → List ℕ
 word_text words reads k = read_text (read_of reads k) (c_name (name_at words k)) (member_of words k)
+
+-- the casts of a word
+abbrev pub casts_text : CValue → List ℕ
+casts_text (c_cast n v) = cast_text n ++ casts_text v
+casts_text v = []
+
+-- what stands before a member of the struct that is read so, and behind it
+abbrev pub read_before : Read → List ℕ
+read_before Plain = codes "w->"
+read_before Load = codes "RGC_LOAD(&w->"
+read_before Local = []
+
+abbrev pub read_after : Read → List ℕ
+read_after Plain = []
+read_after Load = codes ")"
+read_after Local = []
+
+-- what stands before the index of an item of the array that begins at the k-th word, and behind it; the first item is what a is
+abbrev pub item_before : List Word → List Read → ℕ → CValue → List ℕ
+item_before words reads k a = casts_text a ++ (read_before (read_of reads k) ++ (array_name words k ++ codes "["))
+
+abbrev pub item_after : List Read → ℕ → List ℕ
+item_after reads k = codes "]" ++ read_after (read_of reads k)
 
 -- parentheses, unless the text stands bare
 abbrev pub opening : Bool → List ℕ
@@ -82,6 +103,10 @@ closing false = codes ")"
 
 abbrev pub enclosed : Bool → List ℕ → List ℕ
 enclosed bare text = opening bare ++ (text ++ closing bare)
+
+-- a choice of these three
+abbrev pub choice_text : Bool → List ℕ → Bool → List ℕ → Bool → List ℕ → List ℕ
+choice_text p t q a r b = enclosed p t ++ (codes " ? " ++ (enclosed q a ++ (codes " : " ++ enclosed r b)))
 
 -- behind `~` and a cast, and before `%`, what binds tightest stands bare: literals, words, casts and `~`
 abbrev pub is_tight : CValue → Bool
@@ -150,7 +175,15 @@ abbrev mutual
   value_text words reads (c_shifted d g v k) =
       enclosed (is_bare v) (value_text words reads v) ++ (shift_text d ++ number_text k)
   value_text words reads (c_choice t a b) =
-      enclosed (is_bare_test t) (test_text words reads t) ++ (codes " ? " ++ (enclosed (is_bare a) (value_text words reads a) ++ (codes " : " ++ enclosed (is_bare b) (value_text words reads b))))
+      option_map_or (λ k. item_before words reads k a ++ (index_text words reads t ++ item_after reads k)) (item_in words reads (c_choice t a b))
+      (choice_text (is_bare_test t) (test_text words reads t) (is_bare a) (value_text words reads a) (is_bare b) (value_text words reads b))
+
+  -- the index of an item: what the test compares
+  pub index_text : List Word → List Read → CTest → List ℕ
+  index_text words reads (c_truth b) = []
+  index_text words reads (c_not t) = []
+  index_text words reads (c_joined j t u) = []
+  index_text words reads (c_compared c a b) = value_text words reads a
 
   -- a test
   pub test_text : List Word → List Read → CTest → List ℕ

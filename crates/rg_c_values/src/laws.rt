@@ -2,6 +2,7 @@
 
 ghost use Rattle.rg_c_values.specs.CNames.{NamesStayApart, NamesAreFree};
 ghost use Rattle.rg_c_values.specs.Arrays.{MembersStayApart};
+ghost use Rattle.rg_c_values.specs.Items.{ItemsAreRight};
 ghost use Rattle.rg_c_values.specs.Laws.{ValuesAreRight, TestsAreRight, StoresAreRight, ValuesAreC, TestsAreC, StoresAreC};
 
 /// What C computes is the value of the language, the truth of its test, and the value that is stored.
@@ -24,4 +25,9 @@ pub fn names_are_names_in_c()
     ensures apart { NamesStayApart }
     ensures free { NamesAreFree }
     ensures members { MembersStayApart }
+{}
+
+/// A choice that is written as an item of an array has the value of the item at that index, which is within the array.
+pub fn items_are_right()
+    ensures { ItemsAreRight }
 {}

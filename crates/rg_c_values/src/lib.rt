@@ -2,6 +2,7 @@
 #![tactic(auto)]
 
 pub mod arrays;
+pub mod items;
 pub mod laws;
 pub mod names;
 pub mod pieces;

@@ -1,12 +1,14 @@
 //! Expressions of C as text.
 
-ghost use Rattle.std.specs.Prelude.{◌≡◌, ◌++◌, decimal, string_bytes, slice_index_or, OnOk};
+ghost use Rattle.std.specs.Prelude.{◌≡◌, ◌++◌, decimal, string_bytes, ◌<◌, length, OnOk};
 ghost use Rattle.rg_c_values.specs.CNames.{c_name};
 ghost use Rattle.rg_c_values.specs.Arrays.{name_at, member_of};
-ghost use Rattle.rg_c_values.specs.Printed.{operator_text, shift_text, comparison_text, joint_text, truth_text, number_text, cast_text, read_of, read_text, word_text, opening, closing, is_tight, is_bare, is_bare_test, is_loose, is_chain, is_bare_first, value_text, test_text};
+ghost use Rattle.rg_c_values.specs.Items.{read_of};
+ghost use Rattle.rg_c_values.specs.Printed.{operator_text, shift_text, comparison_text, joint_text, truth_text, number_text, cast_text, read_text, word_text, casts_text, read_before, read_after, item_before, item_after, opening, closing, is_tight, is_bare, is_bare_test, is_loose, is_chain, is_bare_first, value_text, index_text, test_text};
 ghost use Rattle.rg_c_values.specs.View.{value, test};
 
-use crate::arrays::{push_member_of, push_name};
+use crate::arrays::{push_array_name, push_member_of, push_name};
+use crate::items::{item_in, read_of};
 use crate::tree::{Joint, Test, Value};
 use itoa::Buffer;
 use rg_words::Layout;
@@ -75,6 +77,11 @@ pub fn print_value(
             push_number(text, u64::from(*count))
         }
         Value::Choice(t, a, b) => {
+            if let Some(first) = item_in(layout, reads, v) {
+                push_item_before(text, layout, reads, first, a)?;
+                print_index(text, layout, reads, t)?;
+                return push_item_after(text, reads, first);
+            }
             let bare_test = is_bare_test(t);
             let bare_first = is_bare(a);
             let bare_second = is_bare(b);
@@ -91,6 +98,22 @@ pub fn print_value(
             push_closing(text, bare_second)?;
             Ok(())
         }
+    }
+}
+
+/// Adds the index of an item: what a test compares.
+#[cycle(print)]
+fn print_index(
+    text: &mut String,
+    layout: &Layout,
+    reads: &[Read],
+    t: &Test,
+) -> Result<(), AllocError>
+    ensures { OnOk result (string_bytes text.new ≡ string_bytes text.old ++ index_text layout.now reads.now (test t.now)) }
+{
+    match t {
+        Test::Compared(_, index, _) => print_value(text, layout, reads, index),
+        _ => Ok(()),
     }
 }
 
@@ -217,14 +240,66 @@ fn push_read(text: &mut String, layout: &Layout, read: Read, word: usize) -> Res
     }
 }
 
-/// How a word is read.
-fn read_of(reads: &[Read], word: usize) -> Read
-    ensures { result ≡ read_of reads.now word }
+/// Adds the casts of a word.
+#[cycle(casts)]
+fn push_casts(text: &mut String, v: &Value) -> Result<(), AllocError>
+    ensures { OnOk result (string_bytes text.new ≡ string_bytes text.old ++ casts_text (value v.now)) }
 {
-    match reads.get(word) {
-        Some(read) => *read,
-        None => Read::Plain,
+    match v {
+        Value::Cast(bits, v) => {
+            push_cast(text, *bits)?;
+            push_casts(text, v)
+        }
+        _ => Ok(()),
     }
+}
+
+/// What stands before a member of the struct that is read so.
+fn read_before(read: Read) -> &'static str
+    ensures { result.now ≡ read_before read }
+{
+    match read {
+        Read::Plain => "w->",
+        Read::Load => "RGC_LOAD(&w->",
+        Read::Local => "",
+    }
+}
+
+/// What stands behind it.
+fn read_after(read: Read) -> &'static str
+    ensures { result.now ≡ read_after read }
+{
+    match read {
+        Read::Plain | Read::Local => "",
+        Read::Load => ")",
+    }
+}
+
+/// Adds what stands before the index of an item of the array that begins at a word.
+fn push_item_before(
+    text: &mut String,
+    layout: &Layout,
+    reads: &[Read],
+    first: usize,
+    of_first: &Value,
+) -> Result<(), AllocError>
+    requires { first < length layout.now }
+    ensures { OnOk result (string_bytes text.new ≡ string_bytes text.old ++ item_before layout.now reads.now first (value of_first.now)) }
+{
+    push_casts(text, of_first)?;
+    text.push_str(read_before(read_of(reads, first)))?;
+    push_array_name(text, layout, first)?;
+    text.push_str("[")?;
+    Ok(())
+}
+
+/// Adds what stands behind it.
+fn push_item_after(text: &mut String, reads: &[Read], first: usize) -> Result<(), AllocError>
+    ensures { OnOk result (string_bytes text.new ≡ string_bytes text.old ++ item_after reads.now first) }
+{
+    text.push_str("]")?;
+    text.push_str(read_after(read_of(reads, first)))?;
+    Ok(())
 }
 
 /// Whether a value stands without parentheses behind `~` and a cast, and before `%`.
