@@ -15,14 +15,14 @@ use Rattle.rg_tree.specs.declared.condition.Condition.{Condition}
 use Rattle.rg_tree.specs.Conditions.{condition_tree, ConditionHolds}
 use Rattle.rg_tree.specs.Programs.{nth}
 use Rattle.rg_rules.proofs.Find.{nth-at}
-use Rattle.std.proofs.lemmas.List.{length-map, take-map, drop-map}
+use Rattle.std.proofs.lemmas.List.{length-map, map-id, take-map, drop-map}
 use Rattle.rg_find.specs.Judged.{IsJudged, IsJudgeRefusal}
 use Rattle.rg_find.specs.declared.judgement.Judged.{Judged}
 use Rattle.rg_find.specs.declared.judgement.Judged.TheVariants.{Holds, Fails, GaveUp, TooLarge}
 use Rattle.rgc.specs.declared.proofs_found.Unproved.{Unproved}
 use Rattle.rgc.specs.declared.proofs_found.Sought.{Sought}
-use Rattle.rg_pool.specs.ProofPieces.{ArePartProvedBy, AreProvedBy, ArePartRefused}
-use Rattle.rgc.specs.Proofs.{IsUnproved, HoldFrom, AreReportedOrHold, IsRange, in_range, outside, KeepLimit, IsFirstUnjudged, IsSearchRefusal, IsPartSearchRefusal}
+use Rattle.rg_pool.specs.ProofPieces.{ArePartProvedBy, AreProvedBy}
+use Rattle.rgc.specs.Proofs.{IsUnproved, HoldFrom, AreReportedOrHold, AreUnproved, IsRange, in_range, outside, KeepLimit, IsFirstUnjudged, IsSearchRefusal, IsPartSearchRefusal}
 use Rattle.rgc.specs.Inner.Search.{IsKept, IsHolding, Takes, IsJudgedAt, IsSoughtAt, IsUnsoughtAt, IsAnswerAt, AreSought}
 
 -- what is kept of a condition is true of the condition of its number
@@ -125,7 +125,7 @@ taken_or_holds cs first number judged old new low true_ all took =
     took
 
 -- how many conditions there are
-count_same : (all : List Condition) (cs : List ConditionTree) (count : ℕ) → map condition_tree all ≡ cs → count ≡ length all → count ≡ length cs
+pub count_same : (all : List Condition) (cs : List ConditionTree) (count : ℕ) → map condition_tree all ≡ cs → count ≡ length all → count ≡ length cs
 count_same all cs count same is_count = is_count ∙ sym (length-map all condition_tree) ∙ ap length same
 
 module _ (all items : List Condition) (cs : List ConditionTree) (first last count : ℕ) (same : map condition_tree all ≡ cs) (is_all : items ≡ all) (range : IsRange first last count) (is_count : count ≡ length all) where
@@ -151,25 +151,33 @@ module _ (all items : List Condition) (cs : List ConditionTree) (first last coun
         (subst (λ (xs : List ConditionTree). ArePartProvedBy count (first - 1) xs pieces) part_same proved),
   )
 
-  -- or its proofs are refused
-  pub part_refused : (pieces : List (List ℕ)) (e : Refusal) → ArePartRefused count (first - 1) (map condition_tree (take (last - (first - 1)) (drop (first - 1) items))) pieces e → ArePartRefused (length cs) (first - 1) (in_range first last cs) pieces e
-  part_refused pieces e why =
-      subst (λ (n : ℕ). ArePartRefused n (first - 1) (in_range first last cs) pieces e) (count_same all cs count same is_count)
-      (subst (λ (xs : List ConditionTree). ArePartRefused count (first - 1) xs pieces e) part_same why)
-
 -- a search of all conditions is refused
 pub all_refused : (xs : List Condition) (cs : List ConditionTree) (steps : ℕ) (e : Refusal) → map condition_tree xs ≡ cs → ((e ≡ no_memory) ⊎ IsFirstUnjudged (map condition_tree xs) 1 steps e) → IsSearchRefusal cs steps e
 all_refused xs cs steps e same (inl why) = inl why
-all_refused xs cs steps e same (inr why) = inr (inl (subst (λ (ds : List ConditionTree). IsFirstUnjudged ds 1 steps e) same why))
+all_refused xs cs steps e same (inr why) = inr (subst (λ (ds : List ConditionTree). IsFirstUnjudged ds 1 steps e) same why)
 
--- what it found proves them all, or is refused
+-- what it found proves them all
 pub all_found : (xs : List Condition) (cs : List ConditionTree) (count : ℕ) (pieces : List (List ℕ)) → map condition_tree xs ≡ cs → count ≡ length xs → ArePartProvedBy count 0 (map condition_tree xs) pieces → AreProvedBy cs pieces
 all_found xs cs count pieces same is_count proved =
     subst (λ (n : ℕ). ArePartProvedBy n 0 cs pieces) (count_same xs cs count same is_count) (subst (λ (ds : List ConditionTree). ArePartProvedBy count 0 ds pieces) same proved)
 
-pub found_refused : (xs : List Condition) (cs : List ConditionTree) (steps count : ℕ) (pieces : List (List ℕ)) (e : Refusal) → map condition_tree xs ≡ cs → count ≡ length xs → ArePartRefused count 0 (map condition_tree xs) pieces e → IsSearchRefusal cs steps e
-found_refused xs cs steps count pieces e same is_count why =
-    inr (inr (pieces, subst (λ (n : ℕ). ArePartRefused n 0 cs pieces e) (count_same xs cs count same is_count) (subst (λ (ds : List ConditionTree). ArePartRefused count 0 ds pieces e) same why)))
+-- where nothing is reported, all hold
+none_reported : (cs : List ConditionTree) (first end : ℕ) (found : List Unproved) → length found ≡ 0 → AreReportedOrHold cs first end found → HoldFrom cs first end
+none_reported cs first end [] none all = all
+none_reported cs first end (u ∷ found) none all = absurd (omega (arith, none))
+
+-- then it may be said of the first that the search gave up
+pub gave_up : (cs : List ConditionTree) (first end : ℕ) (found reported : List Unproved) → 0 < first → first < end → end ≤ length cs + 1 → length found ≡ 0 → AreReportedOrHold cs first end found → reported ≡ record { number = first; judged = GaveUp } ∷ [] → AreUnproved cs first end reported
+gave_up cs first end found reported low order high none all is =
+    let hold = none_reported cs first end found none all in
+    let e = element_at cs (first - 1) (omega (arith, low, order, high)) in
+    let there : nth cs first ≡ Some e.0 = ap (λ (ds : List ConditionTree). nth ds first) (sym (map-id cs)) ∙ nth-at (λ (c : ConditionTree). c) cs (first - 1) first e.0 (omega (arith, low)) (omega (arith, low, order, high)) e.1 in
+    let one : Unproved = record { number = first; judged = GaveUp } in
+    subst (AreUnproved cs first end) (sym is) (record {
+      some = omega arith;
+      all = (record { low = omega arith; high = order; before = λ k c from to at. absurd (omega (arith, from, to)) }, λ k c from to at. hold k c (omega (arith, from)) to at);
+      are = All-cons (IsUnproved cs) one [] (record { condition = e.0; is = there; judged = tt }) (search rules);
+    })
 
 -- a range of which there is no condition
 pub range_refused : (xs : List Condition) (cs : List ConditionTree) (first last steps count : ℕ) (e : Refusal) → map condition_tree xs ≡ cs → count ≡ length xs → (IsRange first last count → ⊥) → e ≡ refused_in UnknownCondition Derivation (the_condition (outside first last count)) → IsPartSearchRefusal cs first last steps e
@@ -184,7 +192,7 @@ range_refused xs cs first last steps count e same is_count none why =
 pub part_unsought : (xs : List Condition) (cs : List ConditionTree) (first last steps from : ℕ) (e : Refusal) → map condition_tree xs ≡ cs → from + 1 ≡ first → IsRange first last (length cs) → ((e ≡ no_memory) ⊎ IsFirstUnjudged (map condition_tree xs) (from + 1) steps e) → IsPartSearchRefusal cs first last steps e
 part_unsought xs cs first last steps from e same is range (inl why) = inl why
 part_unsought xs cs first last steps from e same is range (inr why) =
-    inr (inr (inl (range, subst (λ (n : ℕ). IsFirstUnjudged cs n steps e) is (subst (λ (ds : List ConditionTree). IsFirstUnjudged ds (from + 1) steps e) same why))))
+    inr (inr (range, subst (λ (n : ℕ). IsFirstUnjudged cs n steps e) is (subst (λ (ds : List ConditionTree). IsFirstUnjudged ds (from + 1) steps e) same why)))
 
 -- what is known of the condition at a place
 pub known_answer : (cs : List ConditionTree) (from place steps : ℕ) (known : List (Option (Result Sought Refusal))) (sought : Result Sought Refusal) → from ≤ place → place - from < length known → AreSought cs from steps known → slice_index_or known (place - from) None ≡ Some sought → IsAnswerAt cs (place + 1) steps sought

@@ -13,7 +13,7 @@ use Rattle.rg_tree.specs.Statements.{ProgramTree}
 use Rattle.rg_tree.specs.Programs.{nth, IsSatisfied}
 use Rattle.rg_clauses.specs.Conditions.{clauses_of_condition}
 use Rattle.rg_find.specs.Judged.{IsJudged, IsJudgeRefusal}
-use Rattle.rg_pool.specs.ProofPieces.{ArePartProvedBy, AreProvedBy, ArePartRefused, AreProofsRefused}
+use Rattle.rg_pool.specs.ProofPieces.{ArePartProvedBy, AreProvedBy}
 use Rattle.rg_accept.specs.Accepted.{conditions_of}
 use Rattle.rgc.specs.Pieces.{AreDerived, IsDeriveRefusal}
 use Rattle.rgc.specs.declared.proofs_found.Unproved.{Unproved}
@@ -88,11 +88,9 @@ pub record IsFirstUnjudged (conditions : List ConditionTree) (first steps : ℕ)
   pub refusal : IsJudgeRefusal condition Derivation number steps e
   pub before : KeepLimit conditions first number
 
--- why a search for proofs of conditions says nothing: for want of memory; or of the first that isn't judged; or the proofs that it found are refused,
--- which are checked before they are given
+-- why a search for proofs of conditions says nothing: for want of memory; or of the first that isn't judged
 abbrev pub IsSearchRefusal : List ConditionTree → ℕ → Refusal → Type 0
-IsSearchRefusal conditions steps e =
-    (e ≡ no_memory) ⊎ IsFirstUnjudged conditions 1 steps e ⊎ ((proofs : List (List ℕ)) × AreProofsRefused conditions proofs e)
+IsSearchRefusal conditions steps e = (e ≡ no_memory) ⊎ IsFirstUnjudged conditions 1 steps e
 
 -- the number of a range of which there is no condition
 abbrev pub outside : ℕ → ℕ → ℕ → ℕ
@@ -104,7 +102,6 @@ IsPartSearchRefusal conditions first last steps e =
     (e ≡ no_memory)
     ⊎ ((IsRange first last (length conditions) → ⊥) × (e ≡ refused_in UnknownCondition Derivation (Condition (outside first last (length conditions)))))
     ⊎ (IsRange first last (length conditions) × IsFirstUnjudged conditions first steps e)
-    ⊎ ((proofs : List (List ℕ)) × ArePartRefused (length conditions) (first - 1) (in_range first last conditions) proofs e)
 
 -- the first fault over both files and the search: of the text, then of the derivation of its program, then of the search
 abbrev pub IsProveRefusal : List ℕ → List (List ℕ) → ℕ → Refusal → Type 0

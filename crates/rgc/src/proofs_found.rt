@@ -1,13 +1,14 @@
 //! Proofs of all conditions, or of a range of them, found by a search for each.
 
-ghost use Rattle.std.specs.Prelude.{◌≡◌, ◌⊎◌, ◌+◌, ◌<◌, ◌≤◌, ◌^◌, length, All, map, string_bytes, IsOk, IfOk, IfErr, IfSome, OnOk};
+ghost use Rattle.std.specs.Prelude.{◌≡◌, ◌⊎◌, ◌+◌, ◌<◌, ◌≤◌, ◌^◌, ◌∷◌, [], length, true, All, map, string_bytes, IsOk, IfOk, IfErr, IfSome, OnOk};
 ghost use Rattle.rg_words.specs.declared.refusal.RefusalNumber.TheVariants.{UnknownCondition};
 ghost use Rattle.rg_words.specs.declared.refusal.SourceFile.TheVariants.{Derivation};
 ghost use Rattle.rg_words.specs.declared.refusal.Place.TheVariants.{Condition as the_condition};
 ghost use Rattle.rg_words.specs.Refusals.{no_memory, refused_in};
 ghost use Rattle.rg_tree.specs.Conditions.{condition_tree};
 ghost use Rattle.rg_tree.specs.RuleConditions.{AllConditionsHold};
-ghost use Rattle.rg_pool.specs.ProofPieces.{ArePartProvedBy, ArePartRefused};
+ghost use Rattle.rg_pool.specs.ProofPieces.{ArePartProvedBy};
+ghost use Rattle.rg_find.specs.declared.judgement.Judged.TheVariants.{GaveUp};
 ghost use Rattle.rgc.specs.Pieces.{bytes_of};
 ghost use Rattle.rgc.specs.Proofs.{AreFoundFor, ArePartFoundFor, AreReportedOrHold, IsRange, IsUnproved, IsFirstUnjudged, IsSatisfiedWhere, IsSearchRefusal, IsPartSearchRefusal, outside};
 ghost use Rattle.rgc.specs.Failures.{judged_text, name_at, unproved_text, failures_text};
@@ -80,22 +81,37 @@ pub fn bytes_of_pieces(alloc: Global, pieces: &[String]) -> Result<Vec<&[u8]>, A
     Ok(all)
 }
 
-/// Checks that pieces that were found prove these conditions, which stand after so many others of `count`.
-fn check_found<R: Threads + Wait + Sync>(
+/// Whether pieces that were found prove these conditions, which stand after so many others of `count`.
+fn are_proved<R: Threads + Wait + Sync>(
     checker: &InThreads<'_, R>,
     alloc: Global,
     count: usize,
     before: usize,
     conditions: &[Condition],
     pieces: &[String],
-) -> Result<(), Refusal>
+) -> Result<bool, AllocError>
     requires { before + length conditions.now ≤ count }
-    ensures proved { OnOk result (ArePartProvedBy count before (map condition_tree conditions.now) (map string_bytes pieces.now)) }
-    ensures holds { OnOk result (AllConditionsHold (map condition_tree conditions.now)) }
-    ensures refused { IfErr result (ArePartRefused count before (map condition_tree conditions.now) (map string_bytes pieces.now)) }
+    ensures proved { IfOk result (λ is. is ≡ true → ArePartProvedBy count before (map condition_tree conditions.now) (map string_bytes pieces.now)) }
+    ensures holds { IfOk result (λ is. is ≡ true → AllConditionsHold (map condition_tree conditions.now)) }
 {
     let all = bytes_of_pieces(alloc, pieces)?;
-    prove_pieces(checker, alloc, count, before, conditions, &all)
+    match prove_pieces(checker, alloc, count, before, conditions, &all) {
+        Ok(()) => Ok(true),
+        Err(refusal) if refusal.number == RefusalNumber::Memory => Err(AllocError),
+        Err(_) => Ok(false),
+    }
+}
+
+/// That the search gave up on the condition of this number: the first one, where what was found doesn't prove all conditions. No such search is known.
+fn given_up(alloc: Global, number: usize) -> Result<Vec<Unproved>, AllocError>
+    ensures { IfOk result (λ unproved. unproved.items ≡ record { number = number; judged = GaveUp } ∷ []) }
+{
+    let mut unproved = Vec::new(alloc);
+    unproved.push(Unproved {
+        number,
+        judged: Judged::GaveUp,
+    })?;
+    Ok(unproved)
 }
 
 /// What a search says of a condition, and the text of its section; no text, where it has or needs no lines.
@@ -366,10 +382,11 @@ pub fn find_proofs<R: Threads + Wait + Sync, P: Watcher + Copy + Sync>(
         return Ok(ProofsFound::Failures(unproved));
     }
     let checker = InThreads { rt, threads };
-    match check_found(&checker, alloc, count, 0, all, &pieces) {
-        Ok(()) => Ok(ProofsFound::Proofs(pieces)),
-        Err(refusal) => Err(refusal),
+    if are_proved(&checker, alloc, count, 0, all, &pieces)? {
+        return Ok(ProofsFound::Proofs(pieces));
     }
+    let first = given_up(alloc, 1)?;
+    Ok(ProofsFound::Failures(first))
 }
 
 /// Whether there are conditions of these numbers, from 1; refused at the first number of which there is none.
@@ -438,10 +455,11 @@ pub fn find_part<R: Threads + Wait + Sync, P: Watcher + Copy + Sync>(
         rt: settings.rt,
         threads: settings.threads,
     };
-    match check_found(&checker, alloc, count, from, part, &pieces) {
-        Ok(()) => Ok(ProofsFound::Proofs(pieces)),
-        Err(refusal) => Err(refusal),
+    if are_proved(&checker, alloc, count, from, part, &pieces)? {
+        return Ok(ProofsFound::Proofs(pieces));
     }
+    let lowest = given_up(alloc, from + 1)?;
+    Ok(ProofsFound::Failures(lowest))
 }
 
 /// What is reported of a condition that isn't proved, after its name.

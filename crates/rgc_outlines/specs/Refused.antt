@@ -9,7 +9,7 @@ use Rattle.rgc.specs.Proofs.{IsSearchRefusal}
 use Rattle.rgc_outlines.specs.Cut.{IsOfPieces, IsOfPiecesRefusal}
 
 -- why it isn't said whether an outline's files are verified: for a fault of the text, or of the pieces of the derivation; else of the search for proofs of the
--- conditions of what they derive, or of the proofs that it found
+-- conditions of what they derive
 abbrev pub IsVerifyRefusal : OutlineFiles → ℕ → Refusal → Type 0
 IsVerifyRefusal files steps e =
     IsOfPiecesRefusal files.text.items files.derivation.items e

@@ -3,7 +3,8 @@
 
 ghost use Rattle.std.specs.Prelude.{◌≡◌, length, IfOk, IfErr};
 ghost use Rattle.rg_outline_reports.specs.declared.files.OutlineFiles.{OutlineFiles};
-ghost use Rattle.rg_pool.specs.ProofPieces.{AreProofsRefused};
+ghost use Rattle.rg_words.specs.Refusals.{no_memory};
+ghost use Rattle.rg_pool.specs.ProofPieces.{AreProvedBy, AreProofsRefused};
 ghost use Rattle.rg_accept.specs.Stages.{emitted_program, emitted_blocks};
 ghost use Rattle.rgc_outlines.specs.Built.{IsBuiltOutline};
 ghost use Rattle.rgc_outlines.specs.Proved.{IsProvedOf, conditions_in, proofs_in, AreProvedOutlinesAccepted, AreShortOutlinesAccepted};
@@ -80,6 +81,8 @@ impl Proved {
         // Where these are the proofs of an outline's files, it is the code of what these spell.
         ensures built { (files : OutlineFiles) → IsProvedOf files self → IfOk result (λ e. IsBuiltOutline files (emitted_program e) (emitted_blocks e)) }
         ensures refused { IfErr result (AreProofsRefused (conditions_in self) (proofs_in self)) }
+        // Proofs of all conditions aren't refused.
+        ensures accepts { AreProvedBy (conditions_in self) (proofs_in self) → IfErr result (λ e. e ≡ no_memory) }
     {
         let Proved { derived, proofs } = self;
         let pieces = bytes_of_pieces(context.alloc, &proofs)?;

@@ -9,7 +9,7 @@ use Rattle.rgc_commands.proofs.coding.left_of_outline.Goals as goal
 pub returns-in_err-emitted-clause-stopped : goal.returns-in_err-emitted-clause-stopped
 returns-in_err-emitted-clause-stopped g c = λ steps.
     let p = err_from_is_err_and c.from_residual.result c.from_residual.ensures.1 in
-    rw (p.1, p.2) (inr (_, _, c.requires.derived, inr (inr (_, c.in_err-emitted.ensures.refused))))
+    rw (p.1, p.2, c.in_err-emitted.ensures.accepts c.requires.proved) (no_memory_verify c.args.outlined.now.files steps c.requires)
 
 pub returns-in_err-auxiliary-clause-stopped : goal.returns-in_err-auxiliary-clause-stopped
 returns-in_err-auxiliary-clause-stopped g c = λ steps.

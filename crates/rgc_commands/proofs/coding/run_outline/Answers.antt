@@ -28,7 +28,7 @@ returns-in_err-proved-clause-stopped g c = λ o.
 pub returns-in_err-emitted-clause-stopped : goal.returns-in_err-emitted-clause-stopped
 returns-in_err-emitted-clause-stopped g c = λ o.
     let p = err_from_is_err_and c.from_residual-in_err-emitted.result c.from_residual-in_err-emitted.ensures.1 in
-    rw (p.1, p.2, c.in_ok-outlined.ensures.files) (inl (inr (_, _, c.in_ok-proved.ensures.proved.derived, inr (inr (_, c.in_err-emitted.ensures.refused)))))
+    rw (p.1, p.2) (inr (c.in_err-emitted.ensures.accepts c.in_ok-proved.ensures.proved.proved))
 
 pub returns-in_err-naming-clause-stopped : goal.returns-in_err-naming-clause-stopped
 returns-in_err-naming-clause-stopped g c = λ o.
