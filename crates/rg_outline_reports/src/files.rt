@@ -12,6 +12,8 @@ pub struct OutlineFiles {
     pub derivation: Vec<u8>,
     /// The places of the derivation at which a further piece of it begins: a piece is whole lines, as many as fit into a file.
     pub cuts: Vec<usize>,
+    /// Whether each word of the text is auxiliary, in the order of the text's words.
+    pub auxiliary: Vec<bool>,
 }
 
 /// What the words and the statements of the text are in the outline.

@@ -7,7 +7,6 @@ use crate::inputs::{Input, Inputs, inputs_of, report_outside_pre};
 use crate::lines::push_reports;
 use crate::map::push_conditions;
 use crate::marks::take_marks;
-use crate::promises::auxiliary_bits;
 use crate::questions::{Asks, Outside, Question, questions_of};
 use crate::reports::Reports;
 use crate::run::{push_run, push_walked};
@@ -16,7 +15,7 @@ use crate::stuck::report_stuck;
 use crate::subject::{Subject, line_of};
 use crate::warnings::report_warnings;
 use rg_outline::{Expansion, push_derivation, push_map, push_text, work_out};
-use rg_outline_syntax::{Fault, Tokens, Written, parse};
+use rg_outline_syntax::{Fault, Standing, Tokens, Written, parse};
 use rg_walk::{BreakingRun, StuckRun, Walked};
 use std::alloc::{AllocError, Global};
 
@@ -77,6 +76,7 @@ impl<'a> Outlined<'a> {
                 text: Vec::new(alloc),
                 derivation: Vec::new(alloc),
                 cuts: Vec::new(alloc),
+                auxiliary: Vec::new(alloc),
             },
         };
         match outlined.work_out() {
@@ -95,6 +95,9 @@ impl<'a> Outlined<'a> {
     fn work_out(&mut self) -> Result<(), Fault> {
         work_out(&mut self.expansion)?;
         let (expansion, files) = (&self.expansion, &mut self.files);
+        for word in &expansion.scope.words {
+            files.auxiliary.push(word.standing == Standing::Auxiliary)?;
+        }
         push_text(expansion, &mut files.text)?;
         push_derivation(expansion, &mut files.derivation, &mut files.cuts)
     }
@@ -127,11 +130,6 @@ impl<'a> Outlined<'a> {
         }
         push_conditions(&self.expansion, &mut map)?;
         printable(self.expansion.scope.alloc, &map)
-    }
-
-    /// The auxiliary words, as bits: the first word of the text is the lowest one.
-    pub fn auxiliary_words(&self) -> u64 {
-        auxiliary_bits(&self.expansion)
     }
 
     /// What the words and the statements of the text are in the outline.

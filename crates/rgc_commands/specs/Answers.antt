@@ -1,5 +1,5 @@
 -- What is so of the files of a command, by its answer.
-use Rattle.std.specs.Prelude.{◌≡◌, ◌⊎◌, ℕ, ◌+◌, ◌-◌, ◌≤◌, ◌++◌, List, [], Option, Some, None, Ok, Bool, true, false, not, length, map, codes, string_bytes, is_some}
+use Rattle.std.specs.Prelude.{◌≡◌, ◌⊎◌, ℕ, ◌+◌, ◌-◌, ◌≤◌, ◌++◌, List, [], Option, Some, None, Ok, Bool, true, false, not, if◌then◌else◌, length, map, codes, string_bytes, is_some}
 use Rattle.std.specs.List.{concat}
 use Rattle.std.specs.Str.Parse.{ParsesUnsigned}
 use Rattle.std.specs.Borrow.{Bor}
@@ -118,14 +118,16 @@ pub record IsLeftOfFiles (names : Option (Bor (List ℕ))) (text : List ℕ) (de
   pub built : IsBuiltInPieces text derivation proofs program whole
   pub is_left : IsLeftBy (flags_for program.words names []) program whole left blocks
 
--- the same of an outline all of whose conditions are proved; and without other words, which nobody has to trust to be auxiliary, unless they stay
+-- the auxiliary words of an outline are flagged; none where they stay
+abbrev pub auxiliary_of : Bool → OutlineFiles → List Bool
+auxiliary_of keeps_aux outline = if keeps_aux then [] else outline.auxiliary.items
+
+-- the same of an outline all of whose conditions are proved; and without its auxiliary words, unless they stay
 pub record IsLeftOfOutline (names : Option (Bor (List ℕ))) (keeps_aux : Bool) (outline : OutlineFiles) (left : ProgramTree) (blocks : List (List BlockTree)) : Type 0 where
   pub program : ProgramTree
   pub whole : List (List BlockTree)
   pub built : IsBuiltOutline outline program whole
-  pub auxiliary : List Bool
-  pub kept : keeps_aux ≡ true → auxiliary ≡ []
-  pub is_left : IsLeftBy (flags_for program.words names auxiliary) program whole left blocks
+  pub is_left : IsLeftBy (flags_for program.words names (auxiliary_of keeps_aux outline)) program whole left blocks
 
 -- the text of code that is left so is printed in this form
 pub record HasCode (IsLeft : ProgramTree → List (List BlockTree) → Type 0) (form : Shown) (text : List ℕ) : Type 0 where

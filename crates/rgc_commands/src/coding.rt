@@ -1,10 +1,10 @@
 //! The answers of the commands about code: it is printed, or run.
 
-ghost use Rattle.std.specs.Prelude.{◌≡◌, ℕ, List, Option, [], true, string_bytes, IfOk, IfErr};
+ghost use Rattle.std.specs.Prelude.{◌≡◌, ℕ, List, Option, string_bytes, IfOk, IfErr};
 ghost use Rattle.std.specs.Borrow.{Bor};
 ghost use Rattle.rgc_line.specs.declared.command.Command.TheVariants.{Emit, EmitOutline, Accesses, AccessesOutline, Run as the_run, RunOutline};
 ghost use Rattle.rgc_outlines.specs.Proved.{IsProvedOf};
-ghost use Rattle.rgc_commands.specs.Answers.{HasCode, IsAnswer, IsLeftOfFiles, IsLeftOfOutline};
+ghost use Rattle.rgc_commands.specs.Answers.{auxiliary_of, HasCode, IsAnswer, IsLeftOfFiles, IsLeftOfOutline};
 ghost use Rattle.rgc_commands.specs.Code.{coded_program, coded_blocks, shown};
 ghost use Rattle.rgc_commands.specs.Inner.Stops.{IsFilesStop, IsOutlineStop, IsProofStop};
 ghost use Rattle.rgc_commands.specs.Of.{OfOutline, OfThree};
@@ -23,31 +23,18 @@ use rgc::{InThreads, build_in_pieces};
 use rgc_answers::{Context, Run};
 use rgc_line::Settings;
 use rgc_outlines::{Proved, naming_of};
-use std::alloc::{AllocError, Global};
+use std::alloc::Global;
 use std::sync::Wait;
 use std::thread::Threads;
 
-/// A flag for each of these bits.
-fn flags_of_bits(alloc: Global, bits: u64) -> Result<Vec<bool>, AllocError> {
-    let mut flags = Vec::new(alloc);
-    for place in 0..64u32 {
-        flags.push(bits >> place & 1 == 1)?;
-    }
-    Ok(flags)
-}
-
-/// A flag for each auxiliary word of an outline; none where they stay.
-fn auxiliary_flags(
-    alloc: Global,
-    keeps_aux: bool,
-    outlined: &Outlined<'_>,
-) -> Result<Vec<bool>, AllocError>
-    ensures { IfOk result (λ flags. keeps_aux ≡ true → flags.items ≡ []) }
+/// Flags of the auxiliary words of an outline; none where they stay.
+fn auxiliary_of<'a>(keeps_aux: bool, outlined: &'a Outlined<'_>) -> &'a [bool]
+    ensures { result.now ≡ auxiliary_of keeps_aux outlined.now.files }
 {
     if keeps_aux {
-        return Ok(Vec::new(alloc));
+        return &[];
     }
-    flags_of_bits(alloc, outlined.auxiliary_words())
+    &outlined.files.auxiliary
 }
 
 /// What is left of the code of files, without the words of these names; what is lost is noted.
@@ -83,8 +70,8 @@ pub(crate) fn left_of_outline<R: Threads + Wait + Sync, P>(
     ensures stopped { (steps : ℕ) → IfErr result (IsProofStop outlined.now.files steps) }
 {
     let emitted = proved.code(context)?;
-    let auxiliary = auxiliary_flags(context.alloc, keeps_aux, outlined)?;
-    left_with(context.alloc, emitted, names, &auxiliary, notes)
+    let auxiliary = auxiliary_of(keeps_aux, outlined);
+    left_with(context.alloc, emitted, names, auxiliary, notes)
 }
 
 /// The text of the code of files, in a form.

@@ -11,15 +11,10 @@ returns-in_err-emitted-clause-stopped g c = λ steps.
     let p = err_from_is_err_and c.from_residual.result c.from_residual.ensures.1 in
     rw (p.1, p.2, c.in_err-emitted.ensures.accepts c.requires.proved) (no_memory_verify c.args.outlined.now.files steps c.requires)
 
-pub returns-in_err-auxiliary-clause-stopped : goal.returns-in_err-auxiliary-clause-stopped
-returns-in_err-auxiliary-clause-stopped g c = λ steps.
-    let p = err_from_is_err_and c.from_residual-in_err-auxiliary.result c.from_residual-in_err-auxiliary.ensures.1 in
-    rw (p.1, p.2) (no_memory_verify c.args.outlined.now.files steps c.requires)
-
 pub returns-clause-left : goal.returns-clause-left
 returns-clause-left g c =
     IfOk-weaker c.left_with.result _ (λ k. IsLeftOfOutline c.args.names c.args.keeps_aux c.args.outlined.now.files (coded_program k) (coded_blocks k))
-    (λ k left. record { program = _; whole = _; built = c.in_ok-emitted.ensures.built _ c.requires; auxiliary = _; kept = c.in_ok-auxiliary.ensures; is_left = rw c.deref.ensures.value at left }) c.left_with.ensures.left
+    (λ k left. record { program = _; whole = _; built = c.in_ok-emitted.ensures.built _ c.requires; is_left = rw c.auxiliary_of-auxiliary.ensures at left }) c.left_with.ensures.left
 
 pub returns-clause-stopped : goal.returns-clause-stopped
 returns-clause-stopped g c = λ steps. IfErr-weaker c.left_with.result IsCodeStop (IsProofStop c.args.outlined.now.files steps) (proof_code_stop c.args.outlined.now.files steps c.requires) c.left_with.ensures.stopped

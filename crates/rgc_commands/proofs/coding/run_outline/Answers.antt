@@ -38,7 +38,7 @@ returns-in_err-naming-clause-stopped g c = λ o.
 pub returns-clause-answer : goal.returns-clause-answer
 returns-clause-answer g c = λ o.
     rw c.in_ok-outlined.ensures.files (record {
-      left = record { program = _; whole = _; built = c.in_ok-emitted.ensures.built _ c.in_ok-proved.ensures.proved; auxiliary = _; kept = λ _. refl; is_left = rw (none_left_out _ _) (refl, refl) };
+      left = record { program = _; whole = _; built = c.in_ok-emitted.ensures.built _ c.in_ok-proved.ensures.proved; is_left = rw (none_left_out _ _) (refl, refl) };
       start_read = rw c.run.ensures c.in_ok-start.ensures.start;
       moves_read = rw c.run.ensures c.in_ok-start.ensures.moves;
       limit_is = rw c.run.ensures refl;

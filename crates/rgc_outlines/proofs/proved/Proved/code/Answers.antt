@@ -42,9 +42,9 @@ lent_pieces lent made proofs own same are kept =
 pub returns-in-Err-clause-refused : goal.returns-in-Err-clause-refused
 returns-in-Err-clause-refused g c =
     subst (λ (pieces : List (List ℕ)). AreProofsRefused (conditions_in c.args.self) pieces c.in-Err.refusal)
-        (lent_pieces c.deref-2.result.now _ _ _ c.deref-2.ensures.value c.in_ok-pieces.ensures c.deref.ensures.value) c.in-Err.ensures.refused
+    (lent_pieces c.deref-2.result.now _ _ _ c.deref-2.ensures.value c.in_ok-pieces.ensures c.deref.ensures.value) c.in-Err.ensures.refused
 
 pub returns-in-Err-clause-accepts : goal.returns-in-Err-clause-accepts
 returns-in-Err-clause-accepts g c = λ proved.
     c.in-Err.ensures.accepts (subst (λ (pieces : List (List ℕ)). AreProvedBy (conditions_in c.args.self) pieces)
-        (sym (lent_pieces c.deref-2.result.now _ _ _ c.deref-2.ensures.value c.in_ok-pieces.ensures c.deref.ensures.value)) proved)
+    (sym (lent_pieces c.deref-2.result.now _ _ _ c.deref-2.ensures.value c.in_ok-pieces.ensures c.deref.ensures.value)) proved)
