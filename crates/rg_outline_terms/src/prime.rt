@@ -66,8 +66,11 @@ impl Forest {
         Ok(())
     }
 
-    /// The tree with all its words primed; `MeaningFault::PrimedAlready` at the first word that is primed already.
+    /// The tree with all its words primed; `MeaningFault::PrimedAlready` at the first word that is primed already. Of no tree, as after a fault, it is none.
     pub(crate) fn in_next_state(&mut self, alloc: Global, tree: usize) -> Made {
+        if tree >= self.primed.len() {
+            return Ok(tree);
+        }
         let mut open = Vec::new(alloc);
         open.push(tree)?;
         for _ in 0..usize::MAX {
