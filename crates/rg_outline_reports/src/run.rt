@@ -10,7 +10,7 @@ use crate::run_rows::{RunRows, Steps, rows_of};
 use crate::subject::line_of;
 use rg_outline::Expansion;
 use rg_outline_syntax::{Span, push_count, push_phrase};
-use rg_walk::{BreakingRun, Broken, RunStep, Unbroken, Walked};
+use rg_walk::{Bound, BreakingRun, Broken, RunStep, Unbroken, Walked};
 use rg_words::State;
 use std::alloc::AllocError;
 
@@ -244,6 +244,16 @@ fn push_not_tried(text: &mut Vec<u8>, unbroken: Unbroken) -> Result<(), AllocErr
     Ok(())
 }
 
+/// Adds which bound ended the search, and the option that raises it.
+fn push_bound(text: &mut Vec<u8>, bound: Option<Bound>) -> Result<(), AllocError> {
+    let said: &[u8] = match bound {
+        None => b"",
+        Some(Bound::Steps) => b"; the steps are used up, and --steps N makes up to N",
+        Some(Bound::Bytes) => b"; the memory for states is used up, which no option raises",
+    };
+    text.extend_from_slice(said)
+}
+
 /// Adds that no run was found that breaks the specification, and how far was looked.
 fn push_not_found(text: &mut Vec<u8>, unbroken: Unbroken) -> Result<(), AllocError> {
     let said: &[u8] = if unbroken.is_all {
@@ -256,6 +266,7 @@ fn push_not_found(text: &mut Vec<u8>, unbroken: Unbroken) -> Result<(), AllocErr
     push_counted(text, unbroken.states, b" state, depth ", b" states, depth ")?;
     push_count(text, unbroken.depth)?;
     push_not_tried(text, unbroken)?;
+    push_bound(text, unbroken.ended_by)?;
     text.push(b'\n')?;
     Ok(())
 }

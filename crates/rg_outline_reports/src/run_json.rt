@@ -5,7 +5,7 @@ use crate::json::put_details;
 use crate::made::{JsonList, JsonObject, push_json_line, text_value};
 use crate::run::{push_broken, push_start, push_step};
 use rg_outline::Expansion;
-use rg_walk::{BreakingRun, Unbroken};
+use rg_walk::{Bound, BreakingRun, Unbroken};
 use serde_json::Value;
 use std::alloc::{AllocError, Global};
 
@@ -65,6 +65,15 @@ pub(crate) fn push_json_of_run(
     push_json_line(text, alloc, object.value())
 }
 
+/// The word for the bound that ended a search; none where none did.
+fn bound_word(bound: Option<Bound>) -> &'static [u8] {
+    match bound {
+        None => b"none",
+        Some(Bound::Steps) => b"steps",
+        Some(Bound::Bytes) => b"memory",
+    }
+}
+
 /// Adds that no run was found that breaks the specification, and how far was looked, as one JSON value in a line of its own.
 ///
 /// # Errors
@@ -86,5 +95,6 @@ pub(crate) fn push_json_of_not_found(
     object.put_flag("all_starts", unbroken.are_all_starts);
     object.put_flag("all", unbroken.is_all);
     object.put_flag("without_others", unbroken.is_without_others);
+    object.put_text("ended_by", bound_word(unbroken.ended_by));
     push_json_line(text, alloc, object.value())
 }

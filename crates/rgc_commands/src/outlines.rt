@@ -71,31 +71,38 @@ pub(crate) const MOST_STEPS: u64 = 1_000_000;
 /// The most decisions of each search for a changed program.
 const MOST_STEPS_FOR_CHANGES: u64 = 10_000;
 
-/// What is printed of conditions of an outline that have no proof; and, in this form, what a walk of its program finds.
+/// A walk of an outline's program: in which form it is printed what it finds, and the most steps that it makes, where a command names them.
+#[derive(Clone, Copy)]
+pub(crate) struct AskedWalk<'a> {
+    form: VerdictForm<'a>,
+    most: Option<u64>,
+}
+
+/// What is printed of conditions of an outline that have no proof; and what a walk of its program finds, where there is one.
 fn unverified(
     alloc: Global,
     outlined: &Outlined<'_>,
     unproved: &[Unproved],
-    form: Option<VerdictForm<'_>>,
+    walk: Option<AskedWalk<'_>>,
 ) -> Result<Vec<u8>, Stop>
     ensures { (steps : ℕ) → IfErr result (IsProofStop outlined.now.files steps) }
 {
     let mut report = unproved_report(alloc, outlined, unproved)?;
-    if let Some(form) = form {
-        push_name(form, &mut report)?;
-        let walked = walk_report(alloc, outlined, unproved)?;
+    if let Some(walk) = walk {
+        push_name(walk.form, &mut report)?;
+        let walked = walk_report(alloc, outlined, unproved, walk.most)?;
         report.extend_from_slice(&walked.reported)?;
     }
     Ok(report)
 }
 
-/// Proofs of all conditions of an outline, each found with at most so many decisions. Where some have none, what a walk finds is printed too, where a form
-/// is given for it.
+/// Proofs of all conditions of an outline, each found with at most so many decisions. Where some have none, what a walk finds is printed too, where there is
+/// one.
 pub(crate) fn prove<R: Threads + Wait + Sync, P: Watcher + Copy + Sync>(
     context: &Context<'_, R, P>,
     outlined: &Outlined<'_>,
     steps: u64,
-    form: Option<VerdictForm<'_>>,
+    walk: Option<AskedWalk<'_>>,
 ) -> Result<Proved, Stop>
     ensures proved { IfOk result (IsProvedOf outlined.now.files) }
     ensures stopped { IfErr result (IsProofStop outlined.now.files steps) }
@@ -103,7 +110,7 @@ pub(crate) fn prove<R: Threads + Wait + Sync, P: Watcher + Copy + Sync>(
     match prove_outline(context, outlined, steps)? {
         Ok(proved) => Ok(proved),
         Err(unproved) => {
-            let report = unverified(context.alloc, outlined, &unproved, form)?;
+            let report = unverified(context.alloc, outlined, &unproved, walk)?;
             Err(Stop::Unverified(report))
         }
     }
@@ -216,9 +223,11 @@ fn verify_conditions<'a, R: Threads + Wait + Sync, P: Watcher + Copy + Sync>(
     let warnings = warnings_of(alloc, outlined)?;
     notes.extend_from_slice(&warnings)?;
     let form = form_of(settings.format, asked.outlines);
-    let proved = prove(context, outlined, search_steps(asked.steps), Some(form))?;
-    push_stuck_warning(alloc, outlined, notes);
+    let most = asked.steps;
+    let walk = AskedWalk { form, most };
+    let proved = prove(context, outlined, search_steps(most), Some(walk))?;
     let counts = proved.counts(alloc)?;
+    push_stuck_warning(alloc, outlined, counts.conditions, most, notes);
     let more = more_of(context, settings, outlined, proved, notes)?;
     Ok(Answer::Verified(Verified {
         form,
@@ -290,7 +299,8 @@ pub(crate) fn challenge_outline<'a, R: Threads + Wait + Sync, P: Watcher + Copy 
         Format::Plain => VerdictForm::Alone,
     };
     *notes = warnings_of(alloc, outlined)?;
-    let proved = prove(context, outlined, MOST_STEPS, Some(form))?;
+    let walk = AskedWalk { form, most: None };
+    let proved = prove(context, outlined, MOST_STEPS, Some(walk))?;
     notes.clear();
     let counts = proved.counts(alloc)?;
     let options = Options {

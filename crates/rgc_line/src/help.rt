@@ -396,7 +396,8 @@ Examples:
         (
             "steps",
             "the most decisions and the most conflicts of each search, 1000000 where\n\
-             it isn't given; with --runs-only the steps of all runs, 25000000",
+             it isn't given; and the most steps of the runs that are followed,\n\
+             12000000, and with --runs-only 25000000",
         ),
         (
             "runs-only",

@@ -9,6 +9,7 @@ use crate::walk::{BOUNDS, WalkedRuns, runs_within};
 use rg_find::Judged;
 use rg_outline_reports::{Failed, Failing, Failures, Outlined, values_of};
 use rg_parse::program;
+use rg_walk::Bounds;
 use rg_words::Refusal;
 use rgc::Unproved;
 use std::alloc::{AllocError, Global};
@@ -89,11 +90,16 @@ pub fn walk_report(
     alloc: Global,
     outlined: &Outlined<'_>,
     unproved: &[Unproved],
+    steps: Option<u64>,
 ) -> Result<WalkedRuns, Refusal>
     // A run is reported only where the program that the outline's text spells doesn't satisfy its specification.
     ensures broken { IfOk result (λ runs. IsTrue runs.is_broken → IsRefuted outlined.now.files.text.items) }
     ensures refused { IfErr result (IsProgramRefusal outlined.now.files.text.items) }
 {
     let states = states_of(alloc, unproved)?;
-    runs_within(alloc, outlined, &states, BOUNDS)
+    let bounds = Bounds {
+        steps: steps.unwrap_or(BOUNDS.steps),
+        ..BOUNDS
+    };
+    runs_within(alloc, outlined, &states, bounds)
 }

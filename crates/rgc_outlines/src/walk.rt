@@ -21,12 +21,15 @@ pub(crate) const BOUNDS: Bounds = Bounds {
 /// The most steps of the runs of a program that are followed alone, where a command doesn't name them: about ten seconds.
 const MOST_STEPS: u64 = 25_000_000;
 
-/// How far a walk goes for a run that gets stuck, where all conditions are proved: about a fifth of a second.
+/// How far a walk goes at most for a run that gets stuck, where all conditions are proved: about a fifth of a second.
 const BOUNDS_FOR_STUCK: Bounds = Bounds {
     steps: 500_000,
     bytes: 100_000_000,
     with_parts: false,
 };
+
+/// The steps that take less time than a condition took to be proved.
+const STEPS_OF_CONDITION: u64 = 5_000;
 
 /// What was found of the runs of an outline's program.
 #[derive(Drop)]
@@ -80,9 +83,31 @@ fn push_stuck(
     Ok(())
 }
 
-/// Follows runs of an outline's program for a short time, and adds a warning to those that there are where one gets stuck. Where memory is refused it adds none.
-pub fn push_stuck_warning(alloc: Global, outlined: &Outlined<'_>, warnings: &mut Vec<u8>) {
-    if let Ok(walked) = walk_text(alloc, &outlined.files.text, &[], BOUNDS_FOR_STUCK) {
+/// How far a walk goes for a run that gets stuck, where so many conditions were proved: no longer than their proofs took, and with at most so many steps
+/// where a command names them.
+fn bounds_for_stuck(conditions: usize, most: Option<u64>) -> Bounds {
+    let proved = (conditions as u64).saturating_mul(STEPS_OF_CONDITION);
+    let steps = BOUNDS_FOR_STUCK.steps.min(proved);
+    Bounds {
+        steps: steps.min(most.unwrap_or(u64::MAX)),
+        ..BOUNDS_FOR_STUCK
+    }
+}
+
+/// Follows runs of an outline's program, of which so many conditions were proved, for a short time, with at most so many steps where a command names them;
+/// and adds a warning to those that there are where one gets stuck. Where warnings are off, or memory is refused, it adds none.
+pub fn push_stuck_warning(
+    alloc: Global,
+    outlined: &Outlined<'_>,
+    conditions: usize,
+    most: Option<u64>,
+    warnings: &mut Vec<u8>,
+) {
+    if !outlined.outline.has_warnings {
+        return;
+    }
+    let bounds = bounds_for_stuck(conditions, most);
+    if let Ok(walked) = walk_text(alloc, &outlined.files.text, &[], bounds) {
         let _ = push_stuck(outlined, &walked, warnings);
     }
 }

@@ -73,7 +73,7 @@ complete -c rgc -n '__fish_seen_subcommand_from outline' -l proofs -r -F -d 'wri
 complete -c rgc -n '__fish_seen_subcommand_from outline' -l map -r -F -d 'write to the file which place of the outline each line of the derivation and each condition comes from'
 complete -c rgc -n '__fish_seen_subcommand_from outline' -l threads -x -d 'the most threads, at most 256; without it one for each processor, and one for small files. What is printed is the same for any number'
 complete -c rgc -n __fish_use_subcommand -a verify -d 'Proves that an outline'\''s program meets its specification, or says where it doesn'\''t'
-complete -c rgc -n '__fish_seen_subcommand_from verify' -l steps -x -d 'the most decisions and the most conflicts of each search, 1000000 where it isn'\''t given; with --runs-only the steps of all runs, 25000000'
+complete -c rgc -n '__fish_seen_subcommand_from verify' -l steps -x -d 'the most decisions and the most conflicts of each search, 1000000 where it isn'\''t given; and the most steps of the runs that are followed, 12000000, and with --runs-only 25000000'
 complete -c rgc -n '__fish_seen_subcommand_from verify' -l runs-only -f -d 'look for a run that breaks the specification, and for no proof: the outline needs no assertions'
 complete -c rgc -n '__fish_seen_subcommand_from verify' -l text -r -F -d 'write the text that is verified to the file; with one outline'
 complete -c rgc -n '__fish_seen_subcommand_from verify' -l threads -x -d 'the most threads, at most 256; without it one for each processor, and one for small files. What is printed is the same for any number'
