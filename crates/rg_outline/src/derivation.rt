@@ -1,7 +1,7 @@
 //! The derivation, and the map from its lines to the outline.
 
 use crate::expansion::{Expansion, Line};
-use crate::print::{push_flat, too_large};
+use crate::print::{push_tight_tree, too_large};
 use rg_outline_syntax::{Fault, List, push_count, push_phrase};
 use rg_tree::line::Rule;
 use rg_words::limits::MOST_TEXT_BYTES;
@@ -109,11 +109,8 @@ impl Expansion<'_> {
     }
 
     fn push_claim(&self, text: &mut Vec<u8>, key: &[u8], tree: usize) -> Result<(), Fault> {
-        let mut loose = Vec::new(self.scope.alloc);
-        loose.extend_from_slice(key)?;
-        push_flat(self, &mut loose, tree)?;
         text.push(b' ')?;
-        push_tight(text, &loose)?;
+        push_tight_tree(self, text, key, tree)?;
         text.push(b'\n')?;
         Ok(())
     }
@@ -132,30 +129,6 @@ impl Expansion<'_> {
         text.push(b'\n')?;
         Ok(())
     }
-}
-
-/// Adds bytes without the spaces that no token needs.
-fn push_tight(text: &mut Vec<u8>, loose: &[u8]) -> Result<(), Fault> {
-    let mut last = b'a';
-    let mut is_apart = false;
-    for byte in loose {
-        if *byte == b' ' {
-            is_apart = true;
-        } else {
-            if is_apart && !is_sign(last) && !is_sign(*byte) {
-                text.push(b' ')?;
-            }
-            text.push(*byte)?;
-            last = *byte;
-            is_apart = false;
-        }
-    }
-    Ok(())
-}
-
-/// Whether no space is needed beside the byte.
-fn is_sign(byte: u8) -> bool {
-    matches!(byte, b'!' | b'=' | b'<' | b'>' | b'+' | b'-' | b'(' | b')')
 }
 
 /// Adds what stands at a place, in one row that isn't long.

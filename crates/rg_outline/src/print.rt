@@ -229,6 +229,58 @@ pub fn push_flat(expansion: &Expansion<'_>, text: &mut Vec<u8>, tree: usize) -> 
     }
 }
 
+/// Adds a tree in one row, after these bytes, without the spaces that no token needs.
+///
+/// # Errors
+///
+/// As `push_flat`.
+pub(crate) fn push_tight_tree(
+    expansion: &Expansion<'_>,
+    text: &mut Vec<u8>,
+    before: &[u8],
+    tree: usize,
+) -> Result<(), Fault> {
+    let mut loose = Vec::new(expansion.scope.alloc);
+    loose.extend_from_slice(before)?;
+    push_flat(expansion, &mut loose, tree)?;
+    push_tight(text, &loose)
+}
+
+/// Adds bytes without the spaces that no token needs.
+fn push_tight(text: &mut Vec<u8>, loose: &[u8]) -> Result<(), Fault> {
+    let mut last = b'a';
+    let mut is_apart = false;
+    for byte in loose {
+        if *byte == b' ' {
+            is_apart = true;
+        } else {
+            if is_apart && !is_sign(last) && !is_sign(*byte) {
+                text.push(b' ')?;
+            }
+            text.push(*byte)?;
+            last = *byte;
+            is_apart = false;
+        }
+    }
+    Ok(())
+}
+
+/// Whether no space is needed beside the byte.
+fn is_sign(byte: u8) -> bool {
+    matches!(byte, b'!' | b'=' | b'<' | b'>' | b'+' | b'-' | b'(' | b')')
+}
+
+/// How many bytes a tree has in one row, or one more than a text may have.
+pub(crate) fn length_of(expansion: &Expansion<'_>, tree: usize) -> Result<usize, Fault> {
+    let mut row = Vec::new(expansion.scope.alloc);
+    let form = expansion.scope.forest.tree(tree).term;
+    if expansion.push_row(&mut row, form, MOST_TEXT_BYTES)? {
+        Ok(row.len())
+    } else {
+        Ok(MOST_TEXT_BYTES + 1)
+    }
+}
+
 /// Adds so many spaces.
 pub(crate) fn push_spaces(text: &mut Vec<u8>, count: usize) -> Result<(), Fault> {
     for _ in 0..count {

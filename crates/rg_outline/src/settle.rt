@@ -23,6 +23,26 @@ impl Expansion<'_> {
         }
     }
 
+    /// The assertion that a block ends with.
+    fn trailing(&self, block: usize) -> Option<Assertion> {
+        match self.rows_of(self.block(block).rows).last() {
+            Some(BlockRow::Assertion(assertion)) => Some(*assertion),
+            _ => None,
+        }
+    }
+
+    /// What is written at the ends of both branches of an `if`, where that is the same.
+    fn agreed(&self, statement: Statement) -> Option<Assertion> {
+        let (yes, no) = statement.blocks;
+        let first = self.trailing(yes)?;
+        let second = self.trailing(no)?;
+        if self.scope.forest.is_equal(first.full, second.full) {
+            Some(carried_on(first))
+        } else {
+            None
+        }
+    }
+
     /// Finds what holds in the body of a part, whose `pre` is known. Faults are `MeaningFault::TooDeep` and `MeaningFault::TooLarge`, and
     /// `FaultKind::Memory`.
     pub(crate) fn settle_body(&mut self, part: OutlinePart) {
@@ -100,7 +120,7 @@ impl Expansion<'_> {
         statement.after = match (aim.goal, statement.action) {
             (Some(wanted), _) => wanted,
             (None, Action::While) => self.known_after_test(statement, false, aim.kept),
-            (None, Action::If) => now,
+            (None, Action::If) => self.agreed(statement).unwrap_or(carried_on(now)),
             (None, _) => carried_on(now),
         };
         if let Some(slot) = self.statements.get_mut(index) {

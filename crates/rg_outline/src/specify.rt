@@ -25,6 +25,7 @@ impl Expansion<'_> {
             guar: self.conjoined_of(&clauses, Clause::Guar),
             post: self.conjoined_of(&clauses, Clause::Post),
             promised: self.kept_of(&clauses, Clause::Guar),
+            kept: self.repeated_of(&clauses),
             rely: if has_clause(&clauses, Clause::Rely) {
                 self.conjoined_of(&clauses, Clause::Rely)
             } else {
@@ -69,6 +70,15 @@ impl Expansion<'_> {
     /// The clauses of a kind, each by itself.
     fn kept_of(&mut self, clauses: &[ProgramClause], kind: Clause) -> List {
         let trees = self.trees_of(clauses, kind);
+        add_all(&mut self.scope, &mut self.clauses, &trees)
+    }
+
+    /// The invariants and the relies, each by itself.
+    fn repeated_of(&mut self, clauses: &[ProgramClause]) -> List {
+        let mut trees = self.trees_of(clauses, Clause::Invariant);
+        for tree in self.trees_of(clauses, Clause::Rely) {
+            add(&mut self.scope, &mut trees, tree);
+        }
         add_all(&mut self.scope, &mut self.clauses, &trees)
     }
 

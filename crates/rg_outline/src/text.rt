@@ -1,30 +1,43 @@
 //! The text of the program.
 
 use crate::expansion::{Action, BlockRow, DEEPEST, Expansion, OutlinePart, Statement};
-use crate::print::{push_flat, push_spaces, too_large};
-use rg_outline_syntax::{Fault, List, Standing, push_count};
+use crate::print::{length_of, push_flat, push_spaces, push_tight_tree, too_large};
+use rg_outline_syntax::{Fault, FaultKind, List, MeaningFault, Standing, push_count};
 use rg_words::limits::MOST_TEXT_BYTES;
 
 /// The most bytes of a row of declarations.
 const WIDTH: usize = 108;
 
-/// Adds the text of the program, as `rg_parse::program` reads it.
+/// How the formulas of the specifications are laid out.
+#[derive(Clone, Copy, PartialEq, Eq)]
+enum Layout {
+    /// In rows, for a person.
+    Rows,
+    /// In one row, without a space that no token needs.
+    Tight,
+}
+
+/// Adds the text of the program, as `rg_parse::program` reads it. The formulas stand in rows, or where it would be too large so, tight.
 ///
 /// # Errors
 ///
-/// - `MeaningFault::TooLarge` where it has more than `MOST_TEXT_BYTES` bytes.
+/// - `MeaningFault::TextTooLarge` where it has more than `MOST_TEXT_BYTES` bytes even so; at the longest formula that all parts repeat.
 /// - `FaultKind::Memory`.
 pub fn push_text(expansion: &Expansion<'_>, text: &mut Vec<u8>) -> Result<(), Fault> {
-    expansion.push_declarations(text)?;
-    let own = expansion.specification;
-    expansion.push_formulas(text, 0, [own.pre, own.rely, own.guar, own.post])?;
-    for (place, part) in expansion.parts.iter().enumerate() {
-        expansion.push_part(text, place, *part)?;
+    let start = text.len();
+    match expansion.push_program(text, Layout::Rows) {
+        Err(fault) if is_too_large(fault) => text.truncate(start),
+        printed => return printed,
     }
-    if text.len() > MOST_TEXT_BYTES {
-        return Err(too_large());
+    match expansion.push_program(text, Layout::Tight) {
+        Err(fault) if is_too_large(fault) => Err(expansion.text_too_large()?),
+        printed => printed,
     }
-    Ok(())
+}
+
+/// Whether the fault is one of size.
+fn is_too_large(fault: Fault) -> bool {
+    matches!(fault.kind, FaultKind::Meaning(MeaningFault::TooLarge))
 }
 
 /// Adds a text to show, as `rg_parse::show` reads it: that a formula is true in all states, or, where it is denied, that it is false in all of them.
@@ -51,6 +64,35 @@ pub fn push_question(
 }
 
 impl Expansion<'_> {
+    fn push_program(&self, text: &mut Vec<u8>, layout: Layout) -> Result<(), Fault> {
+        self.push_declarations(text)?;
+        let own = self.specification;
+        let trees = [own.pre, own.rely, own.guar, own.post];
+        self.push_formulas(text, 0, trees, layout)?;
+        for (place, part) in self.parts.iter().enumerate() {
+            self.push_part(text, place, *part, layout)?;
+        }
+        if text.len() > MOST_TEXT_BYTES {
+            return Err(too_large());
+        }
+        Ok(())
+    }
+
+    /// The fault of a text that is too large, at the longest formula that its parts repeat.
+    fn text_too_large(&self) -> Result<Fault, Fault> {
+        let mut longest = 0;
+        let mut fault = too_large();
+        for clause in &self.clauses {
+            let length = length_of(self, *clause)?;
+            if length > longest {
+                longest = length;
+                let span = self.scope.forest.tree(*clause).span;
+                fault = Fault::meaning(MeaningFault::TextTooLarge, span);
+            }
+        }
+        Ok(fault)
+    }
+
     /// Adds the words with their widths, in rows.
     fn push_declarations(&self, text: &mut Vec<u8>) -> Result<(), Fault> {
         let mut start = text.len();
@@ -82,23 +124,38 @@ impl Expansion<'_> {
         text: &mut Vec<u8>,
         column: usize,
         trees: [usize; 4],
+        layout: Layout,
     ) -> Result<(), Fault> {
         let keys = ["pre  ", "rely ", "guar ", "post "];
         for (key, tree) in keys.iter().zip(&trees) {
             push_spaces(text, column)?;
-            text.extend_from_slice(key.as_bytes())?;
-            self.push_tree(text, *tree, column.saturating_add(5))?;
+            match layout {
+                Layout::Rows => {
+                    text.extend_from_slice(key.as_bytes())?;
+                    self.push_tree(text, *tree, column.saturating_add(5))?;
+                }
+                Layout::Tight => push_tight_tree(self, text, key.as_bytes(), *tree)?,
+            }
+            if text.len() > MOST_TEXT_BYTES {
+                return Err(too_large());
+            }
             text.push(b'\n')?;
         }
         Ok(())
     }
 
-    fn push_part(&self, text: &mut Vec<u8>, place: usize, part: OutlinePart) -> Result<(), Fault> {
+    fn push_part(
+        &self,
+        text: &mut Vec<u8>,
+        place: usize,
+        part: OutlinePart,
+        layout: Layout,
+    ) -> Result<(), Fault> {
         text.extend_from_slice(b"\npart ")?;
         text.extend_from_slice(self.part_names.at(place))?;
         text.push(b'\n')?;
         let trees = [part.pre.full, part.rely, part.guar, part.post.full];
-        self.push_formulas(text, 2, trees)?;
+        self.push_formulas(text, 2, trees, layout)?;
         text.extend_from_slice(b"begin\n")?;
         self.push_block(text, part.body, 2, DEEPEST)?;
         text.extend_from_slice(b"end\n")?;

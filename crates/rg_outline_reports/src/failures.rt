@@ -11,7 +11,7 @@ use crate::steady::report_unstable;
 use crate::step::report_step;
 use crate::subject::{Subject, line_of};
 use crate::values::{Moment, values_of};
-use rg_outline::{Expansion, Line, Origin};
+use rg_outline::{Action, Assertion, BlockRow, Expansion, Line, Origin};
 use rg_outline_syntax::{Span, push_count};
 use rg_words::State;
 use std::alloc::AllocError;
@@ -68,6 +68,47 @@ fn report_exit(
     Ok(())
 }
 
+/// Whether a statement stands in a block, not deeper.
+fn has_statement(expansion: &Expansion<'_>, block: usize, statement: usize) -> bool {
+    let rows = expansion.rows_of(expansion.block(block).rows);
+    rows.iter().any(|row| matches!(*row, BlockRow::Statement(index) if index == statement))
+}
+
+/// The `if` in one of whose branches a statement stands, not deeper.
+fn if_around(expansion: &Expansion<'_>, inner: usize) -> Option<Span> {
+    for statement in &expansion.statements {
+        let (yes, no) = statement.blocks;
+        if statement.action == Action::If
+            && (has_statement(expansion, yes, inner) || has_statement(expansion, no, inner))
+        {
+            return Some(statement.span);
+        }
+    }
+    None
+}
+
+/// That an assertion doesn't follow from the one before it.
+fn not_followed(expansion: &Expansion<'_>, given: Assertion) -> Result<Vec<u8>, AllocError> {
+    let mut sentence = Vec::new(expansion.scope.alloc);
+    sentence.extend_from_slice(b"this assertion doesn't follow from what holds before it (line ")?;
+    push_count(&mut sentence, line_of(expansion, given.span))?;
+    if given.origin == Origin::Carried {
+        sentence.extend_from_slice(b", carried on")?;
+    }
+    sentence.push(b')')?;
+    Ok(sentence)
+}
+
+/// That no assertion is written after an `if`, and the one that is carried on past it doesn't hold at the end of a branch.
+fn carried_past_if(expansion: &Expansion<'_>, due: Assertion) -> Result<Vec<u8>, AllocError> {
+    let mut sentence = Vec::new(expansion.scope.alloc);
+    let said = b"no assertion stands after this `if`, and the one of line ";
+    sentence.extend_from_slice(said)?;
+    push_count(&mut sentence, line_of(expansion, due.span))?;
+    sentence.extend_from_slice(b", which is carried on, can be false then")?;
+    Ok(sentence)
+}
+
 /// Reports an assertion that doesn't follow from what holds before it.
 fn report_consequence(
     expansion: &Expansion<'_>,
@@ -78,18 +119,21 @@ fn report_consequence(
 ) -> Result<(), AllocError> {
     let (given, due) = given_and_due(expansion, line, is_before);
     let falsity = Falsity::of(expansion, due.full, moment)?;
-    let mut sentence = Vec::new(expansion.scope.alloc);
-    sentence.extend_from_slice(b"this assertion doesn't follow from what holds before it (line ")?;
-    push_count(&mut sentence, line_of(expansion, given.span))?;
-    if given.origin == Origin::Carried {
-        sentence.extend_from_slice(b", carried on")?;
-    }
-    sentence.push(b')')?;
+    let choice = if_around(expansion, line.statement);
+    let (place, sentence) = match choice {
+        Some(choice) if !is_before && due.origin == Origin::Carried => {
+            (choice, carried_past_if(expansion, due)?)
+        }
+        _ => (
+            falsity.place(expansion, due.span),
+            not_followed(expansion, given)?,
+        ),
+    };
     let finding = Finding {
         cause: Cause::Consequence,
         at: due.span,
         what: falsity.span(expansion),
-        place: falsity.place(expansion, due.span),
+        place,
         part: Some(line.part),
         sentence,
         words: falsity.words(expansion)?,
@@ -272,7 +316,8 @@ impl FailureReports {
                 return report_alone(expansion, &mut self.untrue, asked, number, b"not so: ");
             }
             Failing::Unproved => b"no proof found within the steps: ",
-            Failing::TooLarge => b"its proof is too large: ",
+            Failing::TooLarge =>
+                b"its proof has more than 16777216 bytes, the most of one condition: ",
         };
         report_alone(expansion, &mut self.unproved, asked, number, why)
     }

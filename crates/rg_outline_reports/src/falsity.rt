@@ -128,12 +128,17 @@ impl<'s> Falsity<'s> {
         expansion.scope.forest.span(self.conjunct)
     }
 
-    /// The words of the conjunct and of its premises.
+    /// The words of the conjunct and of its premises; all words where these have none, as `false` has.
     pub(crate) fn words(&self, expansion: &Expansion<'_>) -> Result<Words, AllocError> {
         let mut words = Words::new(expansion);
         words.add_tree(expansion, self.conjunct)?;
         for premise in &self.premises {
             words.add_tree(expansion, *premise)?;
+        }
+        if words.is_empty() {
+            for word in 0..expansion.scope.words.len() {
+                words.add(word)?;
+            }
         }
         Ok(words)
     }

@@ -8,6 +8,8 @@ use std::alloc::{AllocError, Global};
 pub(crate) enum Cause {
     /// A step that loses the invariant, or the assertion after it.
     Lost,
+    /// A step past which an assertion is carried on that it doesn't give, as none is written after it. Often another report explains it.
+    Carried,
     /// A step that isn't inside the guarantee.
     Outside,
     /// An assertion that a step of others can make false.
@@ -205,7 +207,8 @@ impl Reports {
         Ok(())
     }
 
-    /// The reports that are told, in the order of their places, and of their making where these are the same.
+    /// The reports that are told, in the order of their places, and of their making where these are the same; those of assertions that are carried on
+    /// come last.
     pub(crate) fn ordered(&self) -> Result<Vec<&Report>, AllocError> {
         let mut ordered = Vec::new(self.alloc);
         for report in &self.listed {
@@ -213,7 +216,10 @@ impl Reports {
                 ordered.push(report)?;
             }
         }
-        ordered.sort_by_key(|report: &&Report| (report.place.start, report.place.end))?;
+        ordered.sort_by_key(|report: &&Report| {
+            let is_last = report.key.cause == Cause::Carried;
+            (is_last, report.place.start, report.place.end)
+        })?;
         Ok(ordered)
     }
 }

@@ -54,7 +54,7 @@ fn push_unreached(
     due: Assertion,
 ) -> Result<(), AllocError> {
     if due.origin != Origin::Written {
-        let said = b"no assertion stands behind this step, and the one of line ";
+        let said = b"no assertion stands after this step, and the one of line ";
         push_line(expansion, text, said, due.span)?;
         return text.extend_from_slice(b" can be false then");
     }
@@ -139,7 +139,11 @@ fn report_lost(
             push_line(expansion, &mut sentence, said, place)?;
         }
     }
-    let what = (Cause::Lost, falsity.span(expansion));
+    let cause = match due {
+        Some(due) if due.origin != Origin::Written => Cause::Carried,
+        _ => Cause::Lost,
+    };
+    let what = (cause, falsity.span(expansion));
     put(expansion, reports, step, what, falsity, sentence)
 }
 

@@ -52,6 +52,11 @@ impl Words {
         }
     }
 
+    /// Whether there is none.
+    pub(crate) fn is_empty(&self) -> bool {
+        self.listed.is_empty() && self.choices.is_empty()
+    }
+
     /// Adds a word.
     pub(crate) fn add(&mut self, word: usize) -> Result<(), AllocError> {
         let bit = bit_of(word);

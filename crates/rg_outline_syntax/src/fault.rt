@@ -172,6 +172,8 @@ pub enum MeaningFault {
     NothingToAssign,
     /// What the outline stands for is too large.
     TooLarge,
+    /// The text that the outline stands for is longer than a text may be, mostly because its parts repeat this formula.
+    TextTooLarge,
     /// What the outline stands for is nested too deeply.
     TooDeep,
 }

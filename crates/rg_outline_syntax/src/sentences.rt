@@ -172,6 +172,8 @@ impl MeaningFault {
             Self::NoStatement => { "no statement is left here: the ranges of its `for` are empty" }
             Self::NothingToAssign => "an await needs a word that isn't fixed",
             Self::TooDeep => "what this stands for is nested too deeply",
+            Self::TextTooLarge =>
+                "the text that the outline stands for has more than 1048576 bytes, and this is the longest of the formulas that its parts repeat",
             _ => "what the outline stands for is too large",
         }
     }

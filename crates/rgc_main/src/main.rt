@@ -10,6 +10,7 @@ mod pieces;
 mod place;
 mod replace;
 mod sides;
+mod stack;
 mod version;
 
 ghost use Rattle.std.specs.Prelude.{◌≡◌};
@@ -31,13 +32,14 @@ use rg_words::{Buffered, Device, Out, write_all};
 use rgc_commands::{Context, Expanded, Files, Sides, perform};
 use rgc_line::{Command, Format, Line, LineFault, PLAIN};
 use sides::{add_pieces, can_hold, write_sides};
+use stack::{STACK_BYTES, has_small_stacks};
 use std::alloc::AllocError;
 use std::env::VarError;
 use std::io::IsTerminal;
 use std::process::ExitCode;
 use std::sync::Wait;
-use std::thread::{Threads, available_parallelism};
-use std::{env, io};
+use std::thread::{Builder, Threads, available_parallelism};
+use std::{env, io, thread};
 use version::proved_at;
 
 /// Prints what is wrong with the words, or the help that they ask for; the status.
@@ -131,9 +133,18 @@ fn is_strict(line: &Line<'_>) -> bool {
     line.settings.warnings == Some(STRICT)
 }
 
+/// Whether the environment wants no colours: `NO_COLOR` is set, and isn't empty.
+fn wants_no_colours(rt: &HostRuntime) -> bool {
+    match env::var(rt, "NO_COLOR") {
+        Ok(value) => !value.is_empty(),
+        Err(VarError::NotPresent) => false,
+        Err(_) => true,
+    }
+}
+
 /// Whether standard output is a terminal that is to be coloured.
 fn is_coloured(rt: &HostRuntime) -> bool {
-    rt.stdout().is_terminal() && matches!(env::var(rt, "NO_COLOR"), Err(VarError::NotPresent))
+    rt.stdout().is_terminal() && !wants_no_colours(rt)
 }
 
 /// Where the output of the command goes.
@@ -393,9 +404,15 @@ fn suiting(command: &Command<'_>, files: &Files<'_>, processors: usize) -> usize
     }
 }
 
-/// The most threads for a command: those that it asks for, and else as many as suit the processors.
-fn most_threads<R: Threads>(threads: &R, line: &Line<'_>, files: &Files<'_>) -> usize {
+/// The most threads for a command: those that it asks for, and else as many as suit the processors; one, where others would have too small a stack.
+fn most_threads<R: Threads>(
+    rt: &HostRuntime,
+    threads: &R,
+    line: &Line<'_>,
+    files: &Files<'_>,
+) -> usize {
     match line.settings.threads {
+        _ if has_small_stacks(rt) => 1,
         Some(number) => usize::try_from(number).unwrap_or(usize::MAX),
         None => {
             let processors = available_parallelism(threads).map_or(1, |number| number.get());
@@ -599,7 +616,7 @@ fn run<R: Threads + Wait + Sync>(
     let means = Means {
         rt,
         threads,
-        most: most_threads(threads, line, &files),
+        most: most_threads(rt, threads, line, &files),
         outputs: &names.outputs,
         derivation: &names.derivation,
         proofs: &names.proofs,
@@ -656,15 +673,34 @@ fn work<R: Threads + Wait + Sync>(rt: &HostRuntime, threads: &R) -> Result<u8, A
         Ok(words) => words,
         Err(error) if error.kind() == io::ErrorKind::OutOfMemory => return Err(AllocError),
         Err(_) => {
-            let _ = eprintln!(rt; "error: the words can't be read");
+            let _ = eprintln!(rt; "error: a word of the command line isn't UTF-8");
             return Ok(2);
         }
     };
     run_words(rt, threads, words.as_slice())
 }
 
+/// Does what the words ask for in a thread with a stack of its own, so that a small limit of the process doesn't matter; or in this one, where no thread
+/// can be had.
+fn work_with_room<R: Threads + Wait + Sync>(
+    rt: &HostRuntime,
+    threads: &R,
+) -> Result<u8, AllocError> {
+    thread::scope(
+        thread::scope_env(),
+        threads,
+        |scope| -> Result<u8, AllocError> {
+            let stack = Builder::new().stack_size(STACK_BYTES);
+            match stack.spawn_scoped(scope, || work(rt, threads)) {
+                Ok(worker) => worker.join(threads),
+                Err(_) => work(rt, threads),
+            }
+        },
+    )
+}
+
 fn main(rt: HostRuntime) -> ExitCode {
-    match work(&rt, &rt) {
+    match work_with_room(&rt, &rt) {
         Ok(status) => ExitCode::from(status),
         Err(AllocError) => ExitCode::from(tell(&rt, "refused 99")),
     }
