@@ -28,7 +28,7 @@ const BOUNDS_FOR_STUCK: Bounds = Bounds {
     with_parts: false,
 };
 
-/// The steps that take less time than a condition took to be proved.
+/// The most steps for each condition that was proved: in the examples they take less time than its proof.
 const STEPS_OF_CONDITION: u64 = 5_000;
 
 /// What was found of the runs of an outline's program.
@@ -83,8 +83,7 @@ fn push_stuck(
     Ok(())
 }
 
-/// How far a walk goes for a run that gets stuck, where so many conditions were proved: no longer than their proofs took, and with at most so many steps
-/// where a command names them.
+/// How far a walk goes for a run that gets stuck, where so many conditions were proved, and with at most so many steps where a command names them.
 fn bounds_for_stuck(conditions: usize, most: Option<u64>) -> Bounds {
     let proved = (conditions as u64).saturating_mul(STEPS_OF_CONDITION);
     let steps = BOUNDS_FOR_STUCK.steps.min(proved);
