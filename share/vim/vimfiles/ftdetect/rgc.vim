@@ -1,0 +1,2 @@
+" scripts/editors writes this file.
+autocmd BufNewFile,BufRead *.rgo,*.rg,*.rgd setfiletype rgc
