@@ -12,10 +12,10 @@ use std::alloc::Global;
 use std::sync::Wait;
 use std::sync::atomic::{AtomicBool, AtomicU64, Ordering};
 use std::test::Fail;
-use std::thread::Threads;
+use std::thread::{Threads, yield_now};
 
 /// How often a gate looks for what it waits for; only a run that is wrong gets there.
-const MOST_LOOKS: u32 = 2_000_000_000;
+const MOST_LOOKS: u32 = 10_000_000;
 
 /// Whether a part comes to a turn, at the latest after so many looks.
 fn comes_in_time(came: &AtomicU64, turn: u64) -> bool {
@@ -23,6 +23,7 @@ fn comes_in_time(came: &AtomicU64, turn: u64) -> bool {
         if came.load(Ordering::SeqCst) >= turn {
             return true;
         }
+        yield_now();
     }
     false
 }
