@@ -15,7 +15,7 @@ assignment over words; if; if without else; while; while true; invariant of a wh
 unchanged all; unchanged all but; all; some; quantifier in a quantifier; but in a quantifier; range up to an index; =; !=; <; <=; >; >=; +; -; band;
 bor; bxor; shl; shr; inv; mod; chain of values; number arithmetic; comparison of numbers; decimal; hexadecimal; binary; number with _; true; false;
 if as a value; sum; but in a sum; word; word of 1 indices; word of 2 indices; word of 3 indices; primed word; index as a number; index over words;
-index over words, primed"""
+index over words, primed; named statements; named statements in others"""
 FORMS = [" ".join(it.split()) for it in FORMS.split(";")]
 
 
@@ -24,6 +24,8 @@ class Written:
 
     def __init__(self, seed):
         self.program, self.forms = Followed(seed), collections.Counter()
+        # Of a `for` that is written as named statements; their definitions in the part; and the indices that the loops around a statement have.
+        self.rng, self.definitions, self.indices = random.Random(f"{seed} named"), [], []
         self.text = "\n".join(self.rows()) + "\n"
 
     def has(self, *forms):
@@ -68,6 +70,8 @@ class Written:
     # Parts
 
     def part(self, part):
+        self.definitions = []
+        body = [*self.block(part.body, "  ")]
         self.has("family of parts" if part.index else "part")
         if part.index and "but in a range" in part.over.forms:
             self.has("but in a family of parts")
@@ -75,6 +79,7 @@ class Written:
         for let in part.lets:
             self.has("let of a part")
             yield f"  {self.named(let)}"
+        yield from self.definitions
         if part.owned:
             self.has("owns a member" if part.index else "owns")
             yield f"  owns {' '.join(text for text, _ in part.owned)}"
@@ -85,7 +90,7 @@ class Written:
                 self.has(f"{name} of a part")
                 yield f"  {name} {self.conjunction(point.formulas)}"
         yield "begin"
-        yield from self.block(part.body, "  ")
+        yield from body
         yield "end"
 
     def block(self, items, before):
@@ -119,12 +124,28 @@ class Written:
             yield from self.block(it.body, f"{before}  ")
             yield f"{before}end"
         elif isinstance(it, For):
-            self.has("for", *["but in a for"] * ("but in a range" in it.over.forms))
-            yield f"{before}for {it.name} in {it.over.text} do"
-            yield from self.block(it.body, f"{before}  ")
-            yield f"{before}end"
+            yield from self.repeated(it, before)
         else:
             yield before + self.step(it)
+
+    def repeated(self, it, before):
+        """The lines of a `for`; or its body as named statements, of which the index is a parameter, and a use for each number."""
+        named = self.rng.random() < 0.4
+        self.indices.append(it.name)
+        body = [*self.block(it.body, "    " if named else f"{before}  ")]
+        given = ", ".join(self.indices)
+        self.indices.pop()
+        if not named:
+            self.has("for", *["but in a for"] * ("but in a range" in it.over.forms))
+            yield f"{before}for {it.name} in {it.over.text} do"
+            yield from body
+            yield f"{before}end"
+            return
+        self.has("named statements", *["named statements in others"] * bool(self.indices))
+        name, numbers = f"of_{it.name}", it.over.numbers({})
+        self.definitions += [f"  let {name}({given}) = begin", *body, "  end"]
+        for at, number in enumerate(numbers):
+            yield f"{before}{name}({', '.join([*self.indices, str(number)])})" + ";" * (at + 1 < len(numbers))
 
     def step(self, it):
         self.has(it.form, *(form for assigned in it.assigned for form in assigned.forms))

@@ -56,6 +56,8 @@ pub enum Action {
 pub struct Statement {
     pub action: Action,
     pub span: Span,
+    /// The outermost use of named statements of which it is one.
+    pub used: Option<Span>,
     /// The guard or the test.
     pub test: usize,
     /// What a step assigns: a list of `updates`.
@@ -179,6 +181,8 @@ pub struct Expansion<'a> {
     pub premises: Vec<usize>,
     /// How many statements the text has so far.
     pub count: usize,
+    /// The outermost use of named statements that is being worked out.
+    pub(crate) used: Option<Span>,
 }
 
 impl Assertion {
@@ -196,6 +200,7 @@ impl Statement {
     pub(crate) const SKIP: Statement = Statement {
         action: Action::Skip,
         span: NOWHERE,
+        used: None,
         test: 0,
         updates: List::EMPTY,
         is_choice: false,
@@ -295,6 +300,7 @@ impl<'a> Expansion<'a> {
             lines: Vec::new(alloc),
             premises: Vec::new(alloc),
             count: 0,
+            used: None,
         }
     }
 

@@ -92,7 +92,9 @@ impl Expansion<'_> {
         };
         for head in self.scope.written.heads(written.heads) {
             match head.kind {
-                HeadKind::Let(_) => self.scope.name_head(*head, written.span.end),
+                HeadKind::Let(_) | HeadKind::Procedure(_) => {
+                    self.scope.name_head(*head, written.span.end);
+                }
                 HeadKind::Owns(words) => self.take_owned(&mut part, &mut relied, words),
                 HeadKind::Clause(Clause::Rely, formula) => {
                     let tree = self.scope.step_formula(formula);

@@ -41,6 +41,7 @@ impl Expansion<'_> {
                     add(&mut self.scope, rows, BlockRow::Assertion(assertion));
                 }
                 ItemKind::For { .. } => self.repeat(item, rows, depth),
+                ItemKind::Use(used) => self.use_statements(used, item.span, rows, depth),
                 _ => {
                     let statement = self.statement_of(item, depth);
                     add(&mut self.scope, rows, BlockRow::Statement(statement));
@@ -76,6 +77,22 @@ impl Expansion<'_> {
         }
     }
 
+    /// Adds the rows of the statements that a use names.
+    #[cycle(blocks)]
+    fn use_statements(&mut self, used: usize, span: Span, rows: &mut Vec<BlockRow>, depth: u32) {
+        if depth == 0 {
+            self.scope.refuse(MeaningFault::TooDeep, span);
+            return;
+        }
+        let outer = self.used;
+        self.used = outer.or(Some(span));
+        let mark = self.scope.names.len();
+        let body = self.scope.enter(used);
+        self.take_items(body, rows, depth - 1);
+        self.scope.leave(used, mark);
+        self.used = outer;
+    }
+
     fn add_block(&mut self, rows: &[BlockRow], span: Span) -> usize {
         let rows = add_all(&mut self.scope, &mut self.rows, rows);
         let block = Block {
@@ -99,6 +116,7 @@ impl Expansion<'_> {
         let test = self.conjoined(&[], span);
         Statement {
             span,
+            used: self.used,
             test,
             ..Statement::SKIP
         }

@@ -1,6 +1,6 @@
 //! The statements of an outline, in the order of the text, with what stands beside them.
 
-use rg_outline_syntax::{Item, ItemKind, Keyword, Kind, List, Span, Tokens, Written};
+use rg_outline_syntax::{HeadKind, Item, ItemKind, Keyword, Kind, List, Span, Tokens, Written};
 use std::alloc::{AllocError, Global};
 
 /// A statement, with what stands after it in its block.
@@ -56,6 +56,11 @@ pub(crate) fn statements_of(alloc: Global, written: &Written) -> Result<Vec<Plac
     let mut statements = Vec::new(alloc);
     for part in written.parts.iter().rev() {
         push_block(written, part.body, &mut open)?;
+    }
+    for head in written.heads.iter().rev() {
+        if let HeadKind::Procedure(named) = head.kind {
+            push_block(written, named.body, &mut open)?;
+        }
     }
     for _ in 0..written.items.len() {
         let Some(next) = open.pop() else {

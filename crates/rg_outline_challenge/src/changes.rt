@@ -125,7 +125,9 @@ impl Changing<'_> {
             }
             ItemKind::If { test, .. } => self.change_test(test, None),
             ItemKind::While { test, .. } => self.change_test(test, Some("false")),
-            ItemKind::Assertion(_) | ItemKind::Skip | ItemKind::For { .. } => Ok(()),
+            ItemKind::Assertion(_) | ItemKind::Skip | ItemKind::Use(_) | ItemKind::For { .. } => Ok(
+                (),
+            ),
         }
     }
 

@@ -106,6 +106,25 @@ impl<'a> Words<'a> {
         0
     }
 
+    /// Whether a name is a parameter of statements, which may be any word.
+    fn is_parameter(&self, name: Span) -> bool {
+        self.written.heads.iter().any(|head| match head.kind {
+            HeadKind::Procedure(named) => {
+                is_within(name, named.span) && self.has_name(named.parameters, name)
+            }
+            _ => false,
+        })
+    }
+
+    /// Whether one of the names has the text of this one.
+    fn has_name(&self, names: List, name: Span) -> bool {
+        let text = name.of(self.source);
+        self.written
+            .named(names)
+            .iter()
+            .any(|other| other.of(self.source) == text)
+    }
+
     /// The words that an expression names itself: the word of a name, and those of the tree for which the name stands.
     fn named_by(&self, expression: Expression) -> u64 {
         let name = match expression.kind {
@@ -113,6 +132,9 @@ impl<'a> Words<'a> {
             ExpressionKind::UnchangedBut(_) => return u64::MAX,
             _ => return 0,
         };
+        if self.is_parameter(name) {
+            return u64::MAX;
+        }
         let mut bits = self.declared(name);
         for tree in &self.trees {
             if tree.name.of(self.source) == name.of(self.source) {

@@ -173,6 +173,16 @@ impl<'s> Falsity<'s> {
     }
 }
 
+/// The use of named statements, and its line.
+fn use_detail(expansion: &Expansion<'_>, used: Span) -> Result<Detail, AllocError> {
+    let shown = used.of(expansion.scope.source);
+    Ok(Detail {
+        said: Said::Name,
+        text: Vec::from_slice(expansion.scope.alloc, shown)?,
+        line: line_of(expansion, used),
+    })
+}
+
 /// What is reported of a condition that is false.
 #[derive(Drop)]
 pub(crate) struct Finding<'s> {
@@ -182,6 +192,8 @@ pub(crate) struct Finding<'s> {
     pub(crate) what: Span,
     pub(crate) place: Span,
     pub(crate) part: Option<usize>,
+    /// The use of named statements in which its step stands.
+    pub(crate) used: Option<Span>,
     pub(crate) sentence: Vec<u8>,
     pub(crate) falsity: Falsity<'s>,
     pub(crate) words: Words,
@@ -205,7 +217,10 @@ impl Finding<'_> {
         if !reports.put(key, self.place, self.part, &self.sentence)? {
             return Ok(false);
         }
-        let details = self.falsity.details(expansion)?;
+        let mut details = self.falsity.details(expansion)?;
+        if let Some(used) = self.used {
+            details.push(use_detail(expansion, used)?)?;
+        }
         reports.explain(
             details,
             self.moved,

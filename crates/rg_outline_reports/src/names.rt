@@ -57,9 +57,12 @@ pub(crate) fn report_unused(
         report(expansion, reports, said, declaration.name)?;
     }
     for head in &written.heads {
-        if let HeadKind::Let(named) = head.kind {
-            report(expansion, reports, b"nothing uses the name `", named.name)?;
-        }
+        let name = match head.kind {
+            HeadKind::Let(named) => named.name,
+            HeadKind::Procedure(named) => named.name,
+            _ => continue,
+        };
+        report(expansion, reports, b"nothing uses the name `", name)?;
     }
     Ok(())
 }

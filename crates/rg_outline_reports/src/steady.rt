@@ -132,6 +132,7 @@ pub(crate) fn report_unstable(
         what: falsity.span(expansion),
         place: falsity.place(expansion, assertion.span),
         part: Some(line.part),
+        used: expansion.statement(line.statement).used,
         sentence: Vec::from_slice(expansion.scope.alloc, sentence)?,
         words: falsity.words(expansion)?,
         falsity,

@@ -111,6 +111,7 @@ fn put(
         what,
         place,
         part: Some(step.part),
+        used: step.statement.used,
         sentence,
         falsity,
         words,

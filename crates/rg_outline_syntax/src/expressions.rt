@@ -1,6 +1,6 @@
 //! Formulas and values, by precedence.
 
-use crate::infix::{IMPLICATION, Infix, LEAF, UNIT, VALUE, infix_of};
+use crate::infix::{COMPARISON, IMPLICATION, Infix, LEAF, UNIT, VALUE, infix_of};
 use crate::parser::{DEEPEST, Parser};
 use crate::written::{Binder, ExpressionKind, List, Range};
 use crate::{Keyword, Kind, ShapeFault, Span, Symbol};
@@ -152,9 +152,9 @@ impl Parser<'_> {
         if self.takes(Kind::Keyword(Keyword::If)) {
             let test = self.climb(IMPLICATION, depth);
             self.want(Kind::Keyword(Keyword::Then), "`then` is wanted here");
-            let yes = self.climb(VALUE, depth);
+            let yes = self.chosen(depth);
             self.want(Kind::Keyword(Keyword::Else), "`else` is wanted here");
-            let no = self.climb(VALUE, depth);
+            let no = self.chosen(depth);
             self.want_closed();
             return self.add(start, ExpressionKind::Choice { test, yes, no });
         }
@@ -164,6 +164,19 @@ impl Parser<'_> {
             self.refuse(ShapeFault::GroupPrimed);
         }
         self.add(start, ExpressionKind::Group(inner))
+    }
+
+    /// A value that an `if` gives.
+    #[cycle(expressions)]
+    fn chosen(&mut self, depth: u32) -> usize {
+        if self.begins_unit() {
+            return self.refuse(ShapeFault::ChoiceOfFormulas);
+        }
+        let value = self.climb(VALUE, depth);
+        if self.infix_within(IMPLICATION, COMPARISON).is_some() {
+            self.refuse(ShapeFault::ChoiceOfFormulas);
+        }
+        value
     }
 
     /// Goes on after a `)`, which has to be next.

@@ -59,6 +59,8 @@ pub enum ShapeFault {
     GroupPrimed,
     /// `sum` or `if` as a value without parentheses.
     ValueIsBare(&'static str),
+    /// A formula where an `if` gives a value.
+    ChoiceOfFormulas,
     /// A `;` after an assertion.
     SemicolonAfterAssertion,
     /// A `;` with no statement between it and this keyword.
@@ -118,6 +120,12 @@ pub enum MeaningFault {
     OutsideFamily(Span, i128, (i128, i128)),
     FormulaWanted,
     ValueWanted,
+    /// A name of statements where a formula or a value stands.
+    IsStatements(Span),
+    /// A name that is no statements'; perhaps this one is meant.
+    NoStatementsNamed(Span, Option<Span>),
+    /// An argument of statements with an index that reads words.
+    IndexPassed,
     /// A prime where one state is spoken of.
     PrimeHere,
     PrimedAlready,

@@ -28,6 +28,6 @@ pub use texts::Texts;
 pub use tokens::{Token, Tokens};
 pub use written::{
     Assignment, Binder, Clause, Comparison, Conditional, Declaration, Expression, ExpressionKind,
-    Head, HeadKind, Item, ItemKind, Junction, Let, List, Operator, PartWritten, Range, Standing,
-    Written,
+    Head, HeadKind, Item, ItemKind, Junction, Let, List, Operator, PartWritten, Procedure, Range,
+    Standing, Written,
 };

@@ -3,7 +3,8 @@
 use crate::infix::{Infix, LEAF};
 use crate::parser::{DEEPEST, Parser};
 use crate::written::{
-    Clause, Comparison, Declaration, Head, HeadKind, Let, List, PartWritten, Standing, Written,
+    Clause, Comparison, Declaration, Head, HeadKind, Let, List, PartWritten, Procedure, Standing,
+    Written,
 };
 use crate::{Fault, Keyword, Kind, ShapeFault, Span, Symbol, Tokens};
 use std::alloc::Global;
@@ -102,20 +103,42 @@ impl Parser<'_> {
                 span: self.since(start),
             };
         }
+        self.named_head()
+    }
+
+    /// A name for a tree or for statements, after its `let`.
+    fn named_head(&mut self) -> Head {
         let name = self.name("a name");
         let parameters = self.parameters();
         let equal = Symbol::Infix(Infix::Compare(Comparison::Equal));
         self.want(Kind::Symbol(equal), "`=` is wanted here");
-        let named = Let {
-            name,
-            parameters,
-            body: self.formula(),
-            span: self.since(name),
+        let begin = self.span();
+        let kind = if self.takes(Kind::Keyword(Keyword::Begin)) {
+            let body = self.body(begin);
+            HeadKind::Procedure(Procedure {
+                name,
+                parameters,
+                body,
+                span: self.since(name),
+            })
+        } else {
+            HeadKind::Let(Let {
+                name,
+                parameters,
+                body: self.formula(),
+                span: self.since(name),
+            })
         };
-        Head {
-            kind: HeadKind::Let(named),
-            span: name,
-        }
+        Head { kind, span: name }
+    }
+
+    /// The block after a `begin`, and the `end` after it.
+    fn body(&mut self, begin: Span) -> List {
+        self.after_else = None;
+        self.outdented = None;
+        let body = self.block(DEEPEST);
+        self.want_end(begin);
+        body
     }
 
     /// The parameters of a name for a tree, if it has any.
@@ -136,7 +159,7 @@ impl Parser<'_> {
     }
 
     /// The kind of the token after the next one.
-    fn kind_after(&self) -> Kind {
+    pub(crate) fn kind_after(&self) -> Kind {
         self.tokens.at(self.place.saturating_add(1)).kind
     }
 
@@ -214,10 +237,7 @@ impl Parser<'_> {
             "`begin`",
             "`begin` is wanted here, or one of `let`, `owns`, `pre`, `rely`, `guar`, `post`",
         );
-        self.after_else = None;
-        self.outdented = None;
-        let body = self.block(DEEPEST);
-        self.want_end(begin);
+        let body = self.body(begin);
         PartWritten {
             name,
             index,

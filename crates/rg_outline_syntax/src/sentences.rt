@@ -71,6 +71,9 @@ impl ShapeFault {
                 "a prime stands behind a word or a name alone; give the formula a name by `let`"
             }
             Self::ValueIsBare(_) => "put parentheses round {} where it is a value",
+            Self::ChoiceOfFormulas => {
+                "an `if` gives a value: say `(c implies F) and (not c implies G)`"
+            }
             Self::SemicolonAfterAssertion => {
                 "the `;` stands directly behind the statement, before the assertion"
             }
@@ -119,6 +122,14 @@ impl MeaningFault {
             Self::IsValue(_) => "{} is a value here: it has no arguments and no index",
             Self::IsWord(_) => "{} is a word: an index stands in `[` `]`",
             Self::IsNoWord(_) => "{} isn't a word; its arguments stand in parentheses",
+            Self::IsStatements(_) => "{} names statements: it stands where a statement does",
+            Self::NoStatementsNamed(_, None) => {
+                "{} names no statements, and an assignment goes on with `:=`"
+            }
+            Self::NoStatementsNamed(_, Some(_)) => "no statements are named {}: do you mean {}?",
+            Self::IndexPassed => {
+                "statements aren't given a member that an index over words chooses: give them the index"
+            }
             Self::ClauseTwice => "a second {}",
             Self::PartTwice { .. } => "a second part is named `{}`",
             _ => self.number_template(),
@@ -182,8 +193,12 @@ impl MeaningFault {
     fn inserts(self, found: Insert) -> Inserts {
         match self {
             Self::NothingNamed(Some(near)) => filled(&[found, Quoted(near)]),
-            Self::NoWordNamed(name, Some(near)) => filled(&[Quoted(name), Quoted(near)]),
+            Self::NoWordNamed(name, Some(near)) | Self::NoStatementsNamed(name, Some(near)) => {
+                filled(&[Quoted(name), Quoted(near)])
+            }
             Self::NoWordNamed(name, None)
+            | Self::NoStatementsNamed(name, None)
+            | Self::IsStatements(name)
             | Self::NoIndex(name)
             | Self::NumberPrimed(name)
             | Self::IsValue(name)

@@ -1,6 +1,6 @@
 //! Statements, assertions and blocks.
 
-use crate::infix::VALUE;
+use crate::infix::{LEAF, VALUE};
 use crate::parser::{DEEPEST, Parser};
 use crate::written::{Assignment, Item, ItemKind, List};
 use crate::{Keyword, Kind, ShapeFault, Span, Symbol};
@@ -101,10 +101,21 @@ impl Parser<'_> {
                 self.step();
                 ItemKind::Atomic(self.assignments(start))
             }
+            Kind::Name if self.begins_use() => ItemKind::Use(self.climb(LEAF, DEEPEST)),
             Kind::Name => ItemKind::Assign(self.assignment()),
             _ => return self.refuse(ShapeFault::NameWanted("a statement")),
         };
         self.add_item(self.since(start), kind)
+    }
+
+    /// Whether the name that is next stands for statements: arguments come after it, or nothing of a statement.
+    fn begins_use(&self) -> bool {
+        matches!(
+            self.kind_after(),
+            Kind::End
+                | Kind::Keyword(Keyword::End | Keyword::Else)
+                | Kind::Symbol(Symbol::OpenParenthesis | Symbol::Semicolon | Symbol::OpenBrace)
+        )
     }
 
     fn await_kind(&mut self) -> ItemKind {

@@ -136,6 +136,8 @@ pub struct Item {
 pub enum ItemKind {
     Assertion(usize),
     Skip,
+    /// A use of named statements: an expression.
+    Use(usize),
     Assign(usize),
     Atomic(List),
     /// A guard and, where it has them, assignments.
@@ -167,6 +169,17 @@ pub struct Let {
     pub span: Span,
 }
 
+/// A name for statements, with parameters, which are a list of `names`.
+#[derive(Clone, Copy)]
+pub struct Procedure {
+    pub name: Span,
+    pub parameters: List,
+    /// A list of `listed` items.
+    pub body: List,
+    /// From the name to the end of the body.
+    pub span: Span,
+}
+
 /// Which formula of a specification a clause gives.
 #[derive(Clone, Copy, PartialEq, Eq)]
 pub enum Clause {
@@ -184,10 +197,11 @@ pub struct Head {
     pub span: Span,
 }
 
-/// A name for a tree, what is owned, or a clause of the specification.
+/// A name for a tree or for statements, what is owned, or a clause of the specification.
 #[derive(Clone, Copy)]
 pub enum HeadKind {
     Let(Let),
+    Procedure(Procedure),
     /// Words, which are `listed` expressions.
     Owns(List),
     /// A clause with its formula.

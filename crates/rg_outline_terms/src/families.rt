@@ -94,30 +94,42 @@ impl Scope<'_> {
         }
     }
 
-    /// Makes a name for a tree known, up to a place of the outline. Faults are the first `MeaningFault`, and `FaultKind::Memory`.
+    /// Makes a name for a tree or for statements known, up to a place of the outline. Faults are the first `MeaningFault`, and `FaultKind::Memory`.
     pub fn name_head(&mut self, head: Head, until: usize) {
-        if let HeadKind::Let(named) = head.kind {
-            self.refuse_taken(named.name);
-            self.refuse_parameters(named);
-            if named.parameters.is_empty() {
-                // (so that its faults are reported where it is named)
-                self.elaborate(named.body, DEEPEST);
+        match head.kind {
+            HeadKind::Let(named) => {
+                self.refuse_new(named.name, named.parameters);
+                if named.parameters.is_empty() {
+                    // (so that its faults are reported where it is named)
+                    self.elaborate(named.body, DEEPEST);
+                }
+                self.know_after(named.name, named.span, until, Meaning::Let(named));
             }
-            let known = Span {
-                start: named.span.end,
-                end: until,
-            };
-            self.know(named.name, known, Meaning::Let(named));
+            HeadKind::Procedure(named) => {
+                self.refuse_new(named.name, named.parameters);
+                self.know_after(named.name, named.span, until, Meaning::Procedure(named));
+            }
+            _ => {}
         }
     }
 
-    /// Refuses a parameter whose name something has already: an earlier parameter, or the tree of this name.
-    fn refuse_parameters(&mut self, named: Let) {
-        let parameters = self.written.named(named.parameters);
+    /// Adds a name that is known after the place where it is given, up to another place.
+    fn know_after(&mut self, name: Span, given: Span, until: usize, meaning: Meaning) {
+        let known = Span {
+            start: given.end,
+            end: until,
+        };
+        self.know(name, known, meaning);
+    }
+
+    /// Refuses a new name that something has already, and a parameter whose name something has: an earlier parameter, or what is named here.
+    fn refuse_new(&mut self, name: Span, parameters: List) {
+        self.refuse_taken(name);
+        let parameters = self.written.named(parameters);
         for (place, parameter) in parameters.iter().enumerate() {
             self.refuse_taken(*parameter);
             let earlier = parameters.get(..place).unwrap_or(&[]);
-            if self.has_name(earlier, *parameter) || self.has_name(&[named.name], *parameter) {
+            if self.has_name(earlier, *parameter) || self.has_name(&[name], *parameter) {
                 self.refuse(MeaningFault::ParameterTwice, *parameter);
             }
         }

@@ -2,7 +2,7 @@
 
 use crate::families::Family;
 use crate::scope::Scope;
-use rg_outline_syntax::{Binding, Fault, Let, MeaningFault, Span};
+use rg_outline_syntax::{Binding, Fault, Let, MeaningFault, Procedure, Span};
 
 /// What a name stands for.
 #[derive(Clone, Copy)]
@@ -11,6 +11,8 @@ pub enum Meaning {
     Family(Family),
     /// A formula or a value under a name, perhaps with parameters.
     Let(Let),
+    /// Statements under a name, perhaps with parameters.
+    Procedure(Procedure),
     /// A tree: an argument, or the number of an index.
     Tree(usize),
 }
@@ -88,13 +90,28 @@ impl Scope<'_> {
 
     /// A name that is known here and nearly the one that stands here.
     pub(crate) fn near(&self, name: Span) -> Option<Span> {
-        let text = self.text(name);
         for named in &self.names {
-            if named.is_known(name) && is_near(self.text(named.name), text) {
+            if self.is_near_name(*named, name) {
                 return Some(named.name);
             }
         }
         None
+    }
+
+    /// A name of statements that is known here and nearly the one that stands here.
+    pub(crate) fn near_statements(&self, name: Span) -> Option<Span> {
+        for named in &self.names {
+            if matches!(named.meaning, Meaning::Procedure(_)) && self.is_near_name(*named, name) {
+                return Some(named.name);
+            }
+        }
+        None
+    }
+
+    /// Whether a name is known at a place, and nearly the one that stands there.
+    fn is_near_name(&self, named: Named, name: Span) -> bool {
+        let (known, text) = (self.text(named.name), self.text(name));
+        named.is_known(name) && known != text && is_near(known, text)
     }
 
     /// Refuses a new name where something has it already.

@@ -2,8 +2,9 @@
 
 use crate::Meaning;
 use crate::chosen::Chosen;
+use crate::elaborate::DEEPEST;
 use crate::scope::Scope;
-use rg_outline_syntax::{Let, List, MeaningFault, Span};
+use rg_outline_syntax::{Expression, ExpressionKind, Let, List, MeaningFault, Span};
 
 /// A name as it is used.
 #[derive(Clone, Copy)]
@@ -27,6 +28,10 @@ impl Scope<'_> {
         match named.meaning {
             Meaning::Tree(tree) => self.argument(used, tree),
             Meaning::Let(called) => self.called(used, called, depth),
+            Meaning::Procedure(called) => {
+                self.refuse(MeaningFault::IsStatements(called.name), used.span);
+                0
+            }
             Meaning::Family(family) => {
                 if used.has_arguments {
                     self.refuse(MeaningFault::IsWord(used.name), used.span);
@@ -74,13 +79,13 @@ impl Scope<'_> {
     }
 
     /// Refuses a use that has other arguments than the name has parameters.
-    fn refuse_arguments(&mut self, used: Use, called: Let) {
+    fn refuse_arguments(&mut self, used: Use, name: Span, parameters: List) {
         if !used.has_arguments && !used.listed.is_empty() {
             self.refuse(MeaningFault::IsNoWord(used.name), used.span);
         }
-        let (wanted, given) = (called.parameters.len(), used.listed.len());
+        let (wanted, given) = (parameters.len(), used.listed.len());
         if wanted != given {
-            let kind = MeaningFault::CountDiffers(called.name, "parameters", wanted, given);
+            let kind = MeaningFault::CountDiffers(name, "parameters", wanted, given);
             self.refuse(kind, used.span);
         }
     }
@@ -88,17 +93,13 @@ impl Scope<'_> {
     /// The tree of a name with its arguments. After a fault its parameters and the use stay known: they say where the fault is.
     #[cycle(elaborate)]
     fn called(&mut self, used: Use, called: Let, depth: u32) -> usize {
-        self.refuse_arguments(used, called);
+        self.refuse_arguments(used, called.name, called.parameters);
         let first = self.passed.len();
-        for place in used.listed.start..used.listed.end {
-            let argument = self.written.listed.get(place).copied().unwrap_or(0);
-            let tree = self.elaborate(argument, depth);
-            let stored = self.passed.push(tree);
-            self.want_stored(stored.is_ok());
-        }
+        self.work_out(used.listed, depth);
         let arguments = self.keep_arguments(first);
         let mark = self.names.len();
-        self.pass(used, called, first);
+        let known = self.expression(called.body).span;
+        self.pass(used, called.parameters, known, first);
         let tree = self.elaborate(called.body, depth);
         let tree = if used.is_primed {
             self.in_next_state(tree)
@@ -110,6 +111,66 @@ impl Scope<'_> {
         }
         self.forget(mark);
         self.placed_use(used, tree, arguments)
+    }
+
+    /// Works out arguments, and adds them to those that are passed.
+    #[cycle(elaborate)]
+    fn work_out(&mut self, listed: List, depth: u32) {
+        for place in listed.start..listed.end {
+            let argument = self.written.listed.get(place).copied().unwrap_or(0);
+            let tree = self.elaborate(argument, depth);
+            let stored = self.passed.push(tree);
+            self.want_stored(stored.is_ok());
+        }
+    }
+
+    /// The statements for which a use stands: its arguments are known as their parameters until they are left. After a fault there are none.
+    pub fn enter(&mut self, index: usize) -> List {
+        let Expression { kind, span } = self.expression(index);
+        let ExpressionKind::Name {
+            name,
+            listed,
+            has_arguments,
+            is_primed,
+        } = kind
+        else {
+            return List::EMPTY;
+        };
+        let used = Use {
+            name,
+            listed,
+            has_arguments,
+            is_primed,
+            span,
+        };
+        let Some(Meaning::Procedure(called)) = self.find(name).map(|named| named.meaning) else {
+            let near = self.near_statements(name);
+            self.refuse(MeaningFault::NoStatementsNamed(name, near), span);
+            return List::EMPTY;
+        };
+        self.refuse_arguments(used, called.name, called.parameters);
+        let (first, chosen) = (self.passed.len(), self.chosen.len());
+        self.work_out(listed, DEEPEST);
+        if is_primed {
+            self.refuse(MeaningFault::PrimeHere, span);
+        }
+        if chosen < self.chosen.len() {
+            self.refuse(MeaningFault::IndexPassed, span);
+        }
+        self.pass(used, called.parameters, called.span, first);
+        called.body
+    }
+
+    /// Leaves the statements for which a use stands: forgets the names that were added after the first so many. After a fault they stay known.
+    pub fn leave(&mut self, index: usize, names: usize) {
+        let has_parameters = matches!(
+            self.expression(index).kind,
+            ExpressionKind::Name { listed, .. } if !listed.is_empty()
+        );
+        if has_parameters && !self.is_stopped() {
+            self.uses.pop();
+        }
+        self.forget(names);
     }
 
     /// Keeps the arguments that were passed from a place on, for the tree of their use.
@@ -124,16 +185,15 @@ impl Scope<'_> {
         List { start, end }
     }
 
-    /// Makes the parameters of a name known as the arguments that were passed from a place on, and notes the use where it has any.
-    fn pass(&mut self, used: Use, called: Let, first: usize) {
-        let known = self.expression(called.body).span;
-        for (place, parameter) in self.written.named(called.parameters).iter().enumerate() {
+    /// Makes parameters known within a piece of the outline as the arguments that were passed from a place on, and notes the use where there are any.
+    fn pass(&mut self, used: Use, parameters: List, known: Span, first: usize) {
+        for (place, parameter) in self.written.named(parameters).iter().enumerate() {
             let place = first.saturating_add(place);
             let tree = self.passed.get(place).copied().unwrap_or(0);
             self.know(*parameter, known, Meaning::Tree(tree));
         }
         self.passed.truncate(first);
-        if !called.parameters.is_empty() && !self.is_stopped() {
+        if !parameters.is_empty() && !self.is_stopped() {
             let stored = self.uses.push(used.span);
             self.want_stored(stored.is_ok());
         }

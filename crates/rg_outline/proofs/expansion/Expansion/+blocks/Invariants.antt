@@ -12,3 +12,6 @@ decreases-statement_of l = 3 * l.depth + 1
 
 abbrev pub decreases-take_items : goal.decreases-take_items
 decreases-take_items l = 3 * l.depth + 2
+
+abbrev pub decreases-use_statements : goal.decreases-use_statements
+decreases-use_statements l = 3 * l.depth + 1

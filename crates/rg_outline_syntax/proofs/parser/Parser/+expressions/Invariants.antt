@@ -33,3 +33,6 @@ decreases-leaf l = 7 * l.depth + 6
 
 abbrev pub decreases-unit : goal.decreases-unit
 decreases-unit l = 7 * l.depth + 7
+
+abbrev pub decreases-chosen : goal.decreases-chosen
+decreases-chosen l = 7 * l.depth + 2

@@ -11,7 +11,7 @@ abbrev pub decreases-number_of : goal.decreases-number_of
 decreases-number_of l = 7 * l.depth + 1
 
 abbrev pub decreases-called : goal.decreases-called
-decreases-called l = 7 * l.depth + 1
+decreases-called l = 7 * l.depth + 2
 
 abbrev pub decreases-both : goal.decreases-both
 decreases-both l = 7 * l.depth + 2
@@ -42,3 +42,6 @@ decreases-named l = 7 * l.depth + 4
 
 abbrev pub decreases-unchanged : goal.decreases-unchanged
 decreases-unchanged l = 7 * l.depth + 4
+
+abbrev pub decreases-work_out : goal.decreases-work_out
+decreases-work_out l = 7 * l.depth + 1
