@@ -4,7 +4,7 @@ ghost use Rattle.std.specs.Prelude.{◌≡◌, ◌++◌, decimal, string_bytes, 
 ghost use Rattle.rg_c_values.specs.CNames.{c_name};
 ghost use Rattle.rg_c_values.specs.Arrays.{name_at, member_of};
 ghost use Rattle.rg_c_values.specs.Items.{read_of};
-ghost use Rattle.rg_c_values.specs.Printed.{operator_text, shift_text, comparison_text, joint_text, truth_text, number_text, cast_text, read_text, word_text, casts_text, read_before, read_after, item_before, item_after, opening, closing, is_tight, is_bare, is_bare_test, is_loose, is_chain, is_bare_first, value_text, index_text, test_text};
+ghost use Rattle.rg_c_values.specs.Printed.{operator_text, shift_text, comparison_text, joint_text, truth_text, number_text, cast_text, read_text, word_text, casts_text, read_before, read_after, item_before, item_after, opening, closing, enclosed, is_tight, is_bare, is_bare_test, is_loose, is_chain, is_bare_first, value_text, index_text, test_text};
 ghost use Rattle.rg_c_values.specs.View.{value, test};
 
 use crate::arrays::{push_array_name, push_member_of, push_name};
@@ -43,36 +43,24 @@ pub fn print_value(
         Value::Word(_, k) => push_word(text, layout, reads, *k),
         Value::Cast(bits, v) => {
             push_cast(text, *bits)?;
-            push_opening(text, is_tight(v))?;
-            print_value(text, layout, reads, v)?;
-            push_closing(text, is_tight(v))
+            push_enclosed(text, layout, reads, is_tight(v), v)
         }
         Value::Inverse(_, v) => {
             text.push_str("~")?;
-            push_opening(text, is_tight(v))?;
-            print_value(text, layout, reads, v)?;
-            push_closing(text, is_tight(v))
+            push_enclosed(text, layout, reads, is_tight(v), v)
         }
         Value::Binary(operator, _, a, b) => {
-            push_opening(text, is_bare(a))?;
-            print_value(text, layout, reads, a)?;
-            push_closing(text, is_bare(a))?;
+            push_enclosed(text, layout, reads, is_bare(a), a)?;
             text.push_str(operator_text(*operator))?;
-            push_opening(text, is_bare(b))?;
-            print_value(text, layout, reads, b)?;
-            push_closing(text, is_bare(b))
+            push_enclosed(text, layout, reads, is_bare(b), b)
         }
         Value::Rest(_, v, n) => {
-            push_opening(text, is_tight(v))?;
-            print_value(text, layout, reads, v)?;
-            push_closing(text, is_tight(v))?;
+            push_enclosed(text, layout, reads, is_tight(v), v)?;
             text.push_str(" % ")?;
             push_number(text, *n)
         }
         Value::Shifted(shift, _, v, count) => {
-            push_opening(text, is_bare(v))?;
-            print_value(text, layout, reads, v)?;
-            push_closing(text, is_bare(v))?;
+            push_enclosed(text, layout, reads, is_bare(v), v)?;
             text.push_str(shift_text(*shift))?;
             push_number(text, u64::from(*count))
         }
@@ -82,23 +70,29 @@ pub fn print_value(
                 print_index(text, layout, reads, t)?;
                 return push_item_after(text, reads, first);
             }
-            let bare_test = is_bare_test(t);
-            let bare_first = is_bare(a);
-            let bare_second = is_bare(b);
-            push_opening(text, bare_test)?;
-            print_test(text, layout, reads, t)?;
-            push_closing(text, bare_test)?;
+            push_enclosed_test(text, layout, reads, is_bare_test(t), t)?;
             text.push_str(" ? ")?;
-            push_opening(text, bare_first)?;
-            print_value(text, layout, reads, a)?;
-            push_closing(text, bare_first)?;
+            push_enclosed(text, layout, reads, is_bare(a), a)?;
             text.push_str(" : ")?;
-            push_opening(text, bare_second)?;
-            print_value(text, layout, reads, b)?;
-            push_closing(text, bare_second)?;
-            Ok(())
+            push_enclosed(text, layout, reads, is_bare(b), b)
         }
     }
+}
+
+/// Adds the text of a value, in parentheses unless it stands bare.
+#[cycle(print)]
+fn push_enclosed(
+    text: &mut String,
+    layout: &Layout,
+    reads: &[Read],
+    bare: bool,
+    v: &Value,
+) -> Result<(), AllocError>
+    ensures { OnOk result (string_bytes text.new ≡ string_bytes text.old ++ enclosed bare (value_text layout.now reads.now (value v.now))) }
+{
+    push_opening(text, bare)?;
+    print_value(text, layout, reads, v)?;
+    push_closing(text, bare)
 }
 
 /// Adds the index of an item: what a test compares.
@@ -115,6 +109,22 @@ fn print_index(
         Test::Compared(_, index, _) => print_value(text, layout, reads, index),
         _ => Ok(()),
     }
+}
+
+/// Adds the text of a test, in parentheses unless it stands bare.
+#[cycle(print)]
+fn push_enclosed_test(
+    text: &mut String,
+    layout: &Layout,
+    reads: &[Read],
+    bare: bool,
+    t: &Test,
+) -> Result<(), AllocError>
+    ensures { OnOk result (string_bytes text.new ≡ string_bytes text.old ++ enclosed bare (test_text layout.now reads.now (test t.now))) }
+{
+    push_opening(text, bare)?;
+    print_test(text, layout, reads, t)?;
+    push_closing(text, bare)
 }
 
 /// Adds the text of a test, with the words read as by `print_value`.
@@ -136,27 +146,17 @@ pub fn print_test(
         }
         Test::Not(t) => {
             text.push_str("!")?;
-            push_opening(text, is_bare_test(t))?;
-            print_test(text, layout, reads, t)?;
-            push_closing(text, is_bare_test(t))
+            push_enclosed_test(text, layout, reads, is_bare_test(t), t)
         }
         Test::Joined(joint, t, u) => {
-            push_opening(text, is_bare_first(*joint, t))?;
-            print_test(text, layout, reads, t)?;
-            push_closing(text, is_bare_first(*joint, t))?;
+            push_enclosed_test(text, layout, reads, is_bare_first(*joint, t), t)?;
             text.push_str(joint_text(*joint))?;
-            push_opening(text, is_bare_test(u))?;
-            print_test(text, layout, reads, u)?;
-            push_closing(text, is_bare_test(u))
+            push_enclosed_test(text, layout, reads, is_bare_test(u), u)
         }
         Test::Compared(comparison, a, b) => {
-            push_opening(text, is_bare(a))?;
-            print_value(text, layout, reads, a)?;
-            push_closing(text, is_bare(a))?;
+            push_enclosed(text, layout, reads, is_bare(a), a)?;
             text.push_str(comparison_text(*comparison))?;
-            push_opening(text, is_bare(b))?;
-            print_value(text, layout, reads, b)?;
-            push_closing(text, is_bare(b))
+            push_enclosed(text, layout, reads, is_bare(b), b)
         }
     }
 }
