@@ -9,3 +9,5 @@ pub mod Fits
 pub mod MovingFits
 pub mod FunctionsApart
 pub mod NamesIn
+pub mod TogetherParts
+pub mod TogetherRight

@@ -7,6 +7,7 @@ pub mod Source
 pub mod Texts
 pub mod Reads
 pub mod Used
+pub mod Together
 pub mod StepTexts
 pub mod Bodies
 pub mod Pages

@@ -18,6 +18,7 @@ use Rattle.rg_c.specs.Lines.{inner, mark_line, loop_open, leave_loop, wait_line,
 use Rattle.rg_c.specs.Reads.{is_one_load, load_reads, kind_reads, local_reads}
 use Rattle.rg_c.specs.Used.{is_used}
 use Rattle.rg_c.specs.Texts.{name_of, type_of, actions_text}
+use Rattle.rg_c.specs.Together.{changes_text}
 
 -- the test is always true
 abbrev pub is_true : CTest → Bool
@@ -60,10 +61,14 @@ leave_text i Section = leave_line i
 unfoldable pub after_text : List Word → List Read → List ℕ → List Action → List ℕ
 after_text words reads i after = if nat_eq (length after) 0 then [] else done_open i ++ (actions_text words reads (inner i) after ++ block_close i)
 
+-- its changes, where its test was true
+unfoldable pub made_text : List Word → List Read → List ℕ → List Action → List ℕ
+made_text words reads i actions = if nat_eq (length actions) 0 then [] else done_open i ++ (changes_text words reads (inner i) 0 actions ++ block_close i)
+
 -- such a step: in a block, or in a loop until its test is true
 unfoldable pub held_free : List Word → List Read → List ℕ → List ℕ → Way → CTest → List Action → List ℕ
 held_free words reads i mark way t actions =
-    block_open i ++ (marked (inner i) mark ++ (enter_text words (inner i) (is_used way t actions) way ++ (actions_text words reads (inner i) actions ++ (leave_text (inner i) way ++ block_close i))))
+    block_open i ++ (marked (inner i) mark ++ (enter_text words (inner i) (is_used way t actions) way ++ (changes_text words reads (inner i) 0 actions ++ (leave_text (inner i) way ++ block_close i))))
 
 unfoldable pub held_begins : List Word → List Read → List ℕ → List ℕ → Way → CTest → List Action → List ℕ
 held_begins words reads i mark way t actions =
@@ -74,7 +79,7 @@ held_ends i way = leave_text (inner i) way ++ (leave_loop (inner i) (codes "rgc_
 
 unfoldable pub held_tested : List Word → List Read → List ℕ → List ℕ → Way → CTest → List Action → List ℕ
 held_tested words reads i mark way t actions =
-    held_begins words reads i mark way t actions ++ (after_text words reads (inner i) actions ++ held_ends i way)
+    held_begins words reads i mark way t actions ++ (made_text words reads (inner i) actions ++ held_ends i way)
 
 unfoldable pub held_text : List Word → List Read → List ℕ → List ℕ → Way → CTest → List Action → List ℕ
 held_text words reads i mark way t actions = if is_true t then held_free words reads i mark way t actions else held_tested words reads i mark way t actions
@@ -108,7 +113,7 @@ exchange_text words reads i mark c =
 
 -- a step without locals: it waits for its test, and then assigns
 unfoldable pub bare_text : List Word → List Kind → List ℕ → List ℕ → CStep → List ℕ
-bare_text words kinds i mark c = waits words (kind_reads kinds) i mark c.test ++ actions_text words (kind_reads kinds) i c.actions
+bare_text words kinds i mark c = waits words (kind_reads kinds) i mark c.test ++ changes_text words (kind_reads kinds) i 0 c.actions
 
 -- a step that is done in this way
 unfoldable pub done_text : List Word → List Kind → List ℕ → List ℕ → Way → CTest → List Assignment → List ℕ

@@ -2,34 +2,32 @@
 
 ghost use Rattle.std.specs.Prelude.{◌≡◌, ◌++◌, ◌<◌, [], length, map, string_bytes, IfOk, OnOk};
 ghost use Rattle.rg_words.specs.Layout.{widths_of};
-ghost use Rattle.rg_tree.specs.Fits.{ExpressionFits, FormulaFits};
-ghost use Rattle.rg_tree.specs.View.{expression, formula};
+ghost use Rattle.rg_tree.specs.Fits.{ExpressionFits};
+ghost use Rattle.rg_tree.specs.View.{expression};
 ghost use Rattle.rg_tree.specs.ConditionTrees.{assignment};
 ghost use Rattle.rg_c_values.specs.Arrays.{member_of};
 ghost use Rattle.rg_c_values.specs.View.{value};
-ghost use Rattle.rg_c_values.specs.Translation.{test_in_c};
-ghost use Rattle.rg_c_values.specs.Printed.{value_text, test_text};
+ghost use Rattle.rg_c_values.specs.Printed.{value_text};
 ghost use Rattle.rg_c.specs.Actions.{loads, begins, copies, exchanges, returns};
 ghost use Rattle.rg_c.specs.Steps.{given, assigned_to, value_for};
 ghost use Rattle.rg_c.specs.Lines.{discard_line};
 ghost use Rattle.rg_c.specs.Texts.{name_of, given_name, type_text, type_of, action_text, actions_text};
 ghost use Rattle.rg_c.specs.Fitting.{AssignmentsFit};
 
+use crate::given::{push_change, translated};
 use crate::lines::{
-    inner, push_begin_lines, push_block_close, push_change_line, push_copy_line, push_discard_line,
-    push_exchange_line, push_if_open, push_load_line, push_return_line, push_store_line,
-    push_write_line,
+    push_begin_lines, push_change_line, push_copy_line, push_discard_line, push_exchange_line,
+    push_load_line, push_return_line, push_store_line, push_write_line,
 };
 use crate::reads::is_load_of;
 use rg_c_plan::change::change_of;
 use rg_c_plan::kind::Kind;
 use rg_c_plan::way::{has_atomic_accesses, kind_at};
 use rg_c_values::arrays::{push_member_of, push_name};
-use rg_c_values::print::{Read, print_test, print_value};
-use rg_c_values::translate::{stored_in_c, test_in_c};
+use rg_c_values::print::{Read, print_value};
+use rg_c_values::translate::stored_in_c;
 use rg_c_values::tree::Value;
 use rg_tree::condition::Assign;
-use rg_tree::tree::Formula;
 use rg_words::Layout;
 use std::alloc::{AllocError, Global};
 
@@ -96,7 +94,7 @@ pub(crate) fn stored_value(alloc: Global, layout: &Layout, a: &Assign) -> Result
 }
 
 /// The text of a value.
-fn value_text(
+pub(crate) fn value_text(
     alloc: Global,
     layout: &Layout,
     reads: &[Read],
@@ -260,7 +258,7 @@ fn given_name(w: &Words<'_>, to: Target, word: usize) -> Result<String, AllocErr
 }
 
 /// Adds that a word, or its local, gets a value.
-fn push_given(
+pub(crate) fn push_given(
     w: &Words<'_>,
     text: &mut String,
     indent: &str,
@@ -283,19 +281,7 @@ fn push_given(
     }
 }
 
-/// The text of a test.
-fn asked(w: &Words<'_>, f: &Formula) -> Result<String, AllocError>
-    requires { FormulaFits (formula f.now) (length w.now.layout.now) }
-    ensures { IfOk result (λ text. string_bytes text ≡ test_text w.now.layout.now w.now.reads.now (test_in_c (widths_of w.now.layout.now) (formula f.now))) }
-{
-    let t = test_in_c(w.alloc, w.layout, f)?;
-    let mut text = String::new(w.alloc);
-    print_test(&mut text, w.layout, w.reads, &t)?;
-    Ok(text)
-}
-
 /// Adds an assignment to a word, or to its local.
-#[tactic(auto, using(crate::proofs::MovingFits::change_fits))]
 fn push_assigned(
     w: &Words<'_>,
     text: &mut String,
@@ -306,17 +292,8 @@ fn push_assigned(
     requires { ExpressionFits (expression a.now.value) (length w.now.layout.now) }
     ensures { OnOk result (string_bytes text.new ≡ string_bytes text.old ++ action_text w.now.layout.now w.now.reads.now indent.now (assigned_to (widths_of w.now.layout.now) w.now.kinds.now to (assignment a.now))) }
 {
-    let v = stored_value(w.alloc, w.layout, a)?;
-    match change_of(a).test {
-        None => push_given(w, text, indent, to, a.word, &v),
-        Some(f) => {
-            let test = asked(w, f)?;
-            let inside = inner(w.alloc, indent)?;
-            push_if_open(text, indent, &test)?;
-            push_given(w, text, &inside, to, a.word, &v)?;
-            push_block_close(text, indent)
-        }
-    }
+    let g = translated(w, to, a)?;
+    push_change(w, text, indent, to, &g)
 }
 
 /// Adds assignments to words, or to their locals.

@@ -3,11 +3,18 @@
 ghost use Rattle.rg_c.specs.Functions.{FunctionsStayApart};
 ghost use Rattle.rg_c.specs.Laws.{StepsAreRight};
 ghost use Rattle.rg_c.specs.Starts.{StartsAreInside};
+ghost use Rattle.rg_c.specs.Together.{StoresAreTogether};
 
 /// Done at once, each step of C makes exactly the step of the program, whatever the kinds of the words.
 #[tactic(auto, using(crate::proofs::StepsRight::steps_are_right))]
 pub fn steps_are_right()
     ensures { StepsAreRight }
+{}
+
+/// Actions that are written as one store to an item of an array do what it does, at an index within the array.
+#[tactic(auto, using(crate::proofs::TogetherRight::stores_are_together))]
+pub fn stores_are_together()
+    ensures { StoresAreTogether }
 {}
 
 /// Each start that a header gives is a state of the words, inside the pre.

@@ -2,6 +2,7 @@
 #![tactic(auto)]
 
 mod actions;
+mod given;
 pub mod header;
 mod heads;
 pub mod laws;

@@ -10,13 +10,15 @@ ghost use Rattle.rg_c.specs.Actions.{begins, copies, returns, exchanges};
 ghost use Rattle.rg_c.specs.declared.actions.Target.TheVariants.{Word, Local};
 ghost use Rattle.rg_c.specs.Steps.{assigned_to, plain_step, exchange_step};
 ghost use Rattle.rg_c.specs.Texts.{actions_text};
+ghost use Rattle.rg_c.specs.Together.{changes_text};
 ghost use Rattle.rg_c.specs.Fitting.{AssignmentsFit};
-ghost use Rattle.rg_c.specs.StepTexts.{is_true, marked, wait_text, waits, enter_text, leave_text, held_free, held_begins, held_ends, held_tested, held_text, loaded_wait, loaded_text, after_text, changed_text, tried_text, before_text, exchange_text, bare_text, done_text};
+ghost use Rattle.rg_c.specs.StepTexts.{is_true, marked, wait_text, waits, enter_text, leave_text, held_free, held_begins, held_ends, held_tested, held_text, loaded_wait, loaded_text, made_text, after_text, changed_text, tried_text, before_text, exchange_text, bare_text, done_text};
 
 use crate::actions::{
     Target, Words, push_all_assigned, push_begin, push_copies, push_discard, push_exchange,
     push_load, push_returns,
 };
+use crate::given::{all_translated, push_changes};
 use crate::lines::{
     inner, push_attempt_line, push_block_close, push_block_open, push_done_line, push_done_open,
     push_else_wait, push_enter_line, push_if_open, push_leave_line, push_leave_loop,
@@ -45,24 +47,47 @@ pub(crate) struct Doing<'a> {
     pub(crate) act: &'a [Assign],
 }
 
-/// Adds its assignments, to words or to their locals, where words are read so.
+/// The words, their kinds, and how they are read.
+fn words_of<'a>(d: &Doing<'a>, reads: &'a [Read]) -> Words<'a>
+    ensures layout { result.layout.now ≡ d.now.layout.now }
+    ensures kinds { result.kinds.now ≡ d.now.kinds.now }
+    ensures reads { result.reads.now ≡ reads.now }
+{
+    Words {
+        alloc: d.alloc,
+        layout: d.layout,
+        kinds: d.kinds,
+        reads,
+    }
+}
+
+/// Adds its assignments to locals, where words are read so.
+fn push_local_act(
+    d: &Doing<'_>,
+    text: &mut String,
+    reads: &[Read],
+    indent: &str,
+) -> Result<(), AllocError>
+    requires { AssignmentsFit (length d.now.layout.now) (map assignment d.now.act.now) }
+    ensures { OnOk result (string_bytes text.new ≡ string_bytes text.old ++ actions_text d.now.layout.now reads.now indent.now (map (assigned_to (widths_of d.now.layout.now) d.now.kinds.now Local) (map assignment d.now.act.now))) }
+{
+    let words = words_of(d, reads);
+    push_all_assigned(&words, text, indent, Target::Local, d.act)
+}
+
+/// Adds its assignments to words, where words are read so.
 fn push_act(
     d: &Doing<'_>,
     text: &mut String,
     reads: &[Read],
     indent: &str,
-    to: Target,
 ) -> Result<(), AllocError>
     requires { AssignmentsFit (length d.now.layout.now) (map assignment d.now.act.now) }
-    ensures { OnOk result (string_bytes text.new ≡ string_bytes text.old ++ actions_text d.now.layout.now reads.now indent.now (map (assigned_to (widths_of d.now.layout.now) d.now.kinds.now to) (map assignment d.now.act.now))) }
+    ensures { OnOk result (string_bytes text.new ≡ string_bytes text.old ++ changes_text d.now.layout.now reads.now indent.now 0 (map (assigned_to (widths_of d.now.layout.now) d.now.kinds.now Word) (map assignment d.now.act.now))) }
 {
-    let words = Words {
-        alloc: d.alloc,
-        layout: d.layout,
-        kinds: d.kinds,
-        reads,
-    };
-    push_all_assigned(&words, text, indent, to, d.act)
+    let words = words_of(d, reads);
+    let gs = all_translated(&words, Target::Word, d.act)?;
+    push_changes(&words, text, indent, &gs)
 }
 
 /// Whether a test is always true.
@@ -172,7 +197,7 @@ fn push_held_free(
     push_block_open(text, d.indent)?;
     push_marked(text, &inside, d.mark)?;
     push_enter(d.alloc, text, d.layout, &inside, used, way)?;
-    push_act(d, text, reads, &inside, Target::Word)?;
+    push_act(d, text, reads, &inside)?;
     push_leave(text, &inside, way)?;
     push_block_close(text, d.indent)
 }
@@ -211,7 +236,7 @@ fn push_held_ends(d: &Doing<'_>, text: &mut String, way: Way) -> Result<(), Allo
 }
 
 /// Adds what comes after a test that was true.
-#[tactic(auto, unfolding(crate::specs::StepTexts::after_text))]
+#[tactic(auto, unfolding(crate::specs::StepTexts::made_text))]
 fn push_made(
     d: &Doing<'_>,
     text: &mut String,
@@ -219,14 +244,14 @@ fn push_made(
     indent: &str,
 ) -> Result<(), AllocError>
     requires { AssignmentsFit (length d.now.layout.now) (map assignment d.now.act.now) }
-    ensures { OnOk result (string_bytes text.new ≡ string_bytes text.old ++ after_text d.now.layout.now reads.now indent.now (map (assigned_to (widths_of d.now.layout.now) d.now.kinds.now Word) (map assignment d.now.act.now))) }
+    ensures { OnOk result (string_bytes text.new ≡ string_bytes text.old ++ made_text d.now.layout.now reads.now indent.now (map (assigned_to (widths_of d.now.layout.now) d.now.kinds.now Word) (map assignment d.now.act.now))) }
 {
     if d.act.len() == 0 {
         return Ok(());
     }
     let deep = inner(d.alloc, indent)?;
     push_done_open(text, indent)?;
-    push_act(d, text, reads, &deep, Target::Word)?;
+    push_act(d, text, reads, &deep)?;
     push_block_close(text, indent)
 }
 
@@ -314,7 +339,7 @@ fn push_changed(
     requires { AssignmentsFit (length d.now.layout.now) (map assignment d.now.act.now) }
     ensures { OnOk result (string_bytes text.new ≡ string_bytes text.old ++ changed_text d.now.layout.now reads.now indent.now (map (assigned_to (widths_of d.now.layout.now) d.now.kinds.now Local) (map assignment d.now.act.now) ++ exchanges word ∷ []) (map returns others.now)) }
 {
-    push_act(d, text, reads, indent, Target::Local)?;
+    push_local_act(d, text, reads, indent)?;
     push_exchange(d.alloc, text, d.layout, indent, word)?;
     push_after(d, text, indent, others)
 }
@@ -398,7 +423,7 @@ fn push_bare(d: &Doing<'_>, text: &mut String) -> Result<(), AllocError>
 {
     let reads = kind_reads(d.alloc, d.kinds)?;
     push_waits(d, text, &reads)?;
-    push_act(d, text, &reads, d.indent, Target::Word)
+    push_act(d, text, &reads, d.indent)
 }
 
 /// Adds a step that is done in this way.

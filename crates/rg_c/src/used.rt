@@ -28,7 +28,7 @@ use std::alloc::{AllocError, Global};
 
 /// Whether a word stands in a value.
 #[cycle(used)]
-fn value_reads(word: usize, v: &Value) -> bool
+pub(crate) fn value_reads(word: usize, v: &Value) -> bool
     ensures { result ≡ value_reads word (value v.now) }
 {
     match v {
