@@ -56,8 +56,15 @@ Run = collections.namedtuple("Run", "library jobs nice keeps began log")
 
 @contextlib.contextmanager
 def locked(path, waiting, tell):
-    """Keeps others out that would hold this lock; where one holds it, that is reported, and waited for."""
-    with open(path, "w") as held:
+    """Keeps others out that would hold this lock, in a folder that is made where it isn't there; where one holds it, that is reported, and waited for. Where
+    the folder can't be written, that is reported, and the script ends."""
+    try:
+        os.makedirs(os.path.dirname(path), exist_ok=True)
+        lock = open(path, "w")
+    except OSError as why:
+        tell(f"the program is made in {os.path.dirname(path)}, which can't be written: {why.strerror}")
+        sys.exit(3)
+    with lock as held:
         try:
             fcntl.flock(held, fcntl.LOCK_EX | fcntl.LOCK_NB)
         except BlockingIOError:
