@@ -9,8 +9,9 @@ use Rattle.rg_tree.specs.Lines.{LineTree}
 use Rattle.rg_tree.specs.Statements.{ProgramTree}
 use Rattle.rgc_outlines.specs.Proved.{IsProvedOutline}
 use Rattle.rgc_outlines.specs.Refused.{IsVerifyRefusal}
+use Rattle.rgc_line.specs.declared.command.Chosen.{Chosen}
 use Rattle.rgc_line.specs.declared.command.Command.{Command}
-use Rattle.rgc_line.specs.declared.command.Command.TheVariants.{Emit, EmitOutline, Accesses, AccessesOutline, Run, RunOutline, Verify}
+use Rattle.rgc_line.specs.declared.command.Command.TheVariants.{Clauses, Emit, EmitOutline, Accesses, AccessesOutline, Run, RunOutline, Verify}
 use Rattle.rgc_line.specs.declared.command.Outlines.{Outlines}
 use Rattle.rgc_line.specs.declared.command.Settings.{Settings}
 use Rattle.rgc_commands.specs.declared.files.Files.{Files}
@@ -32,6 +33,11 @@ device_stop s of files (Usage line) h = absurd h
 -- the next file can't be read, where this one can
 pub read_past : {A : Type 0} (file : Option A) (bytes : A) (line : List ℕ) (rest : Option (List ℕ)) (stop : Stop) → file ≡ Some bytes → IsDevice rest stop → IsDevice (unless_read file line rest) stop
 read_past file bytes line rest stop is h = rw is h
+
+-- the text of a formula or of a condition can't be read
+pub chosen_device : (s : Settings) (t : Bor (List ℕ)) (chosen : Option Chosen) (files : Files) (stop : Stop) → ((rest : Option (List ℕ)) → IsDevice (text_line files rest) stop) → IsStop s (Clauses t chosen) files stop
+chosen_device s t None files stop h = device_stop s (Clauses t None) files stop (h None)
+chosen_device s t (Some chosen) files stop h = device_stop s (Clauses t (Some chosen)) files stop (h (derivation_line files None))
 
 -- no code of files is had: of a command that prints it, or how its steps are done
 pub emit_stop : (s : Settings) (t d p : Bor (List ℕ)) (files : Files) (stop : Stop) → IsFilesStop files stop → IsStop s (Emit t d p) files stop

@@ -37,7 +37,7 @@ use Rattle.rgc_line.specs.declared.command.Command.{Command}
 use Rattle.rgc_line.specs.declared.command.Command.TheVariants as command
 use Rattle.rgc_line.specs.declared.command.Settings.{Settings}
 use Rattle.rgc_commands.specs.declared.answers.Answer.{Answer}
-use Rattle.rgc_commands.specs.declared.answers.Answer.TheVariants.{Numbered, Accepted, Conditions, Formulas, Proved, Unproved, Holds, Clauses, Found, Explained, Code, Run, Verified, Walked, Expanded}
+use Rattle.rgc_commands.specs.declared.answers.Answer.TheVariants.{Numbered, Accepted, Conditions, Formulas, Proved, Unproved, Holds, Clauses, Script, Found, Explained, Code, Run, Verified, Walked, Expanded}
 use Rattle.rgc_commands.specs.declared.code.Coded.{Coded}
 use Rattle.rgc_commands.specs.declared.code.Ready.{Ready}
 use Rattle.rgc_commands.specs.declared.files.Files.{Files}
@@ -177,8 +177,11 @@ IsAnswer s (command.Conditions _ _ true) files (Formulas derived) = (is_plain s.
 IsAnswer s (command.Prove _ _ _ word) files (Proved range pieces) = OfTwo files (HasProofs word range (map string_bytes pieces.items))
 IsAnswer s (command.Prove _ _ _ word) files (Unproved derived unproved) = OfTwo files (LacksProofs word derived unproved.items)
 IsAnswer s (command.Valid _ _) files Holds = OfText files.text (λ text. OfPieces files.proofs (λ proofs. IsProved text (concat proofs) × ShownHolds text))
-IsAnswer s (command.Clauses _ None) files (Clauses clauses) = OfText files.text (λ text. HasClauses text clauses)
-IsAnswer s (command.Clauses _ (Some chosen)) files (Clauses clauses) = OfTwo files (λ text derivation. HasChosenClauses text derivation chosen.condition clauses)
+IsAnswer s (command.Clauses _ None) files (Clauses clauses) = (s.is_smt ≡ false) × OfText files.text (λ text. HasClauses text clauses)
+IsAnswer s (command.Clauses _ (Some chosen)) files (Clauses clauses) = (s.is_smt ≡ false) × OfTwo files (λ text derivation. HasChosenClauses text derivation chosen.condition clauses)
+IsAnswer s (command.Clauses _ None) files (Script condition) = (s.is_smt ≡ true) × OfText files.text (λ text. IsShown text (condition_tree condition))
+IsAnswer s (command.Clauses _ (Some chosen)) files (Script condition) =
+    (s.is_smt ≡ true) × OfTwo files (λ text derivation. IsChosen text derivation chosen.condition (condition_tree condition))
 IsAnswer s (command.Find _ _ None) files (Found condition found) = OfText files.text (λ text. IsJudgedFormula text (condition_tree condition) found)
 IsAnswer s (command.Find _ _ (Some chosen)) files (Found condition found) =
     OfTwo files (λ text derivation. IsChosen text derivation chosen.condition (condition_tree condition) × IsJudged (condition_tree condition) found)

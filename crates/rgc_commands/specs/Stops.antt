@@ -131,19 +131,28 @@ LacksOutlineProofs outline = (unproved : List Unproved) × AreUnprovedOf outline
 abbrev pub asks_for_c : Settings → Bool
 asks_for_c s = s.is_c || (is_some s.prefix || s.is_traced)
 
+-- the settings ask for a form that only one command has: for C or for SMT-LIB
+abbrev pub asks_for_form : Settings → Bool
+asks_for_form s = asks_for_c s || s.is_smt
+
 -- a verdict can be followed by how each step is done in C, without words that are erased; no words are erased else
 abbrev pub fits_verdict : Settings → Bool → Option (Bor (List ℕ)) → Bool
 fits_verdict s is_runs_only text = if s.has_accesses then not is_runs_only && (not (is_some text) && is_plain s.format) else not (is_some s.erase)
 
+-- clauses can be printed as the settings ask for, which have no JSON
+abbrev pub fits_clauses : Settings → Bool
+fits_clauses s = not (asks_for_c s) && (not (is_some s.erase) && is_plain s.format)
+
 -- a command can do what its settings ask for
 abbrev pub fits : Settings → Command → Bool
-fits s (Emit _ _ _) = true
-fits s (EmitOutline _) = true
-fits s (Accesses _ _ _) = not (asks_for_c s)
-fits s (AccessesOutline _) = not (asks_for_c s)
-fits s (Run _ _ _ _ _ _ _) = not (asks_for_c s)
-fits s (Verify _ _ is_runs_only text) = not (asks_for_c s) && fits_verdict s is_runs_only text
-fits s _ = not (asks_for_c s) && not (is_some s.erase)
+fits s (Emit _ _ _) = not s.is_smt
+fits s (EmitOutline _) = not s.is_smt
+fits s (Accesses _ _ _) = not (asks_for_form s)
+fits s (AccessesOutline _) = not (asks_for_form s)
+fits s (Run _ _ _ _ _ _ _) = not (asks_for_form s)
+fits s (Clauses _ _) = fits_clauses s
+fits s (Verify _ _ is_runs_only text) = not (asks_for_form s) && fits_verdict s is_runs_only text
+fits s _ = not (asks_for_form s) && not (is_some s.erase)
 
 -- words of a command that don't fit
 abbrev pub IsWordMisfit : Settings → Command → Type 0

@@ -3,6 +3,7 @@ use Rattle.std.specs.Prelude.{◌≡◌, ℕ, List, [], ◌++◌, map, codes, st
 use Rattle.std.specs.Global.{Global}
 use Rattle.std.specs.declared.vec.Vec.{Vec}
 use Rattle.rg_tree.specs.Conditions.{condition_tree}
+use Rattle.rg_smt.specs.Scripts.{script_text}
 use Rattle.rg_accept.specs.Stages.{parsed_program, derived_program, derived_lines}
 use Rattle.rgc_answers.specs.Accepted.{accepted_text}
 use Rattle.rgc_answers.specs.Blocks.{formulas_text}
@@ -14,7 +15,7 @@ use Rattle.rgc_line.specs.declared.command.Format.{Format}
 use Rattle.rgc_outlines.specs.Verdict.{verdict_text}
 use Rattle.rgc_commands.specs.Explanation.{explanation_text}
 use Rattle.rgc_commands.specs.declared.answers.Answer.{Answer}
-use Rattle.rgc_commands.specs.declared.answers.Answer.TheVariants.{Numbered, Accepted, Conditions, Formulas, Proved, Unproved, Holds, Clauses, Found, Explained, Code, Run, Verified as verified, Walked, Expanded}
+use Rattle.rgc_commands.specs.declared.answers.Answer.TheVariants.{Numbered, Accepted, Conditions, Formulas, Proved, Unproved, Holds, Clauses, Script, Found, Explained, Code, Run, Verified as verified, Walked, Expanded}
 use Rattle.rgc_commands.specs.declared.answers.Verified.{Verified}
 
 -- a verdict, and what is printed after it
@@ -31,6 +32,7 @@ answer_text format (Proved range pieces) = proofs_text format range (map string_
 answer_text format (Unproved derived unproved) = unproved_text format (derived_program derived) (derived_lines derived) unproved.items
 answer_text format Holds = codes "holds\n"
 answer_text format (Clauses clauses) = []
+answer_text format (Script condition) = script_text (condition_tree condition)
 answer_text format (Found condition judged) = found_text (condition_tree condition).words judged
 answer_text format (Explained number entry) = explanation_text number entry
 answer_text format (Code code) = string_bytes code

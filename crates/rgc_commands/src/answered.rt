@@ -3,15 +3,16 @@
 ghost use Rattle.std.specs.Prelude.{◌≡◌, [], true, IfOk, IfErr, OnOk};
 ghost use Rattle.rgc_commands.specs.Answers.{IsAnswer, AreNotesOf};
 ghost use Rattle.rgc_commands.specs.Put.{ArePut};
-ghost use Rattle.rgc_commands.specs.Stops.{IsStop, IsOverOutline, asks_for_c, fits, fits_verdict};
+ghost use Rattle.rgc_commands.specs.Stops.{IsStop, IsOverOutline, asks_for_c, asks_for_form, fits, fits_clauses, fits_verdict};
 
 use crate::answers::{Answer, is_plain};
 use crate::coding::{Asked, accesses, accesses_outline, emit, emit_outline, run, run_outline};
 use crate::files::Files;
 use crate::outlines::{Verification, Written, challenge_outline, expand, verify};
 use crate::sides::Sides;
+use crate::smt::clauses_or_script;
 use crate::stops::Stop;
-use crate::texts::{check, clauses_of, conditions, explain, find_of, number, prove, valid};
+use crate::texts::{check, conditions, explain, find_of, number, prove, valid};
 use rg_find::Watcher;
 use rgc_answers::Context;
 use rgc_line::{Command, Line, Settings};
@@ -25,6 +26,13 @@ fn asks_for_c(settings: &Settings<'_>) -> bool
     settings.is_c || settings.prefix.is_some() || settings.is_traced
 }
 
+/// Whether the settings ask for a form that only one command has: for C or for SMT-LIB.
+fn asks_for_form(settings: &Settings<'_>) -> bool
+    ensures { result ≡ asks_for_form settings.now }
+{
+    asks_for_c(settings) || settings.is_smt
+}
+
 /// Whether a verdict can be followed by how each step is done in C, where that is asked for; else no words are erased.
 fn fits_verdict(settings: &Settings<'_>, is_runs_only: bool, text: Option<&str>) -> bool
     ensures { result ≡ fits_verdict settings.now is_runs_only text.entry }
@@ -36,21 +44,29 @@ fn fits_verdict(settings: &Settings<'_>, is_runs_only: bool, text: Option<&str>)
     }
 }
 
+/// Whether clauses can be printed as the settings ask for, which have no JSON.
+fn fits_clauses(settings: &Settings<'_>) -> bool
+    ensures { result ≡ fits_clauses settings.now }
+{
+    !asks_for_c(settings) && settings.erase.is_none() && is_plain(settings.format)
+}
+
 /// Whether a command can do what its settings ask for.
 fn fits(settings: &Settings<'_>, command: &Command<'_>) -> bool
     ensures { result ≡ fits settings.now command.now }
 {
     match command {
-        Command::Emit { .. } | Command::EmitOutline { .. } => true,
+        Command::Emit { .. } | Command::EmitOutline { .. } => !settings.is_smt,
         Command::Accesses { .. } | Command::AccessesOutline { .. } | Command::Run { .. } => {
-            !asks_for_c(settings)
+            !asks_for_form(settings)
         }
+        Command::Clauses { .. } => fits_clauses(settings),
         Command::Verify {
             is_runs_only,
             text,
             ..
-        } => !asks_for_c(settings) && fits_verdict(settings, *is_runs_only, *text),
-        _ => !asks_for_c(settings) && settings.erase.is_none(),
+        } => !asks_for_form(settings) && fits_verdict(settings, *is_runs_only, *text),
+        _ => !asks_for_form(settings) && settings.erase.is_none(),
     }
 }
 
@@ -58,6 +74,7 @@ fn fits(settings: &Settings<'_>, command: &Command<'_>) -> bool
 fn unfit(settings: &Settings<'_>, command: &Command<'_>) -> &'static str {
     match command {
         Command::Run { .. } => "error: --format takes plain or json\n",
+        Command::Clauses { .. } => "error: --format takes plain or smt2\n",
         Command::Verify { .. } if settings.has_accesses && !settings.is_c => {
             "error: --accesses goes without --runs-only, --text and --format json\n"
         }
@@ -67,7 +84,7 @@ fn unfit(settings: &Settings<'_>, command: &Command<'_>) -> &'static str {
 
 /// What is said of most of them.
 const UNFIT: &str =
-    "error: --erase goes with emit, accesses and a run of TEXT DERIVATION PROOFS, and --format c with emit\n";
+    "error: --erase goes with emit, accesses and a run of TEXT DERIVATION PROOFS, --format c with emit, and --format smt2 with clauses\n";
 
 /// The answer of a command over an outline.
 fn answer_outline<'a, R: Threads + Wait + Sync, P: Watcher + Copy + Sync>(
@@ -149,7 +166,9 @@ fn answer_of<'a, R: Threads + Wait + Sync, P: Watcher + Copy + Sync>(
             ..
         } => prove(context, steps, conditions, files),
         Command::Valid { .. } => valid(context, files),
-        Command::Clauses { chosen, .. } => clauses_of(alloc, chosen, files),
+        Command::Clauses { chosen, .. } => {
+            clauses_or_script(alloc, settings.is_smt, chosen, files)
+        }
         Command::Find { steps, chosen, .. } => find_of(context, steps, chosen, files),
         Command::Explain { number } => explain(number, files),
         Command::Emit { .. } => emit(context, settings, files, notes),

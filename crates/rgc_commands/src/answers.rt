@@ -33,6 +33,8 @@ pub enum Answer<'a> {
     Holds,
     /// The clauses of a formula or of a condition.
     Clauses(Clauses),
+    /// A formula or a condition, which is printed as SMT-LIB.
+    Script(Condition),
     /// What a search found of a formula or of a condition.
     Found(Condition, Judged),
     /// The entry of the refusal of this number.

@@ -20,6 +20,7 @@ mod run_entries;
 mod runs;
 mod sentences;
 mod sides;
+mod smt;
 mod stops;
 mod text_entries;
 mod texts;

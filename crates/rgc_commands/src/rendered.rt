@@ -5,6 +5,7 @@ ghost use Rattle.rgc_commands.specs.Texts.{answer_text, verified_text};
 
 use crate::answers::{Answer, Verified};
 use crate::entries::explanation;
+use rg_smt::script;
 use rgc_answers::{
     accepted_text, conditions_text, formulas_text, found_text, numbers_text, proofs_text,
     unproved_text,
@@ -41,6 +42,7 @@ pub fn render(alloc: Global, format: Format, answer: &Answer<'_>) -> Result<Vec<
             Ok(unproved_text(alloc, derived, unproved, format)?.into_bytes())
         }
         Answer::Holds => Vec::from_slice(alloc, b"holds\n"),
+        Answer::Script(condition) => Ok(script(alloc, condition)?.into_bytes()),
         Answer::Found(condition, judged) => Ok(found_text(alloc, condition, judged)?.into_bytes()),
         Answer::Explained(number, entry) => Ok(explanation(alloc, *number, *entry)?.into_bytes()),
         Answer::Code(code) => Vec::from_slice(alloc, code.as_bytes()),

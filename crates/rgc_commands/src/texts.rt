@@ -1,6 +1,6 @@
 //! The answers of the commands over a text, a derivation and proofs.
 
-ghost use Rattle.std.specs.Prelude.{◌≡◌, ℕ, List, Option, Some, None, true, IfOk, IfErr, IfSome};
+ghost use Rattle.std.specs.Prelude.{◌≡◌, ℕ, List, Option, Some, None, true, false, IfOk, IfErr, IfSome};
 ghost use Rattle.std.specs.Borrow.{Bor};
 ghost use Rattle.rgc_line.specs.declared.command.Command.TheVariants.{Number, Check, Conditions, Prove, Valid, Clauses, Find, Explain};
 ghost use Rattle.rgc_line.specs.declared.command.Settings.{Settings as LineSettings};
@@ -189,7 +189,7 @@ pub(crate) fn clauses_of<'a>(
     chosen: Option<Chosen<'a>>,
     files: &Files<'a>,
 ) -> Result<Answer<'a>, Stop>
-    ensures answer { (s : LineSettings) → (t : Bor (List ℕ)) → IfOk result (IsAnswer s (Clauses t chosen.entry) files.now) }
+    ensures answer { (s : LineSettings) → (t : Bor (List ℕ)) → s.is_smt ≡ false → IfOk result (IsAnswer s (Clauses t chosen.entry) files.now) }
     ensures stopped { (s : LineSettings) → (t : Bor (List ℕ)) → IfErr result (IsStop s (Clauses t chosen.entry) files.now) }
 {
     let text = text_of(files)?;

@@ -108,7 +108,7 @@ row_of Emit = leaf (codes "emit") (field OptionalFile "outline" ∷ field Place 
 row_of Accesses = leaf (codes "accesses") (field OptionalFile "outline" ∷ field Place "TEXT" ∷ field Place "DERIVATION" ∷ field Places "PROOFS" ∷ derivation_files ∷ threads ∷ output ∷ explained ∷ erase ∷ keep_aux ∷ [])
 row_of Run = leaf (codes "run") (field OptionalFile "start" ∷ field OptionalFile "moves" ∷ field NumberOrMillion "limit" ∷ field OptionalFile "draw" ∷ field OptionalFile "outline" ∷ field Place "TEXT" ∷ field Place "DERIVATION" ∷ field Places "PROOFS" ∷ derivation_files ∷ threads ∷ format ∷ explained ∷ seed ∷ erase ∷ [])
 row_of Valid = leaf (codes "valid") (field File "TEXT" ∷ field File "PROOFS" ∷ threads ∷ explained ∷ [])
-row_of Clauses = leaf (codes "clauses") (field File "TEXT" ∷ derivation_files ∷ condition ∷ output ∷ explained ∷ [])
+row_of Clauses = leaf (codes "clauses") (field File "TEXT" ∷ derivation_files ∷ condition ∷ output ∷ format ∷ explained ∷ [])
 row_of Find = leaf (codes "find") (field File "TEXT" ∷ derivation_files ∷ condition ∷ field NumberOrMillion "steps" ∷ output ∷ explained ∷ [])
 row_of Outline = leaf (codes "outline") (field File "OUTLINE" ∷ field OptionalFile "text" ∷ derivation_files ∷ field RepeatedFile "proofs" ∷ field OptionalFile "map" ∷ threads ∷ [])
 row_of Verify = leaf (codes "verify") (field Files "OUTLINE" ∷ field OptionalNumber "steps" ∷ field Flag "runs-only" ∷ field OptionalFile "text" ∷ threads ∷ format ∷ warnings ∷ accesses ∷ [])
@@ -139,16 +139,20 @@ HasWord rows word = first_of format.id rows ≡ Some word
 
 -- the words ask for this format: one JSON value a line where they say so
 abbrev pub HasFormat : List Row → Format → Type 0
-HasFormat rows Plain = HasNo rows format.id ⊎ (HasWord rows (codes "plain") ⊎ HasWord rows (codes "c"))
+HasFormat rows Plain = HasNo rows format.id ⊎ (HasWord rows (codes "plain") ⊎ (HasWord rows (codes "c") ⊎ HasWord rows (codes "smt2")))
 HasFormat rows Json = HasWord rows (codes "json")
 
 -- the word for the format is none of these
 abbrev pub IsUnknownFormat : List Row → Type 0
-IsUnknownFormat rows = (word : Text) × (first_of format.id rows ≡ Some word) × (word ≡ codes "plain" → ⊥) × (word ≡ codes "json" → ⊥) × (word ≡ codes "c" → ⊥)
+IsUnknownFormat rows = (word : Text) × (first_of format.id rows ≡ Some word) × (word ≡ codes "plain" → ⊥) × (word ≡ codes "json" → ⊥) × (word ≡ codes "c" → ⊥) × (word ≡ codes "smt2" → ⊥)
 
 -- they ask for C, or don't
 abbrev pub AsksForC : List Row → Bool → Type 0
 AsksForC rows is_c = (is_c ≡ true) ↔ HasWord rows (codes "c")
+
+-- they ask for SMT-LIB, or don't
+abbrev pub AsksForSmt : List Row → Bool → Type 0
+AsksForSmt rows is_smt = (is_smt ≡ true) ↔ HasWord rows (codes "smt2")
 
 -- what is asked of commands in the same way, by the words
 pub record HasSettings (rows : List Row) (settings : Settings) : Type 0 where
@@ -161,6 +165,7 @@ pub record HasSettings (rows : List Row) (settings : Settings) : Type 0 where
   pub erase : HasValue rows erase.id (optional file settings.erase)
   pub keeps_aux : HasValue rows keep_aux.id (flag settings.keeps_aux)
   pub c : AsksForC rows settings.is_c
+  pub smt : AsksForSmt rows settings.is_smt
   pub prefix : HasValue rows prefix.id (optional file settings.prefix)
   pub traced : HasValue rows trace.id (flag settings.is_traced)
   pub accesses : HasValue rows accesses.id (flag settings.has_accesses)

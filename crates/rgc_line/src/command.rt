@@ -2,7 +2,7 @@
 
 ghost use Rattle.std.specs.Prelude.{◌≡◌, IfOk, IfErr};
 ghost use Rattle.clap.specs.Words.{found_of, rows_of};
-ghost use Rattle.rgc_line.specs.App.{AsksForC, HasFormat, HasSettings, IsUnknownFormat, number_settings};
+ghost use Rattle.rgc_line.specs.App.{AsksForC, AsksForSmt, HasFormat, HasSettings, IsUnknownFormat, number_settings};
 ghost use Rattle.rgc_line.specs.Inner.Table.{AreSound};
 ghost use Rattle.rgc_line.specs.Named.{named};
 ghost use Rattle.rgc_line.specs.declared.fields.FieldFault.TheVariants.{UnknownFormat};
@@ -64,6 +64,8 @@ pub struct Settings<'a> {
     pub keeps_aux: bool,
     /// Whether code is written as C.
     pub is_c: bool,
+    /// Whether a formula is written as SMT-LIB.
+    pub is_smt: bool,
     /// The name with which all begins that the C declares.
     pub prefix: Option<&'a str>,
     /// Whether steps are marked in the C.
@@ -83,6 +85,7 @@ pub const PLAIN: Settings<'static> = Settings {
     erase: None,
     keeps_aux: false,
     is_c: false,
+    is_smt: false,
     prefix: None,
     is_traced: false,
     has_accesses: false,
@@ -96,7 +99,7 @@ fn format_of(matches: &ArgMatches<'_>) -> Result<Format, FieldFault>
     let Some(word) = option(matches, FORMAT.id) else {
         return Ok(Format::Plain);
     };
-    if word == "plain" || word == "c" {
+    if word == "plain" || word == "c" || word == "smt2" {
         return Ok(Format::Plain);
     }
     if word == "json" {
@@ -111,6 +114,16 @@ fn is_c(matches: &ArgMatches<'_>) -> bool
 {
     match option(matches, FORMAT.id) {
         Some(word) => word == "c",
+        None => false,
+    }
+}
+
+/// Whether a formula is asked for as SMT-LIB.
+fn is_smt(matches: &ArgMatches<'_>) -> bool
+    ensures { AsksForSmt (rows_of (found_of matches.now)) result }
+{
+    match option(matches, FORMAT.id) {
+        Some(word) => word == "smt2",
         None => false,
     }
 }
@@ -131,6 +144,7 @@ pub fn settings_of<'a>(matches: &ArgMatches<'a>) -> Result<Settings<'a>, FieldFa
         erase: option(matches, ERASE.id),
         keeps_aux: is_given(matches, KEEP_AUX.id),
         is_c: is_c(matches),
+        is_smt: is_smt(matches),
         prefix: option(matches, PREFIX.id),
         is_traced: is_given(matches, TRACED.id),
         has_accesses: is_given(matches, SHOWN_ACCESSES.id),

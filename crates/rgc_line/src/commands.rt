@@ -261,7 +261,7 @@ pub static COMMANDS: [Row; 14] = [
     Row {
         kind: Kind::Clauses,
         name: "clauses",
-        fields: &[TEXT, DERIVATION_FILES, CONDITION, OUTPUT, EXPLAINED],
+        fields: &[TEXT, DERIVATION_FILES, CONDITION, OUTPUT, FORMAT, EXPLAINED],
     },
     Row {
         kind: Kind::Find,

@@ -24,7 +24,7 @@ pub enum FieldFault {
     #[error("--derivation and --condition go together")]
     Apart,
     /// A format that isn't known.
-    #[error("--format takes plain or json, and with emit json or c")]
+    #[error("--format takes plain or json, with emit json or c, and with clauses plain or smt2")]
     UnknownFormat,
     /// A run of an outline and of files, or of some files alone.
     #[error("run takes TEXT DERIVATION PROOFS, or --outline FILE")]

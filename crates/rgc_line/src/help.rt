@@ -313,29 +313,38 @@ Example:
     ],
 };
 
-/// What is said of the files of the two commands over a formula or a condition.
-const OF_CONDITIONS: &[(&str, &str)] = &[
-    (
-        "TEXT",
-        "a formula, `words .. show ..`; with the two options a program",
-    ),
-    (
-        "derivation",
-        "the derivation of the program; may be repeated; goes with --condition",
-    ),
-];
+// What is said of the files of the two commands over a formula or a condition.
+const FORMULA: (&str, &str) = (
+    "TEXT",
+    "a formula, `words .. show ..`; with the two options a program",
+);
+
+const OF_PROGRAM: (&str, &str) = (
+    "derivation",
+    "the derivation of the program; may be repeated; goes with --condition",
+);
 
 static CLAUSES: Help = Help {
-    about: "Prints the clauses of a formula or of a condition, in the DIMACS cnf format",
+    about: "Prints a formula or a condition as clauses, in the DIMACS cnf format, or as SMT-LIB",
     more: "They can be satisfied exactly where the formula is false for some values, so another solver can look
-for a proof.
+for a proof. --format smt2 prints the formula itself, over bit vectors (QF_BV): solvers say unsat
+where it is true.
 
 Examples:
   rgc clauses sum.rg
       p cnf 263 694
   rgc clauses lock.rg --derivation lock.rgd --condition 3 --output 3.cnf
-      (writes the clauses of condition 3)",
-    fields: OF_CONDITIONS,
+      (writes the clauses of condition 3)
+  rgc clauses sum.rg --format smt2
+      (set-logic QF_BV)",
+    fields: &[
+        FORMULA,
+        OF_PROGRAM,
+        (
+            "format",
+            "plain: clauses, as without the option; smt2: the formula, in SMT-LIB 2",
+        ),
+    ],
 };
 
 static FIND: Help = Help {
@@ -350,7 +359,7 @@ Examples:
       fails
   rgc find lock.rg --derivation lock.rgd --condition 3 --output 3.lrat
       (writes hint lines for condition 3)",
-    fields: OF_CONDITIONS,
+    fields: &[FORMULA, OF_PROGRAM],
 };
 
 static OUTLINE: Help = Help {

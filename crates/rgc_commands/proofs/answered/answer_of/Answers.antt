@@ -69,16 +69,16 @@ pub returns-in-Valid-clause-notes : goal.returns-in-Valid-clause-notes
 returns-in-Valid-clause-notes g c = rw c.in-Valid.is (on_ok_any c.valid.result (c.args.notes.now.items ≡ []) c.requires)
 
 pub returns-in-Clauses-clause-answer : goal.returns-in-Clauses-clause-answer
-returns-in-Clauses-clause-answer g c = rw c.in-Clauses.is (c.clauses_of.ensures.answer c.args.line.now.settings c.in-Clauses.text)
+returns-in-Clauses-clause-answer g c = rw c.in-Clauses.is (c.clauses_or_script.ensures.answer c.args.line.now.settings c.in-Clauses.text refl)
 
 pub returns-in-Clauses-clause-stopped : goal.returns-in-Clauses-clause-stopped
-returns-in-Clauses-clause-stopped g c = rw c.in-Clauses.is (c.clauses_of.ensures.stopped c.args.line.now.settings c.in-Clauses.text)
+returns-in-Clauses-clause-stopped g c = rw c.in-Clauses.is (c.clauses_or_script.ensures.stopped c.args.line.now.settings c.in-Clauses.text)
 
 pub returns-in-Clauses-clause-put : goal.returns-in-Clauses-clause-put
-returns-in-Clauses-clause-put g c = rw c.in-Clauses.is (on_ok_any c.clauses_of.result (Unit {0}) tt)
+returns-in-Clauses-clause-put g c = rw c.in-Clauses.is (on_ok_any c.clauses_or_script.result (Unit {0}) tt)
 
 pub returns-in-Clauses-clause-notes : goal.returns-in-Clauses-clause-notes
-returns-in-Clauses-clause-notes g c = rw c.in-Clauses.is (on_ok_any c.clauses_of.result (c.args.notes.now.items ≡ []) c.requires)
+returns-in-Clauses-clause-notes g c = rw c.in-Clauses.is (on_ok_any c.clauses_or_script.result (c.args.notes.now.items ≡ []) c.requires)
 
 pub returns-in-Find-clause-answer : goal.returns-in-Find-clause-answer
 returns-in-Find-clause-answer g c = rw c.in-Find.is (c.find_of.ensures.answer c.args.line.now.settings c.in-Find.text)

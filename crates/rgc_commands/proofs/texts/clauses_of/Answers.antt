@@ -1,20 +1,8 @@
-use Rattle.std.proofs.Common.{ℕ, List, Option, Some, None, inl}
-use Rattle.std.specs.Borrow.{Bor}
+use Rattle.std.proofs.Common.{Some, None, inl}
 use Rattle.std.proofs.lemmas.Result.{err_from_is_err_and}
-use Rattle.rgc_line.specs.declared.command.Chosen.{Chosen}
 use Rattle.rgc_line.specs.declared.command.Command.TheVariants.{Clauses}
-use Rattle.rgc_line.specs.declared.command.Settings.{Settings}
-use Rattle.rgc_commands.specs.declared.files.Files.{Files}
-use Rattle.rgc_commands.specs.declared.stops.Stop.{Stop}
-use Rattle.rgc_commands.specs.Stops.{IsStop, text_line, derivation_line}
-use Rattle.rgc_commands.specs.Inner.Stops.{IsDevice}
-use Rattle.rgc_commands.proofs.Stopping.{read_past, device_stop}
+use Rattle.rgc_commands.proofs.Stopping.{read_past, device_stop, chosen_device}
 use Rattle.rgc_commands.proofs.texts.clauses_of.Goals as goal
-
--- the text can't be read, of a formula or of a condition
-chosen_device : (s : Settings) (t : Bor (List ℕ)) (chosen : Option Chosen) (files : Files) (stop : Stop) → ((rest : Option (List ℕ)) → IsDevice (text_line files rest) stop) → IsStop s (Clauses t chosen) files stop
-chosen_device s t None files stop h = device_stop s (Clauses t None) files stop (h None)
-chosen_device s t (Some chosen) files stop h = device_stop s (Clauses t (Some chosen)) files stop (h (derivation_line files None))
 
 pub returns-in_err-text-clause-stopped : goal.returns-in_err-text-clause-stopped
 returns-in_err-text-clause-stopped c = λ s t.
@@ -37,7 +25,7 @@ returns-in_err-found-in-Some-clause-stopped c = λ s t.
     rw (p.1, p.2, c.in-Some.is, c.in_ok-text.ensures.bytes, c.in_ok-derivation-in-Some.ensures.bytes) (inl c.in_err-found-in-Some.ensures.refused)
 
 pub returns-in_ok-clauses-in-None-clause-answer : goal.returns-in_ok-clauses-in-None-clause-answer
-returns-in_ok-clauses-in-None-clause-answer c = λ s t. rw (c.in-None.is, c.in_ok-text.ensures.bytes) c.in_ok-clauses-in-None.ensures.clauses
+returns-in_ok-clauses-in-None-clause-answer c = λ s t asked. rw (c.in-None.is, c.in_ok-text.ensures.bytes) (asked, c.in_ok-clauses-in-None.ensures.clauses)
 
 pub returns-in_ok-found-in-Some-clause-answer : goal.returns-in_ok-found-in-Some-clause-answer
-returns-in_ok-found-in-Some-clause-answer c = λ s t. rw (c.in-Some.is, c.in_ok-text.ensures.bytes, c.in_ok-derivation-in-Some.ensures.bytes) (record { condition = _; chosen = c.in_ok-found-in-Some.ensures.chosen; are = c.in_ok-found-in-Some.ensures.clauses; within = rw c.in_ok-found-in-Some.ensures.clauses c.in_ok-found-in-Some.ensures.within })
+returns-in_ok-found-in-Some-clause-answer c = λ s t asked. rw (c.in-Some.is, c.in_ok-text.ensures.bytes, c.in_ok-derivation-in-Some.ensures.bytes) (asked, record { condition = _; chosen = c.in_ok-found-in-Some.ensures.chosen; are = c.in_ok-found-in-Some.ensures.clauses; within = rw c.in_ok-found-in-Some.ensures.clauses c.in_ok-found-in-Some.ensures.within })

@@ -1,0 +1,4 @@
+pub mod Symbols
+pub mod Inner
+pub mod Formulas
+pub mod Scripts
