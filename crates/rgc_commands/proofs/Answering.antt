@@ -7,7 +7,7 @@ use Rattle.rgc_line.specs.declared.command.Command.{Command}
 use Rattle.rgc_line.specs.declared.command.Command.TheVariants.{Number, Check, Conditions, Prove, Valid, Clauses, Find, Explain, Emit, Accesses, Run, EmitOutline, AccessesOutline, RunOutline, Outline, Verify, Challenge}
 use Rattle.rgc_line.specs.declared.command.Outlines.{Outlines}
 use Rattle.rgc_commands.specs.Answers.{AreNotesOf}
-use Rattle.rgc_commands.specs.Stops.{IsOverOutline}
+use Rattle.rgc_commands.specs.Inner.Stops.{IsOverOutline}
 
 -- what is so anyhow is so of an answer
 pub on_ok_any : {A E : Type 0} (r : Result A E) (P : Type 0) → P → OnOk r P

@@ -1,15 +1,22 @@
 -- Code that was printed is what it says.
-use Rattle.std.proofs.Common.{◌≡◌, List, [], ◌∷◌, ℕ, Option, Some, None, false, map, refl}
+use Rattle.std.proofs.Common.{◌≡◌, List, [], ◌∷◌, ℕ, Option, Some, None, Bool, true, false, map, refl, inr}
 use Rattle.std.specs.List.{list_any}
 use Rattle.rg_words.specs.Layout.{Word}
 use Rattle.std.specs.Borrow.{Bor}
 use Rattle.std.proofs.Math.Logic.{∥∥₁_map}
+use Rattle.rg_tree.specs.Statements.{ProgramTree}
+use Rattle.rg_code.specs.Code.{BlockTree}
+use Rattle.rg_outline_reports.specs.declared.files.OutlineFiles.{OutlineFiles}
+use Rattle.rgc.specs.Pieces.{bytes_of, IsBuiltInPieces}
 use Rattle.rgc_answers.specs.Accepted.{IsOver}
 use Rattle.rgc_answers.proofs.Listings.{lawful_over}
-use Rattle.rgc_commands.specs.Answers.{HasCode, IsLeftOfFiles, IsReady}
+use Rattle.rgc_line.specs.declared.command.Settings.{Settings}
+use Rattle.rgc_commands.specs.Answers.{HasCode, IsLeftOfFiles, IsLeftOfOutline, IsReady}
 use Rattle.rgc_commands.specs.Flagged.{is_left_out}
 use Rattle.rgc_commands.specs.Code.{Shown, coded_program, coded_code, coded_blocks, IsPrinted}
+use Rattle.rgc_commands.specs.Left.{LacksPlan, LacksCode}
 use Rattle.rgc_commands.specs.Of.{Pieces, OfText, OfPieces, OfThree, IsRead}
+use Rattle.rgc_commands.specs.Stops.{LacksCodeOfFiles, LacksCodeOfOutline}
 use Rattle.rgc_commands.specs.declared.code.Ready.{Ready}
 use Rattle.rgc_commands.specs.declared.code.Coded.{Coded}
 use Rattle.rgc_commands.specs.declared.code.Coded.TheVariants.{Whole, Left}
@@ -20,28 +27,42 @@ pub coded_over : (c : Coded) → ∥ IsOver (coded_program c) (coded_code c) ∥
 coded_over (Whole emitted) = ∥∥₁_map emitted.law (lawful_over emitted.program emitted.code)
 coded_over (Left erased) = ∥∥₁_map erased.law (lawful_over erased.program erased.code)
 
+-- what follows of three files
+of_three : (P Q : List ℕ → List (List ℕ) → List (List ℕ) → Type 0) (files : Files) → ((t : List ℕ) (d p : List (List ℕ)) → P t d p → Q t d p) → OfThree files P → OfThree files Q
+of_three P Q files follows = by_files files.text files.derivation files.proofs
+  where
+    by_files : (t : Option (Bor (List ℕ))) (d p : Option Pieces) → OfText t (λ x. OfPieces d (λ y. OfPieces p (P x y))) → OfText t (λ x. OfPieces d (λ y. OfPieces p (Q x y)))
+    by_files (Some t) (Some d) (Some p) h = follows t.now (bytes_of d.now) (bytes_of p.now) h
+    by_files (Some t) (Some d) None h = absurd h
+    by_files (Some t) None p h = absurd h
+    by_files None d p h = absurd h
+
 -- the text of the code of files
 pub files_code : (names : Option (Bor (List ℕ))) (files : Files) (c : Coded) (form : Shown) (text : List ℕ)
     → OfThree files (λ t d p. IsLeftOfFiles names t d p (coded_program c) (coded_blocks c)) → IsPrinted form c text → OfThree files (λ t d p. HasCode (IsLeftOfFiles names t d p) form text)
-files_code names files c form text left printed = by_files files.text files.derivation files.proofs left
-  where
-    by_files : (t : Option (Bor (List ℕ))) (d p : Option Pieces) → OfText t (λ x. OfPieces d (λ y. OfPieces p (λ z. IsLeftOfFiles names x y z (coded_program c) (coded_blocks c)))) → OfText t (λ x. OfPieces d (λ y. OfPieces p (λ z. HasCode (IsLeftOfFiles names x y z) form text)))
-    by_files (Some t) (Some d) (Some p) l = record { coded = c; left = l; over = coded_over c; printed = printed }
-    by_files (Some t) (Some d) None l = absurd l
-    by_files (Some t) None p l = absurd l
-    by_files None d p l = absurd l
+files_code names files c form text left printed =
+    of_three (λ t d p. IsLeftOfFiles names t d p (coded_program c) (coded_blocks c)) (λ t d p. HasCode (IsLeftOfFiles names t d p) form text) files
+    (λ t d p l. record { coded = c; left = l; over = coded_over c; printed = printed }) left
 
 -- code of files that is ready to run
 pub ready_files : (names : Option (Bor (List ℕ))) (files : Files) (ready : Ready) (start moves : Option (Bor (List ℕ))) (limit : ℕ)
     → OfThree files (λ t d p. IsLeftOfFiles names t d p (coded_program ready.code) (coded_blocks ready.code)) → IsRead start files.start ready.run.start → IsRead moves files.moves ready.run.moves → ready.run.limit ≡ limit
     → OfThree files (λ t d p. IsReady (IsLeftOfFiles names t d p) files start moves limit ready)
-ready_files names files ready start moves limit left first moving same = by_files files.text files.derivation files.proofs left
-  where
-    by_files : (t : Option (Bor (List ℕ))) (d p : Option Pieces) → OfText t (λ x. OfPieces d (λ y. OfPieces p (λ z. IsLeftOfFiles names x y z (coded_program ready.code) (coded_blocks ready.code)))) → OfText t (λ x. OfPieces d (λ y. OfPieces p (λ z. IsReady (IsLeftOfFiles names x y z) files start moves limit ready)))
-    by_files (Some t) (Some d) (Some p) l = record { left = l; start_read = first; moves_read = moving; limit_is = same }
-    by_files (Some t) (Some d) None l = absurd l
-    by_files (Some t) None p l = absurd l
-    by_files None d p l = absurd l
+ready_files names files ready start moves limit left first moving same =
+    of_three (λ t d p. IsLeftOfFiles names t d p (coded_program ready.code) (coded_blocks ready.code)) (λ t d p. IsReady (IsLeftOfFiles names t d p) files start moves limit ready) files
+    (λ t d p l. record { left = l; start_read = first; moves_read = moving; limit_is = same }) left
+
+-- what is left of files, or of an outline, has no C
+pub files_lack : (s : Settings) (in_c : Bool) (files : Files) (q : ProgramTree) (blocks : List (List BlockTree))
+    → OfThree files (λ t d p. IsLeftOfFiles s.erase t d p q blocks) → in_c ≡ true → (lines : List ℕ) → LacksPlan q lines → LacksCodeOfFiles s in_c files lines
+files_lack s in_c files q blocks left asked lines lacks =
+    of_three (λ t d p. IsLeftOfFiles s.erase t d p q blocks) (λ t d p. LacksCode (IsBuiltInPieces t d p) s.erase [] in_c lines) files
+    (λ t d p l. record { program = l.program; whole = l.whole; built = l.built; why = inr (asked, record { left = q; blocks = blocks; is_left = l.is_left; lacks = lacks }) }) left
+
+pub outline_lacks : (s : Settings) (in_c : Bool) (outline : OutlineFiles) (q : ProgramTree) (blocks : List (List BlockTree))
+    → IsLeftOfOutline s.erase s.keeps_aux outline q blocks → in_c ≡ true → (lines : List ℕ) → LacksPlan q lines → LacksCodeOfOutline s in_c lines outline
+outline_lacks s in_c outline q blocks l asked lines lacks =
+    record { program = l.program; whole = l.whole; built = l.built; why = inr (asked, record { left = q; blocks = blocks; is_left = l.is_left; lacks = lacks }) }
 
 -- no word is left out where none is named or flagged
 pub none_left_out : (words : List Word) (ks : List ℕ) → list_any (λ b. b) (map (is_left_out words None []) ks) ≡ false

@@ -52,6 +52,12 @@ abbrev pub is_plain : Format → Bool
 is_plain Plain = true
 is_plain Json = false
 
+-- what is printed says how steps are done in C
+abbrev pub is_in_c : Shown → Bool
+is_in_c listing = false
+is_in_c (header name traced) = true
+is_in_c accesses = true
+
 -- the name under which a header of C is printed
 abbrev pub title_of : Option (Bor (List ℕ)) → List ℕ
 title_of None = codes "program"

@@ -1,5 +1,6 @@
 pub mod Explanation
 pub mod Flagged
+pub mod Sentences
 pub mod Left
 pub mod Titles
 pub mod Code

@@ -2,6 +2,7 @@
 use Rattle.std.specs.Prelude.{◌≡◌, ℕ, List, Option, Some, None, Result, Ok, Err}
 use Rattle.std.specs.Borrow.{Bor}
 use Rattle.rg_outline_reports.specs.declared.files.NoFiles.{NoFiles}
+use Rattle.rg_outline_reports.specs.declared.files.NoFiles.TheVariants.{Reported}
 use Rattle.rg_outline_reports.specs.declared.files.OutlineFiles.{OutlineFiles}
 use Rattle.rg_outline_reports.specs.declared.outlined.Outlined.{Outlined}
 use Rattle.rgc.specs.Pieces.{bytes_of}
@@ -38,6 +39,15 @@ files_of (Err none) = None
 abbrev pub outline_files : Option (Bor (Result Outlined NoFiles)) → Option OutlineFiles
 outline_files None = None
 outline_files (Some expanded) = files_of expanded.now
+
+-- the outline of a command is refused, with these lines: an expansion gives them, and no files
+abbrev pub IsReportedBy : Result Outlined NoFiles → List ℕ → Type 0
+IsReportedBy (Err (Reported report)) lines = lines ≡ report.items
+IsReportedBy _ lines = ⊥
+
+abbrev pub IsRefusedOutline : Option (Bor (Result Outlined NoFiles)) → List ℕ → Type 0
+IsRefusedOutline None lines = ⊥
+IsRefusedOutline (Some expanded) lines = IsReportedBy expanded.now lines
 
 -- an outline stands for files, and this is so of them
 abbrev pub OfOutlined : Option OutlineFiles → (OutlineFiles → Type 0) → Type 0

@@ -1,12 +1,12 @@
 -- Why a command has no answer.
-use Rattle.std.specs.Prelude.{◌≡◌, ◌⊎◌, ℕ, List, Option, Some, None, Bool, true, false, ◌||◌, ◌&&◌, not, if◌then◌else◌, is_some, codes}
+use Rattle.std.specs.Prelude.{◌≡◌, ◌⊎◌, ℕ, List, [], Option, Some, None, Bool, true, false, ◌||◌, ◌&&◌, not, if◌then◌else◌, is_some, codes}
 use Rattle.std.specs.List.{concat}
 use Rattle.std.specs.Borrow.{Bor}
 use Rattle.rg_words.specs.declared.refusal.Refusal.{Refusal}
 use Rattle.rg_words.specs.Refusals.{no_memory}
 use Rattle.rg_outline_reports.specs.declared.files.OutlineFiles.{OutlineFiles}
 use Rattle.rg_parse.specs.Programs.{IsProgramRefusal}
-use Rattle.rgc.specs.Pieces.{IsDeriveRefusal, IsAcceptInPiecesRefusal}
+use Rattle.rgc.specs.Pieces.{IsDeriveRefusal, IsAcceptInPiecesRefusal, IsBuiltInPieces}
 use Rattle.rgc.specs.Chosen.{IsChosenClausesRefusal, IsChosenFindRefusal}
 use Rattle.rgc.specs.Proofs.{IsProveRefusal, IsProvePartRefusal}
 use Rattle.rgc.specs.Valid.{IsClausesRefusal, IsFindRefusal, IsValidRefusal}
@@ -14,11 +14,13 @@ use Rattle.rgc.specs.declared.proofs_found.Unproved.{Unproved}
 use Rattle.rgc_line.specs.declared.command.Command.{Command}
 use Rattle.rgc_line.specs.declared.command.Command.TheVariants.{Number, Check, Conditions, Prove, Emit, EmitOutline, Accesses, AccessesOutline, Run, RunOutline, Valid, Clauses, Find, Outline, Verify, Challenge, Explain}
 use Rattle.rgc_line.specs.declared.command.Settings.{Settings}
+use Rattle.rgc_outlines.specs.Built.{IsBuiltOutline}
 use Rattle.rgc_outlines.specs.Refused.{IsVerifyRefusal, IsExpandRefusal}
 use Rattle.rgc_outlines.specs.Unproved.{AreUnprovedOf}
-use Rattle.rgc_commands.specs.Answers.{SpellsRange, IsVerified}
+use Rattle.rgc_commands.specs.Answers.{SpellsRange, IsVerified, auxiliary_of}
 use Rattle.rgc_commands.specs.Code.{is_plain}
-use Rattle.rgc_commands.specs.Of.{OfText, OfPieces, OfTwo, OfThree, OfOutline}
+use Rattle.rgc_commands.specs.Left.{LacksCode}
+use Rattle.rgc_commands.specs.Of.{OfText, OfPieces, OfTwo, OfThree, OfOutline, IsRefusedOutline}
 use Rattle.rgc_commands.specs.declared.files.Files.{Files}
 use Rattle.rgc_commands.specs.declared.outlines.TheConstants.{MOST_STEPS}
 use Rattle.rgc_commands.specs.declared.stops.Stop.{Stop}
@@ -106,22 +108,26 @@ AreFilesRefused (Verify _ steps true _) files e = OfOutline files (λ outline. I
 AreFilesRefused (Challenge _ _) files e = OfOutline files (λ outline. IsVerifyRefusal outline MOST_STEPS e ⊎ ((conditions : ℕ) × IsVerified conditions outline))
 AreFilesRefused (Explain _) files e = ⊥
 
--- the command is over an outline
-abbrev pub IsOverOutline : Command → Type 0
-IsOverOutline (EmitOutline _) = Unit {0}
-IsOverOutline (AccessesOutline _) = Unit {0}
-IsOverOutline (RunOutline _ _ _ _ _) = Unit {0}
-IsOverOutline (Outline _ _ _ _ _) = Unit {0}
-IsOverOutline (Verify _ _ _ _) = Unit {0}
-IsOverOutline (Challenge _ _) = Unit {0}
-IsOverOutline _ = ⊥
+-- the code of files isn't had, or that of an outline, as settings ask for it
+abbrev pub LacksCodeOfFiles : Settings → Bool → Files → List ℕ → Type 0
+LacksCodeOfFiles s in_c files lines = OfThree files (λ text derivation proofs. LacksCode (IsBuiltInPieces text derivation proofs) s.erase [] in_c lines)
 
--- the command is about code, whose words may have to stay, and whose steps may have no C
-abbrev pub IsAboutCode : Command → Type 0
-IsAboutCode (Emit _ _ _) = Unit {0}
-IsAboutCode (Accesses _ _ _) = Unit {0}
-IsAboutCode (Run _ _ _ _ _ _ _) = Unit {0}
-IsAboutCode _ = ⊥
+abbrev pub LacksCodeOfOutline : Settings → Bool → List ℕ → OutlineFiles → Type 0
+LacksCodeOfOutline s in_c lines outline = LacksCode (IsBuiltOutline outline) s.erase (auxiliary_of s.keeps_aux outline) in_c lines
+
+-- these lines report that the outline of a command is refused; or that words have to stay, or that a step has no C, where the command is about code
+abbrev pub IsFault : Settings → Command → Files → List ℕ → Type 0
+IsFault s (Emit _ _ _) files lines = LacksCodeOfFiles s s.is_c files lines
+IsFault s (Accesses _ _ _) files lines = LacksCodeOfFiles s true files lines
+IsFault s (Run _ _ _ _ _ _ _) files lines = LacksCodeOfFiles s false files lines
+IsFault s (EmitOutline _) files lines = IsRefusedOutline files.outline lines ⊎ OfOutline files (LacksCodeOfOutline s s.is_c lines)
+IsFault s (AccessesOutline _) files lines = IsRefusedOutline files.outline lines ⊎ OfOutline files (LacksCodeOfOutline s true lines)
+IsFault s (RunOutline _ _ _ _ _) files lines = IsRefusedOutline files.outline lines
+IsFault s (Outline _ _ _ _ _) files lines = IsRefusedOutline files.outline lines
+IsFault s (Verify _ _ false _) files lines = IsRefusedOutline files.outline lines ⊎ ((s.has_accesses ≡ true) × OfOutline files (LacksCodeOfOutline s true lines))
+IsFault s (Verify _ _ true _) files lines = IsRefusedOutline files.outline lines
+IsFault s (Challenge _ _) files lines = IsRefusedOutline files.outline lines
+IsFault s _ files lines = ⊥
 
 -- conditions of an outline have no proof: what was found of these is so, and all others hold
 abbrev pub LacksOutlineProofs : OutlineFiles → Type 0
@@ -185,5 +191,5 @@ abbrev pub IsStop : Settings → Command → Files → Stop → Type 0
 IsStop s of files (Device line) = unread_line of files ≡ Some line.now
 IsStop s of files (Refused e) = AreFilesRefused of files e ⊎ (e ≡ no_memory)
 IsStop s of files (Unverified report) = LooksForProofs of × OfOutline files LacksOutlineProofs
-IsStop s of files (Fault lines) = IsOverOutline of ⊎ IsAboutCode of
+IsStop s of files (Fault lines) = IsFault s of files lines.items
 IsStop s of files (Usage line) = IsMisfit s of

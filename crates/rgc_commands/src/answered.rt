@@ -3,7 +3,8 @@
 ghost use Rattle.std.specs.Prelude.{◌≡◌, [], true, IfOk, IfErr, OnOk};
 ghost use Rattle.rgc_commands.specs.Answers.{IsAnswer, AreNotesOf};
 ghost use Rattle.rgc_commands.specs.Put.{ArePut};
-ghost use Rattle.rgc_commands.specs.Stops.{IsStop, IsOverOutline, asks_for_c, asks_for_form, fits, fits_clauses, fits_verdict};
+ghost use Rattle.rgc_commands.specs.Inner.Stops.{IsOverOutline};
+ghost use Rattle.rgc_commands.specs.Stops.{IsStop, asks_for_c, asks_for_form, fits, fits_clauses, fits_verdict};
 
 use crate::answers::{Answer, is_plain};
 use crate::coding::{Asked, accesses, accesses_outline, emit, emit_outline, run, run_outline};

@@ -1,13 +1,13 @@
 //! The code that a command is about: of files that are accepted or of an outline that is verified, without the words that are erased.
 
-ghost use Rattle.std.specs.Prelude.{◌≡◌, string_bytes, IfOk, IfErr};
+ghost use Rattle.std.specs.Prelude.{◌≡◌, true, string_bytes, IfOk, IfErr};
 ghost use Rattle.std.specs.List.{list_any};
 ghost use Rattle.rg_tree.specs.ProgramTrees.{program as program_tree};
 ghost use Rattle.rg_accept.specs.Stages.{emitted_program, emitted_blocks};
 ghost use Rattle.rgc_commands.specs.Flagged.{flags_for};
-ghost use Rattle.rgc_commands.specs.Code.{coded_program, coded_blocks, IsCodeForm, IsPlan, IsPrinted, IsPrintedAs, shown, title_of};
-ghost use Rattle.rgc_commands.specs.Left.{IsLeftBy};
-ghost use Rattle.rgc_commands.specs.Inner.Stops.{IsCodeStop, IsFormStop};
+ghost use Rattle.rgc_commands.specs.Code.{coded_program, coded_blocks, is_in_c, IsCodeForm, IsPlan, IsPrinted, IsPrintedAs, shown, title_of};
+ghost use Rattle.rgc_commands.specs.Left.{IsLeftBy, NamesStranger, CantBeErased, HaveToStay, LacksPlan};
+ghost use Rattle.rgc_commands.specs.Inner.Stops.{IsFaultStop, IsFormStop};
 
 use crate::names::{flags_for, stranger};
 use crate::sentences::{fault_line, push_lost, unknown_line, unplanned_line};
@@ -94,7 +94,7 @@ fn flags_of(
     flagged: &[bool],
 ) -> Result<Vec<bool>, Stop>
     ensures flags { IfOk result (λ flags. flags.items ≡ flags_for layout.now names.entry flagged.now) }
-    ensures stopped { IfErr result IsCodeStop }
+    ensures stopped { IfErr result (IsFaultStop (NamesStranger layout.now names.entry)) }
 {
     if let Some(names) = names {
         if let Some(name) = stranger(layout, names) {
@@ -137,7 +137,7 @@ fn left_of(
     notes: &mut Vec<u8>,
 ) -> Result<Coded, Stop>
     ensures left { IfOk result (λ c. IsLeftBy flags.now (emitted_program emitted) (emitted_blocks emitted) (coded_program c) (coded_blocks c)) }
-    ensures stopped { IfErr result IsCodeStop }
+    ensures stopped { IfErr result (IsFaultStop (CantBeErased flags.now (emitted_program emitted))) }
 {
     if !has_flag(flags) {
         return Ok(Coded::Whole(emitted));
@@ -164,7 +164,7 @@ pub(crate) fn left_with(
     notes: &mut Vec<u8>,
 ) -> Result<Coded, Stop>
     ensures left { IfOk result (λ c. IsLeftBy (flags_for (emitted_program emitted).words names.entry flagged.now) (emitted_program emitted) (emitted_blocks emitted) (coded_program c) (coded_blocks c)) }
-    ensures stopped { IfErr result IsCodeStop }
+    ensures stopped { IfErr result (IsFaultStop (HaveToStay names.entry flagged.now (emitted_program emitted))) }
 {
     let flags = flags_of(alloc, &emitted.program().layout, names, flagged)?;
     left_of(alloc, emitted, &flags, notes)
@@ -173,7 +173,7 @@ pub(crate) fn left_with(
 /// A kind for each word of a program.
 fn kinds_of(alloc: Global, program: &Program) -> Result<Vec<Kind>, Stop>
     ensures kinds { IfOk result (λ kinds. IsPlan kinds.items (program_tree program.now)) }
-    ensures stopped { IfErr result IsCodeStop }
+    ensures stopped { IfErr result (IsFaultStop (LacksPlan (program_tree program.now))) }
 {
     match plan(alloc, program)? {
         Ok(plan) => Ok(plan.kinds),
@@ -184,7 +184,7 @@ fn kinds_of(alloc: Global, program: &Program) -> Result<Vec<Kind>, Stop>
 /// The text of a checked program in a form.
 fn form_text<E: Checked>(alloc: Global, left: &E, form: Form<'_>) -> Result<String, Stop>
     ensures printed { IfOk result (λ text. IsPrintedAs (shown form.entry) (program_tree (E.program_of left.now)) (E.code_of left.now) (string_bytes text)) }
-    ensures stopped { IfErr result IsCodeStop }
+    ensures stopped { IfErr result (IsFaultStop (λ lines. (is_in_c (shown form.entry) ≡ true) × LacksPlan (program_tree (E.program_of left.now)) lines)) }
 {
     let program = left.program();
     match form {
@@ -203,7 +203,7 @@ fn form_text<E: Checked>(alloc: Global, left: &E, form: Form<'_>) -> Result<Stri
 /// The text of code in a form.
 pub(crate) fn code_text(alloc: Global, code: &Coded, form: Form<'_>) -> Result<String, Stop>
     ensures printed { IfOk result (λ text. IsPrinted (shown form.entry) code.now (string_bytes text)) }
-    ensures stopped { IfErr result IsCodeStop }
+    ensures stopped { IfErr result (IsFaultStop (λ lines. (is_in_c (shown form.entry) ≡ true) × LacksPlan (coded_program code.now) lines)) }
 {
     match code {
         Coded::Whole(emitted) => form_text(alloc, emitted, form),

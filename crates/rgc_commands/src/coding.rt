@@ -1,14 +1,14 @@
 //! The answers of the commands about code: it is printed, or run.
 
-ghost use Rattle.std.specs.Prelude.{◌≡◌, ℕ, List, Option, string_bytes, IfOk, IfErr};
+ghost use Rattle.std.specs.Prelude.{◌≡◌, ℕ, Bool, List, Option, string_bytes, IfOk, IfErr};
 ghost use Rattle.std.specs.Borrow.{Bor};
 ghost use Rattle.rgc_line.specs.declared.command.Command.TheVariants.{Emit, EmitOutline, Accesses, AccessesOutline, Run as the_run, RunOutline};
 ghost use Rattle.rgc_outlines.specs.Proved.{IsProvedOf};
 ghost use Rattle.rgc_commands.specs.Answers.{auxiliary_of, HasCode, IsAnswer, IsLeftOfFiles, IsLeftOfOutline};
-ghost use Rattle.rgc_commands.specs.Code.{coded_program, coded_blocks, shown};
+ghost use Rattle.rgc_commands.specs.Code.{coded_program, coded_blocks, is_in_c, shown};
 ghost use Rattle.rgc_commands.specs.Inner.Stops.{IsFilesStop, IsOutlineStop, IsProofStop};
 ghost use Rattle.rgc_commands.specs.Of.{OfOutline, OfThree};
-ghost use Rattle.rgc_commands.specs.Stops.{IsStop};
+ghost use Rattle.rgc_commands.specs.Stops.{IsStop, LacksCodeOfOutline};
 ghost use Rattle.rgc_commands.specs.declared.files.Files.{Files as AllFiles};
 
 use crate::answers::{Answer, is_plain};
@@ -37,15 +37,15 @@ fn auxiliary_of<'a>(keeps_aux: bool, outlined: &'a Outlined<'_>) -> &'a [bool]
     &outlined.files.auxiliary
 }
 
-/// What is left of the code of files, without the words of these names; what is lost is noted.
+/// What is left of the code of files, without the words that the settings name; what is lost is noted.
 fn left_of_files<R: Threads + Wait + Sync, P>(
     context: &Context<'_, R, P>,
-    names: Option<&str>,
+    settings: &Settings<'_>,
     files: &Files<'_>,
     notes: &mut Vec<u8>,
 ) -> Result<Coded, Stop>
-    ensures left { IfOk result (λ c. OfThree files.now (λ text derivation proofs. IsLeftOfFiles names.entry text derivation proofs (coded_program c) (coded_blocks c))) }
-    ensures stopped { IfErr result (IsFilesStop files.now) }
+    ensures left { IfOk result (λ c. OfThree files.now (λ text derivation proofs. IsLeftOfFiles settings.now.erase text derivation proofs (coded_program c) (coded_blocks c))) }
+    ensures stopped { (in_c : Bool) → IfErr result (IsFilesStop settings.now in_c files.now) }
 {
     let (text, derivation, proofs) = three_files(files)?;
     let checker = InThreads {
@@ -53,25 +53,24 @@ fn left_of_files<R: Threads + Wait + Sync, P>(
         threads: context.threads,
     };
     let emitted = build_in_pieces(&checker, context.alloc, text, derivation, proofs)?;
-    left_with(context.alloc, emitted, names, &[], notes)
+    left_with(context.alloc, emitted, settings.erase, &[], notes)
 }
 
-/// What is left of the code of an outline, without the words of these names, and without auxiliary ones unless they stay; what is lost is noted.
+/// What is left of the code of an outline, without the words that the settings name, and without auxiliary ones unless they stay; what is lost is noted.
 pub(crate) fn left_of_outline<R: Threads + Wait + Sync, P>(
     context: &Context<'_, R, P>,
-    names: Option<&str>,
-    keeps_aux: bool,
+    settings: &Settings<'_>,
     outlined: &Outlined<'_>,
     proved: Proved,
     notes: &mut Vec<u8>,
 ) -> Result<Coded, Stop>
     requires { IsProvedOf outlined.now.files proved }
-    ensures left { IfOk result (λ c. IsLeftOfOutline names.entry keeps_aux outlined.now.files (coded_program c) (coded_blocks c)) }
-    ensures stopped { (steps : ℕ) → IfErr result (IsProofStop outlined.now.files steps) }
+    ensures left { IfOk result (λ c. IsLeftOfOutline settings.now.erase settings.now.keeps_aux outlined.now.files (coded_program c) (coded_blocks c)) }
+    ensures stopped { (steps : ℕ) → (in_c : Bool) → IfErr result (IsProofStop outlined.now.files steps (λ lines. LacksCodeOfOutline settings.now in_c lines outlined.now.files)) }
 {
     let emitted = proved.code(context)?;
-    let auxiliary = auxiliary_of(keeps_aux, outlined);
-    left_with(context.alloc, emitted, names, auxiliary, notes)
+    let auxiliary = auxiliary_of(settings.keeps_aux, outlined);
+    left_with(context.alloc, emitted, settings.erase, auxiliary, notes)
 }
 
 /// The text of the code of files, in a form.
@@ -83,9 +82,9 @@ fn files_text<R: Threads + Wait + Sync, P>(
     notes: &mut Vec<u8>,
 ) -> Result<String, Stop>
     ensures text { IfOk result (λ text. OfThree files.now (λ t d p. HasCode (IsLeftOfFiles settings.now.erase t d p) (shown form.entry) (string_bytes text))) }
-    ensures stopped { IfErr result (IsFilesStop files.now) }
+    ensures stopped { IfErr result (IsFilesStop settings.now (is_in_c (shown form.entry)) files.now) }
 {
-    let code = left_of_files(context, settings.erase, files, notes)?;
+    let code = left_of_files(context, settings, files, notes)?;
     code_text(context.alloc, &code, form)
 }
 
@@ -98,12 +97,11 @@ fn outline_text<R: Threads + Wait + Sync, P: Watcher + Copy + Sync>(
     notes: &mut Vec<u8>,
 ) -> Result<String, Stop>
     ensures text { IfOk result (λ text. OfOutline files.now (λ o. HasCode (IsLeftOfOutline settings.now.erase settings.now.keeps_aux o) (shown form.entry) (string_bytes text))) }
-    ensures stopped { IfErr result (IsOutlineStop files.now) }
+    ensures stopped { IfErr result (IsOutlineStop files.now (LacksCodeOfOutline settings.now (is_in_c (shown form.entry)))) }
 {
     let outlined = outlined_of(context.alloc, files)?;
     let proved = prove(context, outlined, MOST_STEPS, None)?;
-    let (names, keeps_aux) = (settings.erase, settings.keeps_aux);
-    let code = left_of_outline(context, names, keeps_aux, outlined, proved, notes)?;
+    let code = left_of_outline(context, settings, outlined, proved, notes)?;
     code_text(context.alloc, &code, form)
 }
 
@@ -235,7 +233,7 @@ pub(crate) fn run<'a, R: Threads + Wait + Sync, P>(
     three_files(files)?;
     let (start, moves) = inputs(asked.start, asked.moves, files)?;
     let mut unsaid = Vec::new(context.alloc);
-    let code = left_of_files(context, settings.erase, files, &mut unsaid)?;
+    let code = left_of_files(context, settings, files, &mut unsaid)?;
     Ok(Answer::Run(Ready {
         code,
         run: asked.run(start, moves, settings.seed),

@@ -8,10 +8,10 @@ ghost use Rattle.rgc_line.specs.declared.command.Settings.{Settings as LineSetti
 ghost use Rattle.rgc_outlines.specs.Cut.{IsOfPieces};
 ghost use Rattle.rgc_outlines.specs.Proved.{IsProvedOf};
 ghost use Rattle.rgc_commands.specs.Answers.{IsAnswer, IsTextOf, HasMore};
-ghost use Rattle.rgc_commands.specs.Of.{files_of, outline_files};
+ghost use Rattle.rgc_commands.specs.Of.{files_of, outline_files, IsReportedBy};
 ghost use Rattle.rgc_commands.specs.Put.{AreProofs, ArePut, IsPut};
-ghost use Rattle.rgc_commands.specs.Inner.Stops.{IsDevice, IsNoOutline, IsOutlineStop, IsProofStop, IsUnexpanded, IsVerifiedStop, IsExpandStop};
-ghost use Rattle.rgc_commands.specs.Stops.{IsStop, outline_line, search_steps};
+ghost use Rattle.rgc_commands.specs.Inner.Stops.{IsDevice, IsFaultStop, IsNoOutline, IsProofStop, NoFault, IsVerifiedStop, IsExpandStop};
+ghost use Rattle.rgc_commands.specs.Stops.{IsStop, LacksCodeOfOutline, outline_line, search_steps};
 
 use crate::answers::{Answer, Verified};
 use crate::code::{Form, code_text};
@@ -46,7 +46,7 @@ pub(crate) fn expanded_of<'a>(files: &Files<'a>) -> Result<&'a Expanded<'a>, Sto
 /// The outline, where it stands for files.
 fn outlined_in<'a>(alloc: Global, expanded: &'a Expanded<'a>) -> Result<&'a Outlined<'a>, Stop>
     ensures files { IfOk result (λ o. files_of expanded.now ≡ Some o.now.files) }
-    ensures none { IfErr result IsUnexpanded }
+    ensures none { IfErr result (IsFaultStop (IsReportedBy expanded.now)) }
 {
     match expanded {
         Ok(outlined) => Ok(outlined),
@@ -59,7 +59,6 @@ fn outlined_in<'a>(alloc: Global, expanded: &'a Expanded<'a>) -> Result<&'a Outl
 pub(crate) fn outlined_of<'a>(alloc: Global, files: &Files<'a>) -> Result<&'a Outlined<'a>, Stop>
     ensures files { IfOk result (λ o. outline_files files.now.outline ≡ Some o.now.files) }
     ensures none { IfErr result (IsNoOutline files.now) }
-    ensures stopped { IfErr result (IsOutlineStop files.now) }
 {
     let expanded = expanded_of(files)?;
     outlined_in(alloc, expanded)
@@ -85,7 +84,7 @@ fn unverified(
     unproved: &[Unproved],
     walk: Option<AskedWalk<'_>>,
 ) -> Result<Vec<u8>, Stop>
-    ensures { (steps : ℕ) → IfErr result (IsProofStop outlined.now.files steps) }
+    ensures { (steps : ℕ) → IfErr result (IsProofStop outlined.now.files steps NoFault) }
 {
     let mut report = unproved_report(alloc, outlined, unproved)?;
     if let Some(walk) = walk {
@@ -105,7 +104,7 @@ pub(crate) fn prove<R: Threads + Wait + Sync, P: Watcher + Copy + Sync>(
     walk: Option<AskedWalk<'_>>,
 ) -> Result<Proved, Stop>
     ensures proved { IfOk result (IsProvedOf outlined.now.files) }
-    ensures stopped { IfErr result (IsProofStop outlined.now.files steps) }
+    ensures stopped { IfErr result (IsProofStop outlined.now.files steps NoFault) }
 {
     match prove_outline(context, outlined, steps)? {
         Ok(proved) => Ok(proved),
@@ -193,14 +192,13 @@ fn more_of<R: Threads + Wait + Sync, P>(
 ) -> Result<Vec<u8>, Stop>
     requires { IsProvedOf outlined.now.files proved }
     ensures more { IfOk result (λ more. HasMore settings.now outlined.now.files more.items) }
-    ensures stopped { (steps : ℕ) → IfErr result (IsProofStop outlined.now.files steps) }
+    ensures stopped { (steps : ℕ) → IfErr result (IsProofStop outlined.now.files steps (λ lines. (settings.now.has_accesses ≡ true) × LacksCodeOfOutline settings.now true lines outlined.now.files)) }
 {
     let alloc = context.alloc;
     if !settings.has_accesses {
         return Ok(Vec::new(context.alloc));
     }
-    let (names, keeps_aux) = (settings.erase, settings.keeps_aux);
-    let code = left_of_outline(context, names, keeps_aux, outlined, proved, notes)?;
+    let code = left_of_outline(context, settings, outlined, proved, notes)?;
     let text = code_text(context.alloc, &code, Form::Accesses)?;
     Ok(text.into_bytes())
 }

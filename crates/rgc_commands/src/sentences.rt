@@ -1,8 +1,10 @@
 //! Why words can't be erased, and what is lost where they are.
 
-ghost use Rattle.std.specs.Prelude.{length};
+ghost use Rattle.std.specs.Prelude.{◌≡◌, length, string_bytes, IfOk};
 ghost use Rattle.rg_tree.specs.View.{formula};
 ghost use Rattle.rg_tree.specs.Fits.{FormulaFits};
+ghost use Rattle.rg_c_report.specs.Words.{name_of};
+ghost use Rattle.rgc_commands.specs.Sentences.{unknown_line, fault_line, unplanned_line};
 
 use rg_c_plan::planned::Unplanned;
 use rg_erase::{Fault, lost};
@@ -12,7 +14,9 @@ use rg_words::Layout;
 use std::alloc::{AllocError, Global};
 
 /// A name that is no word's.
-pub(crate) fn unknown_line(alloc: Global, name: &str) -> Result<Vec<u8>, AllocError> {
+pub(crate) fn unknown_line(alloc: Global, name: &str) -> Result<Vec<u8>, AllocError>
+    ensures { IfOk result (λ line. line.items ≡ unknown_line name.now) }
+{
     let mut line = Vec::new(alloc);
     line.extend_from_slice(b"error: --erase names ")?;
     line.extend_from_slice(name.as_bytes())?;
@@ -21,7 +25,9 @@ pub(crate) fn unknown_line(alloc: Global, name: &str) -> Result<Vec<u8>, AllocEr
 }
 
 /// The name of a word; nothing where there is none at the place.
-fn name_of(layout: &Layout, word: usize) -> &str {
+fn name_of(layout: &Layout, word: usize) -> &str
+    ensures { result.now ≡ name_of layout.now word }
+{
     if word < layout.len() {
         layout.name(word)
     } else {
@@ -30,11 +36,9 @@ fn name_of(layout: &Layout, word: usize) -> &str {
 }
 
 /// Why words can't be erased.
-pub(crate) fn fault_line(
-    alloc: Global,
-    layout: &Layout,
-    fault: Fault,
-) -> Result<String, AllocError> {
+pub(crate) fn fault_line(alloc: Global, layout: &Layout, fault: Fault) -> Result<String, AllocError>
+    ensures { IfOk result (λ line. string_bytes line ≡ fault_line layout.now fault) }
+{
     match fault {
         Fault::NothingLeft => {
             String::from_str(alloc, "error: no word is left that a step may change\n")
@@ -66,7 +70,9 @@ pub(crate) fn unplanned_line(
     alloc: Global,
     layout: &Layout,
     step: Unplanned,
-) -> Result<Vec<u8>, AllocError> {
+) -> Result<Vec<u8>, AllocError>
+    ensures { IfOk result (λ line. line.items ≡ unplanned_line layout.now step) }
+{
     let line = format!(in alloc;
         "error: line {}: no C does this step at once: it accesses {}, which the world outside accesses too, and another shared word\n",
         step.line,

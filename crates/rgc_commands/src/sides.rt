@@ -1,5 +1,7 @@
 //! What a command writes beside its output.
 
+ghost use Rattle.std.specs.Prelude.{◌≡◌, []};
+
 use std::alloc::Global;
 
 /// What a command writes beside its output, to files that it names.
@@ -19,7 +21,13 @@ pub struct Sides {
 
 impl Sides {
     /// Nothing so far.
-    pub fn new(alloc: Global) -> Sides {
+    pub fn new(alloc: Global) -> Sides
+        ensures picture { result.picture.items ≡ [] }
+        ensures text { result.text.items ≡ [] }
+        ensures derivation { result.derivation.items ≡ [] }
+        ensures proofs { result.proofs.items ≡ [] }
+        ensures map { result.map.items ≡ [] }
+    {
         Sides {
             picture: Vec::new(alloc),
             text: Vec::new(alloc),

@@ -117,19 +117,12 @@ fn add_proved<'p>(
 }
 
 impl<'p> Known<'p> {
-    /// Nothing is known.
-    pub fn nothing(alloc: Global) -> Known<'p> {
-        Known {
-            proved: Vec::new(alloc),
-        }
-    }
-
     /// These conditions, which these pieces of proofs prove.
     ///
     /// # Errors
     ///
     /// As `rg_hints::proof_sections`.
-    pub fn of(
+    pub(crate) fn of(
         alloc: Global,
         conditions: &[Condition],
         proofs: &'p [String],

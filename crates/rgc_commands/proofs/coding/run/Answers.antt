@@ -1,5 +1,5 @@
 use Rattle.std.proofs.lemmas.Result.{err_from_is_err_and}
-use Rattle.std.proofs.Common.{refl}
+use Rattle.std.proofs.Common.{false, refl}
 use Rattle.rgc_line.specs.declared.command.Command.TheVariants.{Run}
 use Rattle.rgc_commands.proofs.Printing.{ready_files}
 use Rattle.rgc_commands.proofs.Stopping.{device_stop, run_stop}
@@ -23,7 +23,7 @@ returns-in_err-start-clause-stopped g c = λ t d q.
 pub returns-in_err-code-clause-stopped : goal.returns-in_err-code-clause-stopped
 returns-in_err-code-clause-stopped g c = λ t d q.
     let p = err_from_is_err_and c.from_residual-in_err-code.result c.from_residual-in_err-code.ensures.1 in
-    rw (p.1, p.2) (run_stop c.args.settings.now t d q c.args.asked.start c.args.asked.moves c.args.asked.limit c.args.asked.draw c.args.files.now _ _ _ _ c.in_ok-three_files.ensures.text c.in_ok-three_files.ensures.derivation c.in_ok-three_files.ensures.proofs c.in_err-code.ensures.stopped)
+    rw (p.1, p.2) (run_stop c.args.settings.now t d q c.args.asked.start c.args.asked.moves c.args.asked.limit c.args.asked.draw c.args.files.now _ _ _ _ c.in_ok-three_files.ensures.text c.in_ok-three_files.ensures.derivation c.in_ok-three_files.ensures.proofs (c.in_err-code.ensures.stopped false))
 
 pub returns-clause-answer : goal.returns-clause-answer
 returns-clause-answer g c = λ t d q.

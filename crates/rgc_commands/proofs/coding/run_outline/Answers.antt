@@ -1,8 +1,8 @@
 use Rattle.std.proofs.lemmas.Result.{err_from_is_err_and}
-use Rattle.std.proofs.Common.{inl, inr, refl}
+use Rattle.std.proofs.Common.{inr, refl}
 use Rattle.rgc_line.specs.declared.command.Command.TheVariants.{RunOutline}
 use Rattle.rgc_commands.proofs.Printing.{none_left_out}
-use Rattle.rgc_commands.proofs.Stopping.{device_stop, proof_stop, run_outline_stop}
+use Rattle.rgc_commands.proofs.Stopping.{device_stop, run_outline_stop, run_proof_stop}
 use Rattle.rgc_commands.proofs.coding.run_outline.Goals as goal
 
 pub returns-in_err-expanded_of-clause-stopped : goal.returns-in_err-expanded_of-clause-stopped
@@ -18,12 +18,12 @@ returns-in_err-start-clause-stopped g c = λ o.
 pub returns-in_err-outlined-clause-stopped : goal.returns-in_err-outlined-clause-stopped
 returns-in_err-outlined-clause-stopped g c = λ o.
     let p = err_from_is_err_and c.from_residual-in_err-outlined.result c.from_residual-in_err-outlined.ensures.1 in
-    rw (p.1, p.2) (run_outline_stop c.args.settings.now o c.args.asked.start c.args.asked.moves c.args.asked.limit c.args.asked.draw c.args.files.now _ _ c.in_ok-expanded_of.ensures.expanded c.in_err-outlined.ensures.stopped)
+    rw (p.1, p.2) (run_outline_stop c.args.settings.now o c.args.asked.start c.args.asked.moves c.args.asked.limit c.args.asked.draw c.args.files.now _ _ c.in_ok-expanded_of.ensures.expanded c.in_err-outlined.ensures.none)
 
 pub returns-in_err-proved-clause-stopped : goal.returns-in_err-proved-clause-stopped
 returns-in_err-proved-clause-stopped g c = λ o.
     let p = err_from_is_err_and c.from_residual-in_err-proved.result c.from_residual-in_err-proved.ensures.1 in
-    rw (p.1, p.2) (run_outline_stop c.args.settings.now o c.args.asked.start c.args.asked.moves c.args.asked.limit c.args.asked.draw c.args.files.now _ _ c.in_ok-expanded_of.ensures.expanded (proof_stop c.args.files.now _ _ c.in_ok-outlined.ensures.files c.in_err-proved.ensures.stopped))
+    rw (p.1, p.2) (run_proof_stop c.args.settings.now o c.args.asked.start c.args.asked.moves c.args.asked.limit c.args.asked.draw c.args.files.now _ _ c.in_ok-outlined.ensures.files c.in_err-proved.ensures.stopped)
 
 pub returns-in_err-emitted-clause-stopped : goal.returns-in_err-emitted-clause-stopped
 returns-in_err-emitted-clause-stopped g c = λ o.

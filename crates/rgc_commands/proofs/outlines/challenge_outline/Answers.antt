@@ -7,7 +7,7 @@ use Rattle.rgc_commands.proofs.outlines.challenge_outline.Goals as goal
 pub returns-in_err-outlined-clause-stopped : goal.returns-in_err-outlined-clause-stopped
 returns-in_err-outlined-clause-stopped g c = λ o.
     let p = err_from_is_err_and c.from_residual.result c.from_residual.ensures.1 in
-    rw (p.1, p.2) (no_outline_stop c.args.settings.now (Challenge o c.args.has_refused) c.args.files.now _ tt refl c.in_err-outlined.ensures.none)
+    rw (p.1, p.2) (no_outline_stop c.args.settings.now (Challenge o c.args.has_refused) c.args.files.now _ refl (λ lines h. h) c.in_err-outlined.ensures.none)
 
 pub returns-in_err-found-clause-stopped : goal.returns-in_err-found-clause-stopped
 returns-in_err-found-clause-stopped g c = λ o.

@@ -1,0 +1,29 @@
+-- The lines that report why code isn't had.
+use Rattle.std.specs.Prelude.{ℕ, List, ◌++◌, codes, decimal}
+use Rattle.rg_words.specs.Layout.{Word}
+use Rattle.rg_erase.specs.declared.fault.Fault.{Fault}
+use Rattle.rg_erase.specs.declared.fault.Fault.TheVariants.{NothingLeft, Pre, Rely, Read}
+use Rattle.rg_c_plan.specs.declared.planned.Unplanned.{Unplanned}
+use Rattle.rg_c_report.specs.Words.{name_of}
+
+-- a name is that of no word
+abbrev pub unknown_line : List ℕ → List ℕ
+unknown_line name = codes "error: --erase names " ++ name ++ codes ", which is no word of the program\n"
+
+-- words can't be erased
+abbrev pub fault_line : List Word → Fault → List ℕ
+fault_line words NothingLeft = codes "error: no word is left that a step may change\n"
+fault_line words (Pre k) =
+    let name = name_of words k in
+    codes "error: " ++ (name ++ (codes " can't be erased: the pre says something else of it than its value, once, as `" ++ (name ++ codes " = 0` does\n")))
+fault_line words (Rely k) =
+    let name = name_of words k in
+    codes "error: " ++ (name ++ (codes " can't be erased: the rely says something else of it than its value after a step, once, as `" ++ (name ++ (codes "' = " ++ (name ++ codes "` does\n")))))
+fault_line words (Read line k) = codes "error: line " ++ (decimal line ++ (codes ": " ++ (name_of words k ++ codes " can't be erased: what stays reads it\n")))
+
+-- no C does a step at once
+abbrev pub unplanned_line : List Word → Unplanned → List ℕ
+unplanned_line words step =
+    codes "error: line "
+    ++ (decimal step.line
+    ++ (codes ": no C does this step at once: it accesses " ++ (name_of words step.word ++ codes ", which the world outside accesses too, and another shared word\n")))
