@@ -18,6 +18,7 @@ const MOST_DERIVATION_BYTES: usize = 67_108_864;
 ///
 /// # Errors
 ///
+/// - `MeaningFault::TooDeep` where a formula is nested too deeply for a text, at the place of the deepest conjunct.
 /// - `MeaningFault::TooLarge` where a line has more than `MOST_TEXT_BYTES` bytes, or the text has more than `MOST_DERIVATION_BYTES`.
 /// - `FaultKind::Memory`.
 pub fn push_derivation(
@@ -109,6 +110,7 @@ impl Expansion<'_> {
     }
 
     fn push_claim(&self, text: &mut Vec<u8>, key: &[u8], tree: usize) -> Result<(), Fault> {
+        self.want_shallow(tree, 0)?;
         text.push(b' ')?;
         push_tight_tree(self, text, key, tree)?;
         text.push(b'\n')?;

@@ -179,6 +179,8 @@ pub struct Expansion<'a> {
     pub assigned: Vec<PartWord>,
     pub lines: Vec<Line>,
     pub premises: Vec<usize>,
+    /// How many openers the spelling of each term has open at once.
+    pub(crate) openers: Vec<usize>,
     /// How many statements the text has so far.
     pub count: usize,
     /// The outermost use of named statements that is being worked out.
@@ -299,6 +301,7 @@ impl<'a> Expansion<'a> {
             assigned: Vec::new(alloc),
             lines: Vec::new(alloc),
             premises: Vec::new(alloc),
+            openers: Vec::new(alloc),
             count: 0,
             used: None,
         }

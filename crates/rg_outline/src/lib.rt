@@ -5,6 +5,7 @@ mod derivation;
 mod derive;
 mod expansion;
 mod indices;
+mod openers;
 mod parts;
 mod print;
 mod settle;
@@ -38,6 +39,7 @@ pub fn work_out(expansion: &mut Expansion<'_>) -> Result<(), Fault> {
     if !expansion.scope.is_stopped() {
         expansion.specify_parts();
         expansion.derive();
+        expansion.count_openers();
     }
     match expansion.scope.fault() {
         None => Ok(()),

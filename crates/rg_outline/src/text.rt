@@ -21,6 +21,7 @@ enum Layout {
 ///
 /// # Errors
 ///
+/// - `MeaningFault::TooDeep` where a formula or a value is nested too deeply for a text, at the place of the deepest conjunct.
 /// - `MeaningFault::TextTooLarge` where it has more than `MOST_TEXT_BYTES` bytes even so; at the longest formula that all parts repeat.
 /// - `FaultKind::Memory`.
 pub fn push_text(expansion: &Expansion<'_>, text: &mut Vec<u8>) -> Result<(), Fault> {
@@ -128,6 +129,7 @@ impl Expansion<'_> {
     ) -> Result<(), Fault> {
         let keys = ["pre  ", "rely ", "guar ", "post "];
         for (key, tree) in keys.iter().zip(&trees) {
+            self.want_shallow(*tree, 0)?;
             push_spaces(text, column)?;
             match layout {
                 Layout::Rows => {
@@ -197,15 +199,18 @@ impl Expansion<'_> {
         depth: u32,
     ) -> Result<(), Fault> {
         let inner = column.saturating_add(2);
+        let around = DEEPEST.saturating_sub(depth.saturating_add(1)) as usize;
         match statement.action {
             Action::Skip => text.extend_from_slice(b"skip")?,
-            Action::Assign => self.push_updates(text, statement.updates)?,
+            Action::Assign => self.push_updates(text, statement.updates, around)?,
             Action::Await => {
+                self.want_shallow(statement.test, around)?;
                 self.push_test(text, b"await ", statement.test, column, b" do ")?;
-                self.push_updates(text, statement.updates)?;
+                self.push_updates(text, statement.updates, around)?;
                 text.extend_from_slice(b" end")?;
             }
             Action::If => {
+                self.want_shallow(statement.test, around.saturating_add(1))?;
                 self.push_test(text, b"if ", statement.test, column, b" then\n")?;
                 self.push_block(text, statement.blocks.0, inner, depth)?;
                 push_spaces(text, column)?;
@@ -215,6 +220,7 @@ impl Expansion<'_> {
                 text.extend_from_slice(b"end")?;
             }
             Action::While => {
+                self.want_shallow(statement.test, around.saturating_add(1))?;
                 self.push_test(text, b"while ", statement.test, column, b" do\n")?;
                 self.push_block(text, statement.blocks.0, inner, depth)?;
                 push_spaces(text, column)?;
@@ -239,9 +245,11 @@ impl Expansion<'_> {
         Ok(())
     }
 
-    fn push_updates(&self, text: &mut Vec<u8>, updates: List) -> Result<(), Fault> {
+    /// Adds the assignments of a step with so many openers open around it.
+    fn push_updates(&self, text: &mut Vec<u8>, updates: List, around: usize) -> Result<(), Fault> {
         let mut before: &[u8] = b"";
         for update in self.updates_of(updates) {
+            self.want_shallow(update.value, around)?;
             text.extend_from_slice(before)?;
             text.extend_from_slice(self.scope.members.at(update.word))?;
             text.extend_from_slice(b" := ")?;

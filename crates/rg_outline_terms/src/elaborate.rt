@@ -79,6 +79,7 @@ impl Scope<'_> {
                 self.named(used, depth - 1)
             }
             ExpressionKind::Bound { .. } => self.quantified(kind, span, depth - 1),
+            ExpressionKind::Join(..) => self.chained(index, depth - 1),
             ExpressionKind::Unchanged(words) => self.unchanged(words, false, span, depth - 1),
             ExpressionKind::UnchangedBut(words) => self.unchanged(words, true, span, depth - 1),
             _ => {
@@ -87,6 +88,46 @@ impl Scope<'_> {
             }
         };
         self.formed(index, tree)
+    }
+
+    /// The tree of a chain of `and` and `or`, whose first operand stands innermost. The chain itself is no deeper than its operands are.
+    #[cycle(elaborate)]
+    fn chained(&mut self, index: usize, depth: u32) -> usize {
+        let mut joins = Vec::new(self.alloc);
+        let first = self.first_of_chain(index, &mut joins);
+        let mut tree = self.sorted(first, Sort::Formula, depth);
+        for _ in 0..usize::MAX {
+            let Some(join) = joins.pop() else {
+                break;
+            };
+            let Expression { kind, span } = self.expression(join);
+            if let ExpressionKind::Join(junction, _, right) = kind
+                && self.spends(span)
+            {
+                let guard = self.guard_of(junction, tree, span);
+                let second = self.under(guard, right, Sort::Formula, depth);
+                let made = self.forest.joined(junction, [tree, second], span);
+                tree = self.made(made);
+                if !joins.is_empty() {
+                    tree = self.formed(join, tree);
+                }
+            }
+        }
+        tree
+    }
+
+    /// The first operand of a chain; its joins, the outermost first, are added.
+    fn first_of_chain(&mut self, index: usize, joins: &mut Vec<usize>) -> usize {
+        let mut first = index;
+        for _ in 0..usize::MAX {
+            let ExpressionKind::Join(_, left, _) = self.expression(first).kind else {
+                break;
+            };
+            let stored = joins.push(first);
+            self.want_stored(stored.is_ok());
+            first = left;
+        }
+        first
     }
 
     /// The tree of a number, a truth, or a form with operands.
@@ -114,12 +155,6 @@ impl Scope<'_> {
                 let fails = self.made(made);
                 let second = self.under(fails, no, Sort::Value, depth);
                 self.forest.chosen(test, first, second, span)
-            }
-            ExpressionKind::Join(junction, left, right) => {
-                let first = self.sorted(left, Sort::Formula, depth);
-                let guard = self.guard_of(junction, first, span);
-                let second = self.under(guard, right, Sort::Formula, depth);
-                self.forest.joined(junction, [first, second], span)
             }
             ExpressionKind::Imply(conditional, left, right) => {
                 let pair = self.both(left, right, Sort::Formula, depth);

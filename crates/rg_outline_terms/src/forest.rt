@@ -137,6 +137,11 @@ impl Forest {
         })
     }
 
+    /// How many terms there are.
+    pub fn term_count(&self) -> usize {
+        self.terms.len()
+    }
+
     /// The root of a tree.
     pub fn root(&self, tree: usize) -> Root {
         self.term(self.tree(tree).term).root

@@ -113,7 +113,7 @@ impl Scope<'_> {
     }
 
     /// What an expression stood for when it was worked out last.
-    fn latest_of(&self, index: usize) -> usize {
+    pub(crate) fn latest_of(&self, index: usize) -> usize {
         self.latest.get(index).copied().unwrap_or(0)
     }
 

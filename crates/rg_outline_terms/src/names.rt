@@ -114,6 +114,18 @@ impl Scope<'_> {
         named.is_known(name) && known != text && is_near(known, text)
     }
 
+    /// Whether an index, or a parameter, is known at a place.
+    pub(crate) fn has_index(&self, place: Span) -> bool {
+        for named in &self.names {
+            if let Meaning::Tree(_) = named.meaning
+                && named.is_known(place)
+            {
+                return true;
+            }
+        }
+        false
+    }
+
     /// Refuses a new name where something has it already.
     pub fn refuse_taken(&mut self, name: Span) {
         if let Some(named) = self.find(name) {

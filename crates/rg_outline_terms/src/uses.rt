@@ -90,6 +90,18 @@ impl Scope<'_> {
         }
     }
 
+    /// The number for which a name without parameters stood before: it stands for the same one again, unless an index is known where it is named.
+    fn known_number(&self, called: Let) -> Option<usize> {
+        let tree = self.latest_of(called.body);
+        let place = self.forest.span(tree).start;
+        let is_known = called.span.start <= place && place < called.span.end;
+        if is_known && called.parameters.is_empty() && !self.has_index(called.name) {
+            self.forest.number(tree)?;
+            return Some(tree);
+        }
+        None
+    }
+
     /// The tree of a name with its arguments. After a fault its parameters and the use stay known: they say where the fault is.
     #[cycle(elaborate)]
     fn called(&mut self, used: Use, called: Let, depth: u32) -> usize {
@@ -100,7 +112,10 @@ impl Scope<'_> {
         let mark = self.names.len();
         let known = self.expression(called.body).span;
         self.pass(used, called.parameters, known, first);
-        let tree = self.elaborate(called.body, depth);
+        let tree = match self.known_number(called) {
+            Some(number) => number,
+            None => self.elaborate(called.body, depth),
+        };
         let tree = if used.is_primed {
             self.in_next_state(tree)
         } else {

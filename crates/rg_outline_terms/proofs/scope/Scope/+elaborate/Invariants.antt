@@ -25,6 +25,9 @@ decreases-range_of l = 7 * l.depth + 2
 abbrev pub decreases-members : goal.decreases-members
 decreases-members l = 7 * l.depth + 2
 
+abbrev pub decreases-chained : goal.decreases-chained
+decreases-chained l = 7 * l.depth + 3
+
 abbrev pub decreases-composed : goal.decreases-composed
 decreases-composed l = 7 * l.depth + 3
 
