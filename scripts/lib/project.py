@@ -6,7 +6,7 @@ A script begins with
     sys.path.insert(0, os.path.join(os.path.dirname(os.path.realpath(__file__)), "lib"))
     import project
 
-The repository is only read here. Whatever is proved or changed is proved or changed in a copy, in a temporary folder that
+The repository is only read here, but for tables of measures. Whatever is proved or changed is proved or changed in a copy, in a temporary folder that
 goes when the script ends, also where it is killed or fails."""
 
 import contextlib
@@ -245,6 +245,21 @@ class GateStore:
             it.write(crate.stamp())
         self.taken.add(name)
         return True
+
+
+def put_measures(page, script, lines):
+    """Puts these lines between the marks of what a script measures, on a page of docs/."""
+    path, begin = f"{ROOT}/docs/{page}", f"<!-- measured by {script} -->"
+    rows = text_of(path).split("\n")
+    start = rows.index(begin) + 1
+    rows[start : rows.index("<!-- end of the measures -->", start)] = lines
+    with open(path, "w", encoding="utf-8") as it:
+        it.write("\n".join(rows))
+
+
+def is_unproved(program):
+    """Whether a program was compiled without its proof, and has run-time checks."""
+    return "unproved" in subprocess.run([program, "--version"], capture_output=True, text=True, check=True).stdout
 
 
 def listing(folder):
