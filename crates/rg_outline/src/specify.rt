@@ -1,7 +1,8 @@
 //! The formulas of the program and of its parts.
 
 use crate::expansion::{Expansion, NOWHERE, OutlinePart, Specification, add, add_all};
-use rg_outline_syntax::{Clause, Head, HeadKind, List, MeaningFault};
+use rg_outline_syntax::{Clause, Comparison, Head, HeadKind, List, MeaningFault};
+use rg_outline_terms::Root;
 
 /// A clause of the program, with its tree.
 #[derive(Clone, Copy)]
@@ -93,18 +94,55 @@ impl Expansion<'_> {
         }
     }
 
-    /// The part's own relies, and that a true invariant stays true, where there is one.
+    /// What the part relies on: that words stay the same; and, where the invariant is true, its other relies and that the invariant stays true.
     fn rely_of(&mut self, part: OutlinePart) -> usize {
         let mut formulas = Vec::new(self.scope.alloc);
-        self.push_clauses(&mut formulas, part.relied);
         let invariant = self.specification.invariant;
-        if !self.scope.forest.is_truth(invariant, true) {
-            let next = self.specification.invariant_next;
-            let made = self.scope.forest.keeping(invariant, next, part.span);
+        if self.scope.forest.is_truth(invariant, true) {
+            self.push_clauses(&mut formulas, part.relied);
+        } else {
+            let mut others = Vec::new(self.scope.alloc);
+            self.push_relies(&mut formulas, &mut others, part.relied);
+            add(
+                &mut self.scope,
+                &mut others,
+                self.specification.invariant_next,
+            );
+            let kept = self.conjoined(&others, part.span);
+            let made = self.scope.forest.keeping(invariant, kept, part.span);
             let kept = self.scope.made(made);
             add(&mut self.scope, &mut formulas, kept);
         }
         self.conjoined(&formulas, part.span)
+    }
+
+    /// Adds the clauses of a list: the equations between a word's next value and its value, and the others.
+    fn push_relies(&mut self, equations: &mut Vec<usize>, others: &mut Vec<usize>, list: List) {
+        for place in list.start..list.end {
+            if let Some(clause) = self.clauses.get(place).copied() {
+                let to = if self.is_same_word(clause) {
+                    &mut *equations
+                } else {
+                    &mut *others
+                };
+                add(&mut self.scope, to, clause);
+            }
+        }
+    }
+
+    /// Whether a formula says that a word stays the same.
+    fn is_same_word(&self, tree: usize) -> bool {
+        let forest = &self.scope.forest;
+        let Root::Word { word, is_primed } = forest.root(forest.operand(tree, 0)) else {
+            return false;
+        };
+        let same = Root::Word {
+            word,
+            is_primed: false,
+        };
+        is_primed
+            && forest.root(tree) == Root::Compare(Comparison::Equal)
+            && forest.root(forest.operand(tree, 1)) == same
     }
 
     /// What the others rely on, what the program promises, what the part promises besides, and the invariant in the next state.
