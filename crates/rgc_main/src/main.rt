@@ -64,7 +64,7 @@ fn usage(rt: &HostRuntime, fault: &LineFault) -> u8 {
 /// Prints the version, and after it at which commit the program was proved, where a file says so; the status.
 fn print_version(rt: &HostRuntime, error: &clap::Error) -> u8 {
     match error.print(rt) {
-        Ok(()) => shown(rt, &proved_at(rt), 0),
+        Ok(()) => shown(rt, Format::Plain, &proved_at(rt), 0),
         Err(_) => tell(rt, "refused 63"),
     }
 }
@@ -73,6 +73,14 @@ fn print_version(rt: &HostRuntime, error: &clap::Error) -> u8 {
 pub(crate) fn tell(rt: &HostRuntime, text: &str) -> u8 {
     let _ = eprintln!(rt; "{text}");
     3
+}
+
+/// Reports that the output can't be written; the status.
+fn tell_cut_off(rt: &HostRuntime, format: Format) -> u8 {
+    match format {
+        Format::Plain => tell(rt, "refused 63"),
+        Format::Json => tell(rt, "{\"kind\":\"refused\",\"number\":63}"),
+    }
 }
 
 /// The conflicts between two lines that tell of a search.
@@ -208,17 +216,17 @@ fn buffered<R: Threads + Wait + Sync>(
     let mut faults = Device::new(rt.stderr());
     let status = performed(means, line, files, &mut out, &mut faults, sides);
     if status == 0 && out.flush().is_err() {
-        return Ok(tell(rt, "refused 63"));
+        return Ok(tell_cut_off(rt, line.settings.format));
     }
     Ok(status)
 }
 
 /// Writes bytes to standard output; the status where they went out.
-fn shown(rt: &HostRuntime, bytes: &[u8], status: u8) -> u8 {
+fn shown(rt: &HostRuntime, format: Format, bytes: &[u8], status: u8) -> u8 {
     let mut out = Device::new(rt.stdout());
     match write_all(&mut out, bytes) {
         Ok(()) => status,
-        Err(_) => tell(rt, "refused 63"),
+        Err(_) => tell_cut_off(rt, format),
     }
 }
 
@@ -238,6 +246,7 @@ fn written<R: Threads + Wait + Sync>(
     status: u8,
 ) -> Result<u8, AllocError> {
     let rt = means.rt;
+    let format = line.settings.format;
     match (line.settings.output, line.command) {
         (Some(_), Command::Prove { .. }) if status == 0 => write_proofs(means, line, files, bytes),
         (Some(name), _) if status == 0 => write_outputs(
@@ -248,21 +257,21 @@ fn written<R: Threads + Wait + Sync>(
                 what: "output",
             }],
         ),
-        (Some(_), Command::Find { .. }) => Ok(shown(rt, bytes, status)),
+        (Some(_), Command::Find { .. }) => Ok(shown(rt, format, bytes, status)),
         (Some(_), _) => {
             reported(rt, bytes);
             Ok(status)
         }
         (None, Command::Verify { .. }) if is_coloured(rt) => {
             let text = painted(rt.alloc(), bytes)?;
-            Ok(shown(rt, &text, status))
+            Ok(shown(rt, format, &text, status))
         }
-        (None, Command::Verify { .. }) => Ok(shown(rt, bytes, status)),
+        (None, Command::Verify { .. }) => Ok(shown(rt, format, bytes, status)),
         (None, _) => {
             if status == 1 {
                 reported(rt, bytes);
             }
-            Ok(shown(rt, bytes, status))
+            Ok(shown(rt, format, bytes, status))
         }
     }
 }
@@ -587,26 +596,42 @@ fn misfit_of(line: &Line<'_>, names: &PieceNames<'_>) -> Option<&'static str> {
     }
 }
 
-/// Reads the files that the command names, and does it; the status.
+/// How a command over a file has ended.
+#[derive(Clone, Copy)]
+struct Ended {
+    status: u8,
+    /// Whether it isn't done over further files: the words don't fit, the output can't be written, or memory is refused.
+    is_last: bool,
+}
+
+impl Ended {
+    /// The words don't fit.
+    const MISFIT: Ended = Ended {
+        status: 2,
+        is_last: true,
+    };
+}
+
+/// Reads the files that the command names, and does it.
 fn run<R: Threads + Wait + Sync>(
     rt: &HostRuntime,
     threads: &R,
     line: &Line<'_>,
     names: &PieceNames<'_>,
-) -> Result<u8, AllocError> {
+) -> Result<Ended, AllocError> {
     let named = line.command.named();
     if reads_input_twice(&named, names) {
         let _ = eprintln!(rt; "error: `-` names standard input, which is read once");
-        return Ok(2);
+        return Ok(Ended::MISFIT);
     }
     if let Some(words) = misfit_of(line, names) {
         let _ = eprintln!(rt; "error: {words}");
-        return Ok(2);
+        return Ok(Ended::MISFIT);
     }
     if let Some((earlier, output)) = clash_of(rt, line, names)? {
         let (one, other, name) = (earlier.option, output.option, output.name);
         let _ = eprintln!(rt; "error: {one} and {other} name one file: {name}");
-        return Ok(2);
+        return Ok(Ended::MISFIT);
     }
     let mut contents = Contents::empty();
     contents.read(rt, &named, names, line.settings.format)?;
@@ -621,10 +646,15 @@ fn run<R: Threads + Wait + Sync>(
         derivation: &names.derivation,
         proofs: &names.proofs,
     };
-    match outline_of(line) {
-        Some(name) => done_over(&means, line, files, name),
-        None => done_and_drawn(&means, line, &files),
-    }
+    let is_read = files.text.is_some();
+    let status = match outline_of(line) {
+        Some(name) => done_over(&means, line, files, name)?,
+        None => done_and_drawn(&means, line, &files)?,
+    };
+    Ok(Ended {
+        status,
+        is_last: status == 2 || status == 3 && is_read,
+    })
 }
 
 /// Over how many files the command is to be done, one after another.
@@ -646,13 +676,15 @@ fn run_words<R: Threads + Wait + Sync>(
         Err(fault) => return Ok(usage(rt, &fault)),
     };
     let names = PieceNames::of(rt.alloc(), words, &first.command)?;
-    let mut worst = run(rt, threads, &first, &names)?;
-    if worst == 2 {
-        return Ok(worst);
-    }
+    let mut ended = run(rt, threads, &first, &names)?;
+    let mut worst = ended.status;
     for place in 1..files_of(&first.command) {
+        if ended.is_last {
+            break;
+        }
         if let Ok(line) = Line::read(rt.alloc(), words, place) {
-            worst = worst.max(run(rt, threads, &line, &names)?);
+            ended = run(rt, threads, &line, &names)?;
+            worst = worst.max(ended.status);
         }
     }
     Ok(worst)
