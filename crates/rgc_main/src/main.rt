@@ -682,10 +682,12 @@ fn run_words<R: Threads + Wait + Sync>(
         if ended.is_last {
             break;
         }
-        if let Ok(line) = Line::read(rt.alloc(), words, place) {
-            ended = run(rt, threads, &line, &names)?;
-            worst = worst.max(ended.status);
-        }
+        let line = match Line::read(rt.alloc(), words, place) {
+            Ok(line) => line,
+            Err(fault) => return Ok(worst.max(usage(rt, &fault))),
+        };
+        ended = run(rt, threads, &line, &names)?;
+        worst = worst.max(ended.status);
     }
     Ok(worst)
 }
