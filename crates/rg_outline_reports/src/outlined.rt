@@ -11,6 +11,7 @@ use crate::questions::{Asks, Outside, Question, questions_of};
 use crate::reports::Reports;
 use crate::run::{push_run, push_walked};
 use crate::run_json::push_json_of_run;
+use crate::slots::{Member, Obligation, members_of, obligations_of};
 use crate::stuck::report_stuck;
 use crate::subject::{Subject, line_of};
 use crate::warnings::report_warnings;
@@ -130,6 +131,18 @@ impl<'a> Outlined<'a> {
         }
         push_conditions(&self.expansion, &mut map)?;
         printable(self.expansion.scope.alloc, &map)
+    }
+
+    /// What each condition of the derivation asks, in the order of their numbers.
+    /// An error comes only where memory is refused.
+    pub fn obligations(&self) -> Result<Vec<Obligation>, AllocError> {
+        obligations_of(&self.expansion)
+    }
+
+    /// The parts, in the order of the text.
+    /// An error comes only where memory is refused.
+    pub fn members(&self) -> Result<Vec<Member>, AllocError> {
+        members_of(&self.expansion)
     }
 
     /// What the words and the statements of the text are in the outline.

@@ -62,6 +62,7 @@ fn fits(settings: &Settings<'_>, command: &Command<'_>) -> bool
             !asks_for_form(settings)
         }
         Command::Clauses { .. } => fits_clauses(settings),
+        Command::Complete { .. } => false,
         Command::Verify {
             is_runs_only,
             text,
@@ -136,6 +137,7 @@ fn answer_outline<'a, R: Threads + Wait + Sync, P: Watcher + Copy + Sync>(
         Command::Challenge { has_refused, .. } => {
             challenge_outline(context, settings, has_refused, files, notes)
         }
+        Command::Complete { .. } => Err(Stop::Usage(UNFIT)),
         _ => Err(Stop::Usage(UNFIT)),
     }
 }

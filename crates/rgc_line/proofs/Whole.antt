@@ -13,7 +13,7 @@ use Rattle.clap.proofs.OnLiterals.{clap_on_literals}
 use Rattle.rgc_line.specs.App.{rgc_app, row_of, number_settings}
 use Rattle.rgc_line.specs.Inner.Table.{IsListed, IsNumber, IsNumberIf, is_wanted, IsSound, AreSound}
 use Rattle.rgc_line.specs.declared.commands.Kind.{Kind}
-use Rattle.rgc_line.specs.declared.commands.Kind.TheVariants.{Number, Check, Conditions, Prove, Emit, Accesses, Run, Valid, Clauses, Find, Outline, Verify, Challenge, Explain}
+use Rattle.rgc_line.specs.declared.commands.Kind.TheVariants.{Number, Check, Conditions, Prove, Emit, Accesses, Run, Valid, Clauses, Find, Outline, Verify, Complete, Challenge, Explain}
 use Rattle.rgc_line.proofs.Sound.{IsNoHelp, is_number_id, are_sound, implied, kinds_parts}
 use Rattle.rgc_line.proofs.Complete.{IsComplete, is_required, has_default, level_complete}
 
@@ -84,7 +84,7 @@ help_not_met met after past h =
 shapes_are_of : (met : Text) (after : List Text) → IsNoHelp (built rgc_app).top (Some (met, after)) → AreOf met (built rgc_app).subs
 unfolding clap_on_literals rgc_app is_number_id
 shapes_are_of met after past =
-    (of Number refl refl refl, (of Check refl refl refl, (of Conditions refl refl refl, (of Prove refl refl refl, (of Emit refl refl refl, (of Accesses refl refl refl, (of Run refl refl refl, (of Valid refl refl refl, (of Clauses refl refl refl, (of Find refl refl refl, (of Outline refl refl refl, (of Verify refl refl refl, (of Challenge refl refl refl, (of Explain refl refl refl, ((λ h. absurd (help_not_met met after past h)), tt)))))))))))))))
+    (of Number refl refl refl, (of Check refl refl refl, (of Conditions refl refl refl, (of Prove refl refl refl, (of Emit refl refl refl, (of Accesses refl refl refl, (of Run refl refl refl, (of Valid refl refl refl, (of Clauses refl refl refl, (of Find refl refl refl, (of Outline refl refl refl, (of Verify refl refl refl, (of Complete refl refl refl, (of Challenge refl refl refl, (of Explain refl refl refl, ((λ h. absurd (help_not_met met after past h)), tt))))))))))))))))
   where
     of : {A : Type 0} {s : Shape} (kind : Kind) → s.name ≡ (row_of kind).name → (has_rules s number_settings && has_rules s (row_of kind).rules) ≡ true → are_sound s.rules ≡ true → A → IsOf s
     of kind name has sound h = record { kind = kind; name = name; has = has; sound = sound }

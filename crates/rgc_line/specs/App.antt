@@ -13,7 +13,7 @@ use Rattle.rgc_line.specs.declared.command.Settings.{Settings}
 use Rattle.rgc_line.specs.declared.commands.Form.{Form}
 use Rattle.rgc_line.specs.declared.commands.Form.TheVariants.{File, Place, Files, Places, OptionalFile, RepeatedFile, OptionalText, OptionalNumber, NeededNumber, NumberOrMillion, Flag}
 use Rattle.rgc_line.specs.declared.commands.Kind.{Kind}
-use Rattle.rgc_line.specs.declared.commands.Kind.TheVariants.{Number, Check, Conditions, Prove, Emit, Accesses, Run, Valid, Clauses, Find, Outline, Verify, Challenge, Explain}
+use Rattle.rgc_line.specs.declared.commands.Kind.TheVariants.{Number, Check, Conditions, Prove, Emit, Accesses, Run, Valid, Clauses, Find, Outline, Verify, Complete, Challenge, Explain}
 use Rattle.rgc_line.specs.Values.{HasNo, HasValue, HasValues, file, number, flag, optional}
 
 -- numbers of 64 bits
@@ -90,6 +90,10 @@ trace = field Flag "trace"
 abbrev pub accesses : Rule
 accesses = field Flag "accesses"
 
+-- whether assertions that an outline lacks are searched for first
+abbrev pub complete : Rule
+complete = field Flag "complete"
+
 -- the settings that are numbers
 abbrev pub number_settings : List Rule
 number_settings = threads ∷ []
@@ -111,13 +115,14 @@ row_of Valid = leaf (codes "valid") (field File "TEXT" ∷ field File "PROOFS" �
 row_of Clauses = leaf (codes "clauses") (field File "TEXT" ∷ derivation_files ∷ condition ∷ output ∷ format ∷ explained ∷ [])
 row_of Find = leaf (codes "find") (field File "TEXT" ∷ derivation_files ∷ condition ∷ field NumberOrMillion "steps" ∷ output ∷ explained ∷ [])
 row_of Outline = leaf (codes "outline") (field File "OUTLINE" ∷ field OptionalFile "text" ∷ derivation_files ∷ field RepeatedFile "proofs" ∷ field OptionalFile "map" ∷ threads ∷ [])
-row_of Verify = leaf (codes "verify") (field Files "OUTLINE" ∷ field OptionalNumber "steps" ∷ field Flag "runs-only" ∷ field OptionalFile "text" ∷ threads ∷ format ∷ warnings ∷ accesses ∷ [])
+row_of Verify = leaf (codes "verify") (field Files "OUTLINE" ∷ field OptionalNumber "steps" ∷ field Flag "runs-only" ∷ field OptionalFile "text" ∷ threads ∷ format ∷ warnings ∷ accesses ∷ complete ∷ [])
+row_of Complete = leaf (codes "complete") (field File "OUTLINE" ∷ field OptionalNumber "steps" ∷ field Flag "in-place" ∷ threads ∷ format ∷ warnings ∷ [])
 row_of Challenge = leaf (codes "challenge") (field File "OUTLINE" ∷ field Flag "refused" ∷ threads ∷ format ∷ [])
 row_of Explain = leaf (codes "explain") (field NeededNumber "NUMBER" ∷ [])
 
 -- the commands in the order in which the help lists them
 abbrev pub kinds : List Kind
-kinds = Number ∷ Check ∷ Conditions ∷ Prove ∷ Emit ∷ Accesses ∷ Run ∷ Valid ∷ Clauses ∷ Find ∷ Outline ∷ Verify ∷ Challenge ∷ Explain ∷ []
+kinds = Number ∷ Check ∷ Conditions ∷ Prove ∷ Emit ∷ Accesses ∷ Run ∷ Valid ∷ Clauses ∷ Find ∷ Outline ∷ Verify ∷ Complete ∷ Challenge ∷ Explain ∷ []
 
 -- the command with no subcommands
 abbrev pub rgc_top : App
@@ -169,3 +174,4 @@ pub record HasSettings (rows : List Row) (settings : Settings) : Type 0 where
   pub prefix : HasValue rows prefix.id (optional file settings.prefix)
   pub traced : HasValue rows trace.id (flag settings.is_traced)
   pub accesses : HasValue rows accesses.id (flag settings.has_accesses)
+  pub complete : HasValue rows complete.id (flag settings.is_completed)

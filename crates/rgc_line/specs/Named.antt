@@ -4,7 +4,7 @@ use Rattle.std.specs.Borrow.{Bor}
 use Rattle.clap.specs.Words.{Text}
 use Rattle.rgc_line.specs.declared.command.Named.{Named}
 use Rattle.rgc_line.specs.declared.command.Command.{Command}
-use Rattle.rgc_line.specs.declared.command.Command.TheVariants.{Number, Check, Conditions, Prove, Emit, EmitOutline, Accesses, AccessesOutline, Run, RunOutline, Valid, Clauses, Find, Outline, Verify, Challenge, Explain}
+use Rattle.rgc_line.specs.declared.command.Command.TheVariants.{Number, Check, Conditions, Prove, Emit, EmitOutline, Accesses, AccessesOutline, Run, RunOutline, Valid, Clauses, Find, Outline, Verify, Complete, Challenge, Explain}
 
 -- a text, a derivation and proofs
 abbrev pub files : Option (Bor Text) → Option (Bor Text) → Option (Bor Text) → Named
@@ -25,6 +25,7 @@ named (EmitOutline outline) = files (Some outline) None None
 named (Accesses text derivation proofs) = files (Some text) (Some derivation) (Some proofs)
 named (AccessesOutline outline) = files (Some outline) None None
 named (RunOutline outline start moves _ _) = record (files (Some outline) None None) { start = start; moves = moves }
+named (Complete outline _ _) = files (Some outline) None None
 named (Challenge outline _) = files (Some outline) None None
 named (Outline outline _ _ _ _) = files (Some outline) None None
 named (Verify outlines _ _ _) = files (Some outlines.outline) None None

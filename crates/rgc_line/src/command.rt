@@ -8,8 +8,8 @@ ghost use Rattle.rgc_line.specs.Named.{named};
 ghost use Rattle.rgc_line.specs.declared.fields.FieldFault.TheVariants.{UnknownFormat};
 
 use crate::commands::{
-    ERASE, EXPLAINED, FORMAT, KEEP_AUX, OUTPUT, PREFIX, SEED, SHOWN_ACCESSES, THREADS, TRACED,
-    WARNINGS,
+    COMPLETED, ERASE, EXPLAINED, FORMAT, KEEP_AUX, OUTPUT, PREFIX, SEED, SHOWN_ACCESSES, THREADS,
+    TRACED, WARNINGS,
 };
 use crate::fields::{FieldFault, is_given, number_or_none, option};
 use clap::ArgMatches;
@@ -72,6 +72,8 @@ pub struct Settings<'a> {
     pub is_traced: bool,
     /// Whether a verdict is followed by how each step is done in C.
     pub has_accesses: bool,
+    /// Whether assertions that an outline lacks are searched for first.
+    pub is_completed: bool,
 }
 
 /// The settings where nothing is asked for.
@@ -89,6 +91,7 @@ pub const PLAIN: Settings<'static> = Settings {
     prefix: None,
     is_traced: false,
     has_accesses: false,
+    is_completed: false,
 };
 
 /// The format; without a word for it, lines to be read.
@@ -148,6 +151,7 @@ pub fn settings_of<'a>(matches: &ArgMatches<'a>) -> Result<Settings<'a>, FieldFa
         prefix: option(matches, PREFIX.id),
         is_traced: is_given(matches, TRACED.id),
         has_accesses: is_given(matches, SHOWN_ACCESSES.id),
+        is_completed: is_given(matches, COMPLETED.id),
     })
 }
 
@@ -251,6 +255,13 @@ pub enum Command<'a> {
         is_runs_only: bool,
         text: Option<&'a str>,
     },
+    /// An outline with the assertions that it lacks, which is verified with at most so many decisions for each condition. It is printed, or takes the place
+    /// of the file.
+    Complete {
+        outline: &'a str,
+        steps: Option<u64>,
+        is_in_place: bool,
+    },
     /// The small changes of an outline's program that its specification doesn't see, and the others too where that is asked.
     Challenge {
         outline: &'a str,
@@ -292,6 +303,7 @@ impl<'a> Command<'a> {
             | Command::EmitOutline { outline }
             | Command::AccessesOutline { outline }
             | Command::RunOutline { outline, .. }
+            | Command::Complete { outline, .. }
             | Command::Challenge { outline, .. } => Some(outline),
             Command::Verify { outlines, .. } => Some(outlines.outline),
             Command::Explain { .. } => None,

@@ -15,6 +15,7 @@ pub enum Kind {
     Find,
     Outline,
     Verify,
+    Complete,
     Challenge,
     Explain,
 }
@@ -108,6 +109,8 @@ pub const VERIFY_STEPS: Field = field!(OptionalNumber "steps");
 
 pub const RUNS_ONLY: Field = field!(Flag "runs-only");
 
+pub const IN_PLACE: Field = field!(Flag "in-place");
+
 pub const START: Field = field!(OptionalFile "start");
 
 pub const MOVES: Field = field!(OptionalFile "moves");
@@ -151,8 +154,10 @@ pub const TRACED: Field = field!(Flag "trace");
 
 pub const SHOWN_ACCESSES: Field = field!(Flag "accesses");
 
+pub const COMPLETED: Field = field!(Flag "complete");
+
 /// The commands, in the order in which the help lists them.
-pub static COMMANDS: [Row; 14] = [
+pub static COMMANDS: [Row; 15] = [
     Row {
         kind: Kind::Number,
         name: "number",
@@ -292,7 +297,13 @@ pub static COMMANDS: [Row; 14] = [
             FORMAT,
             WARNINGS,
             SHOWN_ACCESSES,
+            COMPLETED,
         ],
+    },
+    Row {
+        kind: Kind::Complete,
+        name: "complete",
+        fields: &[OUTLINE, VERIFY_STEPS, IN_PLACE, THREADS, FORMAT, WARNINGS],
     },
     Row {
         kind: Kind::Challenge,

@@ -57,6 +57,7 @@ pub fn help_of(kind: Kind) -> &'static Help {
         Kind::Find => &FIND,
         Kind::Outline => &OUTLINE,
         Kind::Verify => &VERIFY,
+        Kind::Complete => &COMPLETE,
         Kind::Challenge => &CHALLENGE,
         Kind::Explain => &EXPLAIN,
     }
@@ -66,6 +67,7 @@ const OVERVIEW: &str = "Tasks:
   Verify an outline, the one file that you write: a program, and what you say of it
       rgc verify lock.rgo                prove it, or see where it isn't so, and in which states
       rgc verify lock.rgo --runs-only    look for a run that breaks it, without assertions
+      rgc complete lock.rgo              find the assertions that it lacks
       rgc challenge lock.rgo             see which small changes its specification doesn't see
   See a run
       rgc run --outline lock.rgo         each step, and whose guarantee it is inside
@@ -425,6 +427,36 @@ Examples:
             "accesses",
             "print below the verdict what `rgc accesses` prints; without --runs-only,\n\
              --text and --format json",
+        ),
+        (
+            "complete",
+            "search first for assertions and loop invariants that are missing",
+        ),
+    ],
+};
+
+static COMPLETE: Help = Help {
+    about: "Finds the assertions and loop invariants that an outline lacks, and prints it with them",
+    more: "What is written stays as it stands. What is found is verified as any outline is, and the verdict is
+printed on standard error, or on standard output where the file is rewritten. Where nothing is found
+that makes all conditions hold, it is reported where, and the status is 1.
+
+Example:
+  rgc complete lock.rgo > complete.rgo
+      verified: 77 conditions, 73 by search; 9 assertions were found",
+    fields: &[
+        (
+            "steps",
+            "the most decisions and the most conflicts of each search of the\n\
+             verification, 1000000 where it isn't given",
+        ),
+        (
+            "in-place",
+            "rewrite the file, in place of printing the outline",
+        ),
+        (
+            "warnings",
+            "error: the status is 1 where a warning is given; off: none is given",
         ),
     ],
 };

@@ -11,9 +11,9 @@ ghost use Rattle.rgc_line.specs.declared.fields.FieldFault.TheVariants.{Accesses
 
 use crate::command::{Command, settings_of};
 use crate::commands::{
-    COMMANDS, CONDITIONS, DERIVATION, DERIVATION_FILES, DRAW, FORMULAS, HINTS, Kind, LIMIT, MAP,
-    MOVES, OUTLINE, PROOFS, REFUSAL, REFUSED, RUNS_ONLY, Row, START, STEPS, TEXT, VERIFY_STEPS,
-    WRITTEN_PROOFS, WRITTEN_TEXT,
+    COMMANDS, CONDITIONS, DERIVATION, DERIVATION_FILES, DRAW, FORMULAS, HINTS, IN_PLACE, Kind,
+    LIMIT, MAP, MOVES, OUTLINE, PROOFS, REFUSAL, REFUSED, RUNS_ONLY, Row, START, STEPS, TEXT,
+    VERIFY_STEPS, WRITTEN_PROOFS, WRITTEN_TEXT,
 };
 use crate::fields::{
     FieldFault, Source, chosen, file, given_number, is_given, number_or_none, option, outline_at,
@@ -187,6 +187,11 @@ fn command_of<'a>(
             steps: number_or_none(matches, VERIFY_STEPS.id),
             is_runs_only: is_given(matches, RUNS_ONLY.id),
             text: option(matches, WRITTEN_TEXT.id),
+        }),
+        Kind::Complete => Ok(Command::Complete {
+            outline: file(matches, OUTLINE.id),
+            steps: number_or_none(matches, VERIFY_STEPS.id),
+            is_in_place: is_given(matches, IN_PLACE.id),
         }),
         Kind::Challenge => Ok(Command::Challenge {
             outline: file(matches, OUTLINE.id),

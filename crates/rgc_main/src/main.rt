@@ -1,6 +1,7 @@
 //! The program `rgc`: it reads the words and the files, and does the command.
 #![tactic(auto)]
 
+mod completed;
 mod contents;
 mod largest;
 mod memory;
@@ -17,6 +18,7 @@ ghost use Rattle.std.specs.Prelude.{◌≡◌};
 ghost use Rattle.rg_words.specs.Written.{CanCount};
 
 use clap::error::ErrorKind;
+use completed::{completes, done_completed, verifying};
 use contents::{Contents, lent, reads_input_twice};
 use largest::{Kind, largest_told};
 use memory::Memory;
@@ -438,6 +440,7 @@ fn outline_of<'a>(line: &Line<'a>) -> Option<&'a str> {
         | Command::EmitOutline { outline }
         | Command::AccessesOutline { outline }
         | Command::RunOutline { outline, .. }
+        | Command::Complete { outline, .. }
         | Command::Challenge { outline, .. } => Some(outline),
         _ => None,
     }
@@ -454,7 +457,7 @@ pub(crate) fn outline_format(format: Format) -> OutlineFormat {
 /// The format in which an outline is reported of: JSON where its verification, or its challenge, asks for that.
 fn format_of(line: &Line<'_>) -> OutlineFormat {
     match line.command {
-        Command::Verify { .. } | Command::Challenge { .. } => {
+        Command::Verify { .. } | Command::Complete { .. } | Command::Challenge { .. } => {
             outline_format(line.settings.format)
         }
         _ => OutlineFormat::Plain,
@@ -468,8 +471,10 @@ fn done_over<'a, R: Threads + Wait + Sync>(
     files: Files<'a>,
     name: &'a str,
 ) -> Result<u8, AllocError> {
+    // (what can't be read, or stands for nothing, is reported as by `verify`)
+    let asked = verifying(line);
     let Some(source) = files.text else {
-        return done_and_drawn(means, line, &files);
+        return done_and_drawn(means, &asked, &files);
     };
     let alloc = means.rt.alloc();
     let outline = OutlineSource {
@@ -481,9 +486,12 @@ fn done_over<'a, R: Threads + Wait + Sync>(
     match read_outline(alloc, outline) {
         Ok(read) => {
             let expanded = Outlined::of(alloc, outline, &read);
-            done_with(means, line, files, &expanded)
+            if let (true, Ok(outlined)) = (completes(line), &expanded) {
+                return done_completed(means, line, files, outlined);
+            }
+            done_with(means, &asked, files, &expanded)
         }
-        Err(none) => done_with(means, line, files, &Err(none)),
+        Err(none) => done_with(means, &asked, files, &Err(none)),
     }
 }
 
@@ -587,6 +595,14 @@ fn misfit_of(line: &Line<'_>, names: &PieceNames<'_>) -> Option<&'static str> {
         if !names.derivation.is_empty() {
             return Some("--outline and --derivation don't go together");
         }
+    }
+    if let Command::Complete {
+        outline: "-",
+        is_in_place: true,
+        ..
+    } = line.command
+    {
+        return Some("--in-place takes a file");
     }
     match line.settings.warnings {
         Some(word) if word != STRICT && word != NO_WARNINGS => {

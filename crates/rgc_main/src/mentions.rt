@@ -40,7 +40,10 @@ fn add_all<'a>(
 /// How the text that a command reads is named.
 fn option_of_text(command: &Command<'_>) -> &'static str {
     match command {
-        Command::Outline { .. } | Command::Verify { .. } | Command::Challenge { .. } => "OUTLINE",
+        Command::Outline { .. }
+        | Command::Verify { .. }
+        | Command::Complete { .. }
+        | Command::Challenge { .. } => "OUTLINE",
         Command::EmitOutline { .. }
         | Command::AccessesOutline { .. }
         | Command::RunOutline { .. } => "--outline",

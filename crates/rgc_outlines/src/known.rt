@@ -122,7 +122,7 @@ impl<'p> Known<'p> {
     /// # Errors
     ///
     /// As `rg_hints::proof_sections`.
-    pub(crate) fn of(
+    pub fn of(
         alloc: Global,
         conditions: &[Condition],
         proofs: &'p [String],

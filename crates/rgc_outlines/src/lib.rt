@@ -18,8 +18,10 @@ mod walk;
 mod warnings;
 
 pub use answers::{Answer, Answered};
+pub use asked::is_proved;
 pub use challenges::{Challenge, Options, challenge_changes};
 pub use claims::confirmed;
+pub use known::Known;
 pub use naming::{Naming, draw_reported, naming_of, push_reported};
 pub use pieces::{derive_outline, short_derivations_are_accepted, short_derivations_are_built};
 pub use proved::{Counts, Proved, prove_outline, proved_outlines_are_accepted};

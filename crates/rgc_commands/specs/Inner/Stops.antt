@@ -5,7 +5,7 @@ use Rattle.rg_words.specs.Refusals.{no_memory}
 use Rattle.rg_outline_reports.specs.declared.files.OutlineFiles.{OutlineFiles}
 use Rattle.rgc.specs.Pieces.{IsAcceptInPiecesRefusal}
 use Rattle.rgc_line.specs.declared.command.Command.{Command}
-use Rattle.rgc_line.specs.declared.command.Command.TheVariants.{EmitOutline, AccessesOutline, RunOutline, Outline, Verify, Challenge}
+use Rattle.rgc_line.specs.declared.command.Command.TheVariants.{EmitOutline, AccessesOutline, RunOutline, Outline, Verify, Complete, Challenge}
 use Rattle.rgc_line.specs.declared.command.Outlines.{Outlines}
 use Rattle.rgc_line.specs.declared.command.Settings.{Settings}
 use Rattle.rgc_outlines.specs.Refused.{IsVerifyRefusal, IsExpandRefusal}
@@ -28,6 +28,7 @@ IsOverOutline (AccessesOutline _) = Unit {0}
 IsOverOutline (RunOutline _ _ _ _ _) = Unit {0}
 IsOverOutline (Outline _ _ _ _ _) = Unit {0}
 IsOverOutline (Verify _ _ _ _) = Unit {0}
+IsOverOutline (Complete _ _ _) = Unit {0}
 IsOverOutline (Challenge _ _) = Unit {0}
 IsOverOutline _ = ⊥
 

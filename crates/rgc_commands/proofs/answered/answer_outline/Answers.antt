@@ -72,4 +72,4 @@ pub returns-in-Challenge-clause-put : goal.returns-in-Challenge-clause-put
 returns-in-Challenge-clause-put g c = rw c.in-Challenge.is (on_ok_any c.challenge_outline.result (Unit {0}) tt)
 
 pub returns-in_default-clause-stopped : goal.returns-in_default-clause-stopped
-returns-in_default-clause-stopped g c = absurd (no_others c.args.line.now.command c.in_default.not-EmitOutline c.in_default.not-AccessesOutline c.in_default.not-RunOutline c.in_default.not-Outline c.in_default.not-Verify c.in_default.not-Challenge c.requires.over)
+returns-in_default-clause-stopped g c = absurd (no_others c.args.line.now.command c.in_default.not-EmitOutline c.in_default.not-AccessesOutline c.in_default.not-RunOutline c.in_default.not-Outline c.in_default.not-Verify c.in_default.not-Challenge c.in_default.not-Complete c.requires.over)

@@ -1,0 +1,20 @@
+//! The places of an outline at which an assertion may be written and none is, what may stand there, and the outline with it.
+#![tactic(auto)]
+
+mod atoms;
+mod brackets;
+mod equations;
+mod filled;
+mod gathered;
+mod numbers;
+mod slots;
+mod substituted;
+mod trial;
+mod words;
+
+pub use atoms::{Atom, Atoms};
+pub use filled::{Filled, fill};
+pub use gathered::atoms_of;
+pub use slots::{Slot, SlotKind, slots_of};
+pub use trial::trial_of;
+pub use words::some_word;

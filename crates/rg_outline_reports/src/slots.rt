@@ -1,0 +1,191 @@
+//! What the conditions of a derivation ask of assertions by their places, and assertions as the text has them: for a search for assertions.
+
+use crate::asked::{Asked, OfLine, OfParts, conditions_of};
+use crate::says::given_and_due;
+use rg_outline::{Assertion, BlockRow, Expansion, Line, push_flat, work_out};
+use rg_outline_syntax::{Fault, FaultKind, Span, Texts, Tokens, parse};
+use std::alloc::{AllocError, Global};
+
+/// What a condition asks of the assertions of a part.
+#[derive(Clone, Copy, PartialEq, Eq)]
+pub enum Demand {
+    /// Where the one holds, the other holds after a step, or at once.
+    Leads,
+    /// Steps of others keep it.
+    Stable,
+    /// Where it holds, a step is inside the part's guarantee.
+    Guaranteed,
+    /// The program's pre gives it.
+    Entered,
+    /// Those at the ends of all parts give the program's post.
+    Ended,
+    /// Nothing.
+    Other,
+}
+
+/// What a condition asks, and of which assertions: each by the place of its formula.
+#[derive(Clone, Copy)]
+pub struct Obligation {
+    pub demand: Demand,
+    /// The part, by its place in the text.
+    pub part: usize,
+    /// What holds before.
+    pub given: Option<Span>,
+    /// What has to hold then.
+    pub due: Option<Span>,
+}
+
+/// What a condition asks of one assertion, or of two.
+fn asks(demand: Demand, part: usize, given: Assertion, due: Assertion) -> Obligation {
+    Obligation {
+        demand,
+        part,
+        given: Some(given.span),
+        due: Some(due.span),
+    }
+}
+
+/// What a condition asks that is given no assertion.
+fn asks_alone(demand: Demand, part: usize, due: Option<Span>) -> Obligation {
+    Obligation {
+        demand,
+        part,
+        given: None,
+        due,
+    }
+}
+
+/// What a condition of a line asks.
+fn of_line(expansion: &Expansion<'_>, of: OfLine, line: &Line) -> Obligation {
+    let (before, after, part) = (line.before, line.after, line.part);
+    match of {
+        OfLine::Reach | OfLine::Exit => asks(Demand::Leads, part, before, after),
+        OfLine::Step => Obligation {
+            due: None,
+            ..asks(Demand::Guaranteed, part, before, before)
+        },
+        OfLine::PreStable => asks(Demand::Stable, part, before, before),
+        OfLine::PostStable => asks(Demand::Stable, part, after, after),
+        OfLine::PreFollows | OfLine::PostFollows => {
+            let is_before = matches!(of, OfLine::PreFollows);
+            let (given, due) = given_and_due(expansion, line, is_before);
+            asks(Demand::Leads, part, given, due)
+        }
+        OfLine::RelyFollows | OfLine::GuarFollows => asks_alone(Demand::Other, part, None),
+    }
+}
+
+/// What a condition of the parts asks.
+fn of_parts(expansion: &Expansion<'_>, of: OfParts) -> Obligation {
+    match of {
+        OfParts::Pre(part) => {
+            let pre = expansion.parts.get(part).map(|known| known.pre.span);
+            asks_alone(Demand::Entered, part, pre)
+        }
+        OfParts::Post => asks_alone(Demand::Ended, 0, None),
+        _ => asks_alone(Demand::Other, 0, None),
+    }
+}
+
+/// What each condition of the derivation asks, in the order of their numbers.
+pub(crate) fn obligations_of(expansion: &Expansion<'_>) -> Result<Vec<Obligation>, AllocError> {
+    let mut obligations = Vec::new(expansion.scope.alloc);
+    for asked in &conditions_of(expansion)? {
+        obligations.push(match *asked {
+            Asked::Line(of, _, line) => of_line(expansion, of, line),
+            Asked::Parts(of) => of_parts(expansion, of),
+        })?;
+    }
+    Ok(obligations)
+}
+
+/// What assertions of an outline say as the text has them, or where the outline can't be read.
+#[derive(Drop)]
+pub enum Leading {
+    /// The place of the first fault.
+    Fault(Span),
+    /// The assertions with which the body of each part begins, without the invariant; those that are too long are empty.
+    Parts(Vec<Texts>),
+}
+
+/// The assertions with which the body of a part begins.
+fn leading_of(expansion: &Expansion<'_>, body: usize) -> Result<Texts, Fault> {
+    let mut texts = Texts::new(expansion.scope.alloc);
+    for row in expansion.rows_of(expansion.block(body).rows) {
+        if let BlockRow::Assertion(assertion) = row {
+            let mut text = Vec::new(expansion.scope.alloc);
+            match push_flat(expansion, &mut text, assertion.own) {
+                Err(fault) if is_memory(fault) => return Err(fault),
+                Err(_) => texts.push(&[])?,
+                Ok(()) => texts.push(&text)?,
+            }
+        }
+    }
+    Ok(texts)
+}
+
+/// Whether memory was refused.
+fn is_memory(fault: Fault) -> bool {
+    matches!(fault.kind, FaultKind::Memory)
+}
+
+/// The assertions with which the bodies of an outline begin.
+fn leading_in(alloc: Global, source: &[u8]) -> Result<Vec<Texts>, Fault> {
+    let tokens = Tokens::read(alloc, source)?;
+    let written = parse(alloc, source, &tokens)?;
+    let mut expansion = Expansion::new(alloc, source, &written);
+    work_out(&mut expansion)?;
+    let mut parts = Vec::new(alloc);
+    for part in &expansion.parts {
+        parts.push(leading_of(&expansion, part.body)?)?;
+    }
+    Ok(parts)
+}
+
+/// The assertions with which the bodies of an outline in these bytes begin, as the text has them; or the place of its first fault.
+///
+/// # Errors
+///
+/// Only where memory is refused.
+pub fn leading_assertions(alloc: Global, source: &[u8]) -> Result<Leading, AllocError> {
+    match leading_in(alloc, source) {
+        Ok(parts) => Ok(Leading::Parts(parts)),
+        Err(fault) if is_memory(fault) => Err(AllocError),
+        Err(fault) => Ok(Leading::Fault(fault.span)),
+    }
+}
+
+/// A part of the text.
+#[derive(Clone, Copy)]
+pub struct Member {
+    /// Where it is named.
+    pub name: Span,
+    /// The place of the assertion at its end.
+    pub end: Span,
+    /// The words that it owns, as bits.
+    pub owned: u64,
+    /// The written part of which it is, by its place among these.
+    pub family: usize,
+}
+
+/// The written part in which a place lies.
+fn family_of(expansion: &Expansion<'_>, place: Span) -> usize {
+    let parts = &expansion.scope.written.parts;
+    let found = parts.iter().position(|part| part.span.start <= place.start
+        && place.end <= part.span.end);
+    found.unwrap_or(usize::MAX)
+}
+
+/// The parts, in the order of the text.
+pub(crate) fn members_of(expansion: &Expansion<'_>) -> Result<Vec<Member>, AllocError> {
+    let mut members = Vec::new(expansion.scope.alloc);
+    for part in &expansion.parts {
+        members.push(Member {
+            name: part.span,
+            end: part.post.span,
+            owned: part.owned_bits,
+            family: family_of(expansion, part.span),
+        })?;
+    }
+    Ok(members)
+}

@@ -1,0 +1,302 @@
+//! The formulas that are tried, as the text of each part has them.
+
+use crate::alive::Bits;
+use crate::evaluate::{Moment, holds, words_of};
+use rg_complete::{Atoms, atoms_of, trial_of};
+use rg_outline_reports::{Leading, Member, ReadOutline, leading_assertions};
+use rg_outline_syntax::{Span, Texts};
+use rg_parse::formula;
+use rg_tree::tree::Formula;
+use rg_words::{Layout, RefusalNumber};
+use std::alloc::{AllocError, Global};
+
+/// The most formulas that can't be read before the others are given up.
+const MOST_FAULTS: usize = 120;
+
+/// The most premises.
+const MOST_PREMISES: usize = 80;
+
+/// The formulas of a part of the text.
+#[derive(Drop)]
+pub(crate) struct Instance {
+    /// Which of the written parts it is.
+    pub(crate) family: usize,
+    pub(crate) member: Member,
+    /// Each formula as the text has it; empty where it is out.
+    pub(crate) texts: Texts,
+    pub(crate) formulas: Vec<Option<Formula>>,
+}
+
+/// The formulas of a written part.
+#[derive(Drop)]
+pub(crate) struct FamilyAtoms {
+    pub(crate) atoms: Atoms,
+    pub(crate) premises: Vec<usize>,
+    /// Those that speak of words of the part's own alone.
+    pub(crate) firm: Bits,
+}
+
+/// All formulas that are tried.
+#[derive(Drop)]
+pub(crate) struct Tried {
+    pub(crate) families: Vec<FamilyAtoms>,
+    pub(crate) instances: Vec<Instance>,
+}
+
+impl Instance {
+    /// Which formulas are true in a state.
+    pub(crate) fn truth(&self, alloc: Global, state: &[u64]) -> Result<Bits, AllocError> {
+        let mut bits = Bits::new(alloc, self.formulas.len(), false)?;
+        for (place, formula) in self.formulas.iter().enumerate() {
+            if let Some(formula) = formula
+                && holds(formula, Moment::at(state))
+            {
+                bits.put(place, true);
+            }
+        }
+        Ok(bits)
+    }
+}
+
+impl Tried {
+    /// The formulas of the family of a part.
+    pub(crate) fn family_of(&self, part: usize) -> Option<&FamilyAtoms> {
+        let instance = self.instances.get(part)?;
+        self.families.get(instance.family)
+    }
+
+    /// The premises of the family of a part.
+    pub(crate) fn premises_of(&self, part: usize) -> &[usize] {
+        match self.family_of(part) {
+            Some(family) => family.premises.as_slice(),
+            None => &[],
+        }
+    }
+
+    /// Which formulas of a part are true in a state.
+    pub(crate) fn truth(
+        &self,
+        alloc: Global,
+        part: usize,
+        state: &[u64],
+    ) -> Result<Bits, AllocError> {
+        match self.instances.get(part) {
+            Some(instance) => instance.truth(alloc, state),
+            None => Bits::new(alloc, 0, false),
+        }
+    }
+}
+
+/// Takes out the formula at a place of a trial; where no formula stands there, all that have arguments. Whether there was one.
+fn take_out(all: &mut [Atoms], spans: &[Span], fault: Span) -> bool {
+    let mut has_found = false;
+    let mut place = 0usize;
+    for atoms in all.iter_mut() {
+        for atom in atoms.atoms.iter_mut() {
+            let span = spans.get(place).copied().unwrap_or(Span::NOWHERE);
+            place = place.saturating_add(1);
+            if !atom.is_out && span.start <= fault.start && fault.start < span.end {
+                atom.is_out = true;
+                has_found = true;
+            }
+        }
+    }
+    has_found
+}
+
+/// Takes out all formulas in which something stands in parentheses; whether there was one.
+fn take_out_calls(all: &mut [Atoms]) -> bool {
+    let mut has_found = false;
+    for atoms in all.iter_mut() {
+        for (place, atom) in atoms.atoms.iter_mut().enumerate() {
+            if !atom.is_out && atoms.texts.at(place).contains(&b'(') {
+                atom.is_out = true;
+                has_found = true;
+            }
+        }
+    }
+    has_found
+}
+
+/// What the formulas say in each part of the text; those that can't be read are taken out.
+fn read_all(
+    alloc: Global,
+    source: &[u8],
+    read: &ReadOutline,
+    all: &mut [Atoms],
+) -> Result<Vec<Texts>, AllocError> {
+    for _ in 0..MOST_FAULTS {
+        let trial = trial_of(alloc, source, &read.tokens, &read.written, all)?;
+        match leading_assertions(alloc, &trial.source)? {
+            Leading::Parts(parts) => return Ok(parts),
+            Leading::Fault(fault) => {
+                if !take_out(all, &trial.spans, fault) && !take_out_calls(all) {
+                    break;
+                }
+            }
+        }
+    }
+    Ok(Vec::new(alloc))
+}
+
+/// The texts of all formulas of a part, from those of the formulas that are not out.
+fn spread(alloc: Global, atoms: &Atoms, said: &Texts) -> Result<Texts, AllocError> {
+    let mut texts = Texts::new(alloc);
+    let mut place = 0usize;
+    for atom in &atoms.atoms {
+        if atom.is_out {
+            texts.push(&[])?;
+        } else {
+            texts.push(said.at(place))?;
+            place = place.saturating_add(1);
+        }
+    }
+    Ok(texts)
+}
+
+/// Whether two formulas say the same in all parts of a family.
+fn are_same(instances: &[Instance], family: usize, first: usize, second: usize) -> bool {
+    instances
+        .iter()
+        .filter(|instance| instance.family == family)
+        .all(|instance| instance.texts.at(first) == instance.texts.at(second))
+}
+
+/// Whether a formula says nothing in some part of a family.
+fn is_void(instances: &[Instance], family: usize, place: usize) -> bool {
+    instances
+        .iter()
+        .filter(|instance| instance.family == family)
+        .any(|instance| {
+            let text = instance.texts.at(place);
+            text.is_empty() || matches!(text, b"true" | b"false")
+        })
+}
+
+/// Takes out what says nothing, and what another says in fewer bytes.
+fn take_out_same(instances: &[Instance], family: usize, atoms: &mut Atoms) {
+    let count = atoms.atoms.len();
+    for place in 0..count {
+        let mut is_out = is_void(instances, family, place);
+        for other in 0..count {
+            let is_shorter = (atoms.texts.at(other).len(), other)
+                < (atoms.texts.at(place).len(), place);
+            let is_in = atoms.atoms.get(other).is_some_and(|atom| !atom.is_out);
+            if !is_out && is_shorter && is_in {
+                is_out = are_same(instances, family, place, other);
+            }
+        }
+        if let Some(atom) = atoms.atoms.get_mut(place) {
+            atom.is_out |= is_out;
+        }
+    }
+}
+
+/// The formula of a text; nothing where it can't be read.
+fn formula_of(alloc: Global, layout: &Layout, text: &[u8]) -> Result<Option<Formula>, AllocError> {
+    match formula(alloc, layout, text) {
+        Ok(formula) => Ok(Some(formula)),
+        Err(refusal) if refusal.number == RefusalNumber::Memory => Err(AllocError),
+        Err(_) => Ok(None),
+    }
+}
+
+/// Reads the formulas of a part.
+fn read_formulas(
+    alloc: Global,
+    layout: &Layout,
+    atoms: &Atoms,
+    instance: &mut Instance,
+) -> Result<(), AllocError> {
+    for (place, atom) in atoms.atoms.iter().enumerate() {
+        let mut made = None;
+        if !atom.is_out {
+            made = formula_of(alloc, layout, instance.texts.at(place))?;
+        }
+        instance.formulas.push(made)?;
+    }
+    Ok(())
+}
+
+/// The words that no step changes, as bits.
+fn fixed_words(layout: &Layout) -> u64 {
+    let mut bits = 0u64;
+    for word in 0..layout.len() {
+        if layout.is_fixed(word) {
+            bits |= 1u64 << ((word as u64).min(63) as u32);
+        }
+    }
+    bits
+}
+
+/// What is known of the formulas of a family.
+fn family_of(
+    alloc: Global,
+    layout: &Layout,
+    instances: &[Instance],
+    family: usize,
+    atoms: Atoms,
+) -> Result<FamilyAtoms, AllocError> {
+    let mut premises = Vec::new(alloc);
+    let mut firm = Bits::new(alloc, atoms.atoms.len(), false)?;
+    let first = instances.iter().find(|instance| instance.family == family);
+    for (place, atom) in atoms.atoms.iter().enumerate() {
+        if atom.is_premise && !atom.is_out && premises.len() < MOST_PREMISES {
+            premises.push(place)?;
+        }
+        if let Some(instance) = first
+            && let Some(Some(formula)) = instance.formulas.get(place)
+        {
+            let kept = instance.member.owned | fixed_words(layout);
+            firm.put(place, words_of(formula) & !kept == 0);
+        }
+    }
+    Ok(FamilyAtoms {
+        atoms,
+        premises,
+        firm,
+    })
+}
+
+/// The formulas that are tried in an outline, whose parts are these.
+pub(crate) fn tried_of(
+    alloc: Global,
+    source: &[u8],
+    read: &ReadOutline,
+    layout: &Layout,
+    members: &[Member],
+) -> Result<Tried, AllocError> {
+    let mut all = Vec::new(alloc);
+    for part in &read.written.parts {
+        all.push(atoms_of(alloc, source, &read.tokens, &read.written, *part)?)?;
+    }
+    let said = read_all(alloc, source, read, &mut all)?;
+    let mut instances = Vec::new(alloc);
+    for (member, texts) in members.iter().zip(&said) {
+        let family = member.family;
+        if let Some(atoms) = all.get(family) {
+            instances.push(Instance {
+                family,
+                member: *member,
+                texts: spread(alloc, atoms, texts)?,
+                formulas: Vec::new(alloc),
+            })?;
+        }
+    }
+    for (family, atoms) in all.iter_mut().enumerate() {
+        take_out_same(&instances, family, atoms);
+    }
+    for instance in instances.iter_mut() {
+        if let Some(atoms) = all.get(instance.family) {
+            read_formulas(alloc, layout, atoms, instance)?;
+        }
+    }
+    let mut families = Vec::new(alloc);
+    for (family, atoms) in all.into_iter().enumerate() {
+        families.push(family_of(alloc, layout, &instances, family, atoms)?)?;
+    }
+    Ok(Tried {
+        families,
+        instances,
+    })
+}

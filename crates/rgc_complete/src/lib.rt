@@ -1,0 +1,19 @@
+//! The search for assertions that an outline lacks. Nothing is promised of it: what it finds is an outline, which is verified as any other.
+#![tactic(auto)]
+
+mod alive;
+mod asked;
+mod conditions;
+mod elaborated;
+mod evaluate;
+mod found;
+mod memory;
+mod prints;
+mod reached;
+mod search;
+mod shorter;
+mod starts;
+mod unfound;
+mod written;
+
+pub use found::{Completed, complete};

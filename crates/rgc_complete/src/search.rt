@@ -1,0 +1,521 @@
+//! The search: which candidates are needed at which places, so that all conditions hold.
+
+use crate::alive::{Alive, Bits, Candidate};
+use crate::asked::{Outcome, ask};
+use crate::conditions::{Base, Duty};
+use crate::elaborated::{FamilyAtoms, Instance, Tried};
+use crate::evaluate::Moment;
+use crate::memory::{Asked, Looked, Memory};
+use rg_outline_reports::Demand;
+use std::alloc::{AllocError, Global};
+
+/// The most rounds over the conditions, the most answers to one condition in a round, and the most questions together.
+const MOST_ROUNDS: usize = 3_000;
+
+const MOST_ANSWERS: usize = 4_000;
+
+const MOST_QUESTIONS: usize = 6_000;
+
+/// What an implication costs beside its texts, and what a formula costs that others can make false.
+const COST_OF_PREMISE: usize = 24;
+
+const COST_OF_OTHERS: usize = 14;
+
+/// A condition that no candidate makes hold.
+#[derive(Drop)]
+pub(crate) struct Failure {
+    pub(crate) duty: Duty,
+    /// A state in which it fails, where one is known.
+    pub(crate) state: Vec<u64>,
+}
+
+/// A search.
+#[derive(Drop)]
+pub(crate) struct Search<'a> {
+    pub(crate) alloc: Global,
+    pub(crate) base: &'a Base,
+    pub(crate) tried: &'a Tried,
+    /// What isn't refuted, at each place.
+    pub(crate) alive: Vec<Alive>,
+    /// What is needed, at each place.
+    pub(crate) needed: Vec<Vec<Candidate>>,
+    /// Whether each condition is to be asked for what is needed where it leads; and for what it asks by itself.
+    pub(crate) is_open: Vec<bool>,
+    pub(crate) is_loose: Vec<bool>,
+    /// What is remembered of each condition.
+    pub(crate) memories: Vec<Memory>,
+    pub(crate) questions: usize,
+}
+
+/// How it goes on after a question.
+#[derive(Clone, Copy, PartialEq, Eq)]
+enum Step {
+    /// The condition holds.
+    Done,
+    /// It is to be asked again.
+    Again,
+    /// Nothing makes it hold.
+    Stuck,
+}
+
+/// A candidate of a place that was chosen, and what it costs.
+#[derive(Clone, Copy)]
+struct Chosen {
+    place: usize,
+    candidate: Candidate,
+    cost: usize,
+}
+
+/// Adds a candidate as the text of a part has it.
+fn push_candidate(
+    instance: &Instance,
+    family: &FamilyAtoms,
+    candidate: Candidate,
+    text: &mut Vec<u8>,
+) -> Result<(), AllocError> {
+    let premise = candidate
+        .row
+        .checked_sub(1)
+        .and_then(|row| family.premises.get(row).copied());
+    let Some(premise) = premise else {
+        return text.extend_from_slice(instance.texts.at(candidate.atom));
+    };
+    text.push(b'(')?;
+    text.extend_from_slice(instance.texts.at(premise))?;
+    text.extend_from_slice(b" implies ")?;
+    text.extend_from_slice(instance.texts.at(candidate.atom))?;
+    text.push(b')')?;
+    Ok(())
+}
+
+/// Conjuncts as the text has them.
+#[derive(Drop)]
+struct Conjuncts {
+    text: Vec<u8>,
+    count: usize,
+}
+
+impl Conjuncts {
+    /// Their formula, which is true where there are none.
+    fn formula(self, alloc: Global) -> Result<Vec<u8>, AllocError> {
+        let Conjuncts { text, count } = self;
+        if count == 1 {
+            return Ok(text);
+        }
+        if count == 0 {
+            return Vec::from_slice(alloc, b"true");
+        }
+        let mut formula = Vec::from_slice(alloc, b"(")?;
+        formula.extend_from_slice(&text)?;
+        formula.push(b')')?;
+        Ok(formula)
+    }
+}
+
+/// What a candidate costs.
+pub(crate) fn cost_of(family: &FamilyAtoms, candidate: Candidate) -> usize {
+    let own = family.atoms.texts.at(candidate.atom).len();
+    let mut is_firm = family.firm.has(candidate.atom);
+    let mut cost = own;
+    let premise = candidate
+        .row
+        .checked_sub(1)
+        .and_then(|row| family.premises.get(row).copied());
+    if let Some(premise) = premise {
+        is_firm &= family.firm.has(premise);
+        cost = cost
+            .saturating_add(family.atoms.texts.at(premise).len())
+            .saturating_add(COST_OF_PREMISE);
+    }
+    if is_firm {
+        cost
+    } else {
+        cost.saturating_add(COST_OF_OTHERS)
+    }
+}
+
+/// The cheapest candidate of a place that is false where these formulas are true alone.
+fn cheapest(alive: &Alive, family: &FamilyAtoms, truth: &Bits, place: usize) -> Option<Chosen> {
+    let mut best: Option<Chosen> = None;
+    for row in 0..alive.len() {
+        let premise = row
+            .checked_sub(1)
+            .and_then(|row| family.premises.get(row).copied());
+        if premise.is_some_and(|premise| !truth.has(premise)) {
+            continue;
+        }
+        let Some(bits) = alive.row(row) else {
+            continue;
+        };
+        for (index, (word, true_word)) in bits.words.iter().zip(&truth.words).enumerate() {
+            let mut left = *word & !*true_word;
+            for _ in 0..64 {
+                if left == 0 {
+                    break;
+                }
+                let atom = index
+                    .saturating_mul(64)
+                    .saturating_add(left.trailing_zeros() as usize);
+                left &= left.wrapping_sub(1);
+                let candidate = Candidate { row, atom };
+                let cost = cost_of(family, candidate);
+                if best.is_none_or(|best| cost < best.cost) {
+                    best = Some(Chosen {
+                        place,
+                        candidate,
+                        cost,
+                    });
+                }
+            }
+        }
+    }
+    best
+}
+
+impl<'a> Search<'a> {
+    /// Adds what is needed at a place, as the text of a part has it.
+    fn push_needed(
+        &self,
+        part: usize,
+        place: usize,
+        conjuncts: &mut Conjuncts,
+    ) -> Result<(), AllocError> {
+        let (Some(instance), Some(needed)) = (
+            self.tried.instances.get(part),
+            self.needed.get(place),
+        ) else {
+            return Ok(());
+        };
+        let Some(family) = self.tried.families.get(instance.family) else {
+            return Ok(());
+        };
+        for candidate in needed {
+            if conjuncts.count > 0 {
+                conjuncts.text.extend_from_slice(b" and ")?;
+            }
+            push_candidate(instance, family, *candidate, &mut conjuncts.text)?;
+            conjuncts.count = conjuncts.count.saturating_add(1);
+        }
+        Ok(())
+    }
+
+    /// No conjuncts.
+    fn no_conjuncts(&self) -> Conjuncts {
+        Conjuncts {
+            text: Vec::new(self.alloc),
+            count: 0,
+        }
+    }
+
+    /// What is given where a condition is asked.
+    fn given(&self, duty: Duty) -> Result<Vec<u8>, AllocError> {
+        let mut conjuncts = self.no_conjuncts();
+        if duty.demand == Demand::Ended {
+            for (part, place) in self.base.ends.iter().enumerate() {
+                self.push_needed(part, *place, &mut conjuncts)?;
+            }
+        } else if let Some(place) = duty.given {
+            self.push_needed(duty.part, place, &mut conjuncts)?;
+        }
+        conjuncts.formula(self.alloc)
+    }
+
+    /// What is needed where a condition leads, if anything is.
+    fn due(&self, duty: Duty) -> Result<Option<Vec<u8>>, AllocError> {
+        let mut conjuncts = self.no_conjuncts();
+        if let Some(place) = duty.due {
+            self.push_needed(duty.part, place, &mut conjuncts)?;
+        }
+        if conjuncts.count == 0 {
+            return Ok(None);
+        }
+        Ok(Some(conjuncts.formula(self.alloc)?))
+    }
+
+    /// The cheapest candidate of what is given to a condition that is false in a state that was met.
+    fn choose(&self, index: usize, met: usize) -> Option<Chosen> {
+        let memory = self.memories.get(index)?;
+        let met = memory.met.get(met)?;
+        let mut best: Option<Chosen> = None;
+        for (source, truth) in memory.sources.iter().zip(&met.given) {
+            let (Some(alive), Some(family)) = (
+                self.alive.get(source.place),
+                self.tried.family_of(source.part),
+            ) else {
+                continue;
+            };
+            if let Some(chosen) = cheapest(alive, family, truth, source.place)
+                && best.is_none_or(|best| chosen.cost < best.cost)
+            {
+                best = Some(chosen);
+            }
+        }
+        best
+    }
+
+    /// Opens the conditions to which a place is due, or given.
+    pub(crate) fn open_about(&mut self, place: usize, is_given: bool) {
+        for (index, duty) in self.base.duties.iter().enumerate() {
+            let is_end = duty.demand == Demand::Ended && self.base.ends.contains(&place);
+            let touches = if is_given {
+                duty.given == Some(place) || is_end
+            } else {
+                duty.due == Some(place)
+            };
+            if touches && let Some(is_open) = self.is_open.get_mut(index) {
+                *is_open = true;
+            }
+            if touches
+                && is_given
+                && let Some(is_loose) = self.is_loose.get_mut(index)
+            {
+                *is_loose = true;
+            }
+        }
+    }
+
+    /// Takes up a candidate.
+    fn need(&mut self, chosen: Chosen) -> Result<(), AllocError> {
+        if let Some(needed) = self.needed.get_mut(chosen.place) {
+            needed.push(chosen.candidate)?;
+        }
+        self.open_about(chosen.place, false);
+        Ok(())
+    }
+
+    /// Lets go of what is needed and refuted at a place.
+    fn forget_refuted(&mut self, place: usize) {
+        let (Some(needed), Some(alive)) = (self.needed.get_mut(place), self.alive.get(place)) else {
+            return;
+        };
+        let before = needed.len();
+        needed.retain(|candidate: &Candidate| alive.has(*candidate));
+        if needed.len() < before {
+            self.open_about(place, true);
+        }
+    }
+
+    /// Takes away, where a condition leads, what is false in a state that was met.
+    fn refute(&mut self, index: usize, duty: Duty, met: usize) {
+        let (Some(place), Some(memory)) = (duty.due, self.memories.get(index)) else {
+            return;
+        };
+        if let (Some(met), Some(alive)) = (memory.met.get(met), self.alive.get_mut(place)) {
+            alive.keep_true(&met.due, self.tried.premises_of(duty.part));
+        }
+        self.forget_refuted(place);
+    }
+
+    /// Takes away at a place what was needed last.
+    fn give_up(&mut self, place: usize) {
+        let last = self
+            .needed
+            .get(place)
+            .and_then(|needed| needed.last().copied());
+        if let (Some(last), Some(alive)) = (last, self.alive.get_mut(place)) {
+            alive.put(last, false);
+        }
+        self.forget_refuted(place);
+    }
+
+    /// What is needed at a place.
+    fn copy_needed(&self, place: usize) -> Result<Vec<Candidate>, AllocError> {
+        match self.needed.get(place) {
+            Some(needed) => Vec::from_slice(self.alloc, needed),
+            None => Ok(Vec::new(self.alloc)),
+        }
+    }
+
+    /// What a condition is given, and what it is to lead to; nothing where nothing is needed there.
+    fn asked(&self, index: usize, duty: Duty, is_alone: bool) -> Result<Option<Asked>, AllocError> {
+        let mut given = Vec::new(self.alloc);
+        if let Some(memory) = self.memories.get(index) {
+            for source in &memory.sources {
+                given.push(self.copy_needed(source.place)?)?;
+            }
+        }
+        if is_alone {
+            return Ok(Some(Asked { given, due: None }));
+        }
+        let due = self.copy_needed(duty.due.unwrap_or(usize::MAX))?;
+        if due.is_empty() {
+            return Ok(None);
+        }
+        Ok(Some(Asked {
+            given,
+            due: Some(due),
+        }))
+    }
+
+    /// Goes on after a state at which a condition fails: by a candidate more, or by fewer where it leads.
+    fn mend(
+        &mut self,
+        index: usize,
+        duty: Duty,
+        met: usize,
+        is_alone: bool,
+    ) -> Result<Step, AllocError> {
+        match self.choose(index, met) {
+            Some(chosen) => self.need(chosen)?,
+            None if is_alone => return Ok(Step::Stuck),
+            None => self.refute(index, duty, met),
+        }
+        Ok(Step::Again)
+    }
+
+    /// Remembers that a condition fails between two states, and near them.
+    fn remember(
+        &mut self,
+        index: usize,
+        duty: Duty,
+        moment: Moment<'_>,
+        asked: &Asked,
+    ) -> Result<(), AllocError> {
+        let (Some(condition), Some(memory)) = (
+            self.base.conditions.get(duty.condition),
+            self.memories.get_mut(index),
+        ) else {
+            return Ok(());
+        };
+        let looked = Looked {
+            alloc: self.alloc,
+            tried: self.tried,
+            condition,
+            part: duty.part,
+        };
+        looked.look_near(memory, moment, asked)?;
+        looked.remember(memory, moment)
+    }
+
+    /// Has a condition searched.
+    fn search(&mut self, index: usize, duty: Duty, asked: Asked) -> Result<Step, AllocError> {
+        let Some(condition) = self.base.conditions.get(duty.condition) else {
+            return Ok(Step::Done);
+        };
+        self.questions = self.questions.saturating_add(1);
+        let given = self.given(duty)?;
+        let mut goal = None;
+        if asked.due.is_some() {
+            goal = self.due(duty)?;
+        }
+        let outcome = match &goal {
+            Some(goal) => ask(self.alloc, condition, &given, Some(goal))?,
+            None => ask(self.alloc, condition, &given, None)?,
+        };
+        match outcome {
+            Outcome::Holds => {
+                if let Some(memory) = self.memories.get_mut(index) {
+                    memory.held.push(asked)?;
+                }
+                Ok(Step::Done)
+            }
+            Outcome::Fails(before, after) => {
+                let moment = Moment {
+                    before: &before,
+                    after: &after,
+                };
+                self.remember(index, duty, moment, &asked)?;
+                let memory = self.memories.get(index);
+                let met = memory.and_then(|memory| memory.refuted(self.tried, duty.part, &asked));
+                Ok(if met.is_some() {
+                    Step::Again
+                } else {
+                    Step::Stuck
+                })
+            }
+            Outcome::Unknown => {
+                let (true, Some(place)) = (asked.due.is_some(), duty.due) else {
+                    return Ok(Step::Stuck);
+                };
+                self.give_up(place);
+                Ok(Step::Again)
+            }
+        }
+    }
+
+    /// Asks a condition for what is needed where it leads, or for what it asks by itself.
+    fn ask_one(&mut self, index: usize, duty: Duty, is_alone: bool) -> Result<Step, AllocError> {
+        let Some(asked) = self.asked(index, duty, is_alone)? else {
+            return Ok(Step::Done);
+        };
+        let memory = self.memories.get(index);
+        if let Some(met) = memory.and_then(|memory| memory.refuted(self.tried, duty.part, &asked)) {
+            return self.mend(index, duty, met, is_alone);
+        }
+        if self
+            .memories
+            .get(index)
+            .is_some_and(|memory| memory.is_answered(&asked))
+        {
+            return Ok(Step::Done);
+        }
+        self.search(index, duty, asked)
+    }
+
+    /// Asks a condition until it holds, or nothing makes it hold; whether it holds.
+    fn holds(&mut self, index: usize, duty: Duty, is_alone: bool) -> Result<bool, AllocError> {
+        for _ in 0..MOST_ANSWERS {
+            if self.questions > MOST_QUESTIONS {
+                break;
+            }
+            match self.ask_one(index, duty, is_alone)? {
+                Step::Done => return Ok(true),
+                Step::Again => {}
+                Step::Stuck => break,
+            }
+        }
+        Ok(false)
+    }
+
+    /// The last state of a condition.
+    fn last_state(&self, index: usize) -> Result<Vec<u64>, AllocError> {
+        match self
+            .memories
+            .get(index)
+            .and_then(|memory| memory.met.last())
+        {
+            Some(met) => Vec::from_slice(self.alloc, &met.state),
+            None => Ok(Vec::new(self.alloc)),
+        }
+    }
+
+    /// The next condition that is to be asked, and whether for what it asks by itself, too.
+    fn next(&mut self) -> Option<(usize, Duty, bool)> {
+        let index = self.is_open.iter().position(|is_open| *is_open)?;
+        let duty = self.base.duties.get(index).copied()?;
+        if let Some(is_open) = self.is_open.get_mut(index) {
+            *is_open = false;
+        }
+        let mut was_loose = false;
+        if let Some(is_loose) = self.is_loose.get_mut(index) {
+            was_loose = *is_loose;
+            *is_loose = false;
+        }
+        Some((index, duty, was_loose))
+    }
+
+    /// Makes all conditions hold, if candidates can; else one that they don't make hold.
+    pub(crate) fn settle_all(&mut self) -> Result<Option<Failure>, AllocError> {
+        for _ in 0..MOST_ROUNDS {
+            let Some((index, duty, is_loose)) = self.next() else {
+                return Ok(None);
+            };
+            let holds_alone = !is_loose || self.holds(index, duty, true)?;
+            if !holds_alone || !self.holds(index, duty, false)? {
+                let state = self.last_state(index)?;
+                return Ok(Some(Failure { duty, state }));
+            }
+        }
+        Ok(None)
+    }
+
+    /// Opens all conditions.
+    pub(crate) fn open_all(&mut self) {
+        for is_open in self.is_open.iter_mut() {
+            *is_open = true;
+        }
+        for is_loose in self.is_loose.iter_mut() {
+            *is_loose = true;
+        }
+    }
+}

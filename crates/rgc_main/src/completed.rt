@@ -1,0 +1,226 @@
+//! Outlines with the assertions that they lack: these are searched for, and what the search gives is verified as any outline is.
+
+use crate::memory::Memory;
+use crate::replace::{Output, write_outputs};
+use crate::{Means, done_with, is_strict, performed, reported, shown, tell};
+use rg_find::Unwatched;
+use rg_outline_reports::{OutlineSource, Outlined, read_outline};
+use rg_words::{Refusal, RefusalNumber};
+use rgc_commands::{Context, Expanded, Files, Sides};
+use rgc_complete::{Completed, complete};
+use rgc_line::{Command, Format, Line, Outlines};
+use std::alloc::AllocError;
+use std::sync::Wait;
+use std::thread::Threads;
+
+/// The most decisions of each search, where a command doesn't name them.
+const MOST_STEPS: u64 = 1_000_000;
+
+/// Whether assertions that an outline lacks are searched for.
+pub fn completes(line: &Line<'_>) -> bool {
+    match line.command {
+        Command::Complete { .. } => true,
+        Command::Verify { is_runs_only, .. } => line.settings.is_completed && !is_runs_only,
+        _ => false,
+    }
+}
+
+/// The most decisions of each search.
+fn steps_of(line: &Line<'_>) -> u64 {
+    match line.command {
+        Command::Complete { steps, .. } | Command::Verify { steps, .. } => {
+            steps.unwrap_or(MOST_STEPS)
+        }
+        _ => MOST_STEPS,
+    }
+}
+
+/// The line that verifies an outline.
+pub fn verifying<'a>(line: &Line<'a>) -> Line<'a> {
+    let command = match line.command {
+        Command::Complete { outline, steps, .. } => Command::Verify {
+            outlines: Outlines {
+                outline,
+                place: 0,
+                count: 1,
+            },
+            steps,
+            is_runs_only: false,
+            text: None,
+        },
+        command => command,
+    };
+    Line {
+        command,
+        settings: line.settings,
+    }
+}
+
+/// What is said of how many assertions were found.
+fn count_line(rt: &HostRuntime, line: &Line<'_>, count: usize) -> Result<String, AllocError> {
+    match line.settings.format {
+        Format::Plain if count == 1 => String::from_str(rt.alloc(), "1 assertion was found\n"),
+        Format::Plain => format!(in rt.alloc(); "{count} assertions were found\n"),
+        Format::Json => format!(in rt.alloc(); "{{\"found\":{count},\"kind\":\"completed\"}}\n"),
+    }
+}
+
+/// An outline that was found.
+#[derive(Clone, Copy)]
+struct Found<'s> {
+    source: &'s [u8],
+    /// How many assertions were added.
+    count: usize,
+}
+
+/// Prints an outline that was verified, or puts it into its file, with what is said of it; the status.
+fn delivered<R: Threads + Wait + Sync>(
+    means: &Means<'_, '_, '_, R>,
+    line: &Line<'_>,
+    found: Found<'_>,
+    verdict: &[u8],
+) -> Result<u8, AllocError> {
+    let rt = means.rt;
+    let said = count_line(rt, line, found.count)?;
+    match line.command {
+        Command::Complete {
+            outline,
+            is_in_place: true,
+            ..
+        } => {
+            let output = Output {
+                name: outline,
+                bytes: found.source,
+                what: "outline",
+            };
+            let status = write_outputs(rt, &[output])?;
+            if status != 0 {
+                return Ok(status);
+            }
+            let status = shown(rt, verdict, 0);
+            Ok(status.max(shown(rt, said.as_bytes(), 0)))
+        }
+        _ => {
+            let status = shown(rt, found.source, 0);
+            reported(rt, verdict);
+            reported(rt, said.as_bytes());
+            Ok(status)
+        }
+    }
+}
+
+/// Verifies an outline that was found, and prints it where it is verified; the status.
+fn printed<R: Threads + Wait + Sync>(
+    means: &Means<'_, '_, '_, R>,
+    line: &Line<'_>,
+    files: &Files<'_>,
+    found: Found<'_>,
+) -> Result<u8, AllocError> {
+    let rt = means.rt;
+    let mut out = Memory::new(rt.alloc());
+    let mut faults = Memory::new(rt.alloc());
+    let mut sides = Sides::new(rt.alloc());
+    let asked = verifying(line);
+    let mut status = performed(means, &asked, files, &mut out, &mut faults, &mut sides);
+    if out.is_refused() || faults.is_refused() {
+        return Err(AllocError);
+    }
+    if status == 0 {
+        status = delivered(means, line, found, out.bytes())?;
+    } else {
+        reported(rt, out.bytes());
+    }
+    reported(rt, faults.bytes());
+    if status == 0 && is_strict(line) && !faults.bytes().is_empty() {
+        return Ok(1);
+    }
+    Ok(status)
+}
+
+/// Does the command over an outline that was found; the status.
+fn done_over_found<'a, R: Threads + Wait + Sync>(
+    means: &Means<'_, '_, '_, R>,
+    line: &Line<'_>,
+    files: Files<'a>,
+    found: Found<'a>,
+    expanded: &'a Expanded<'a>,
+) -> Result<u8, AllocError> {
+    if let Command::Complete { .. } = line.command {
+        let files = Files {
+            outline: Some(expanded),
+            ..files
+        };
+        return printed(means, line, &files, found);
+    }
+    let status = done_with(means, line, files, expanded)?;
+    if status == 0 {
+        let said = count_line(means.rt, line, found.count)?;
+        return Ok(shown(means.rt, said.as_bytes(), status));
+    }
+    Ok(status)
+}
+
+/// Works out an outline that was found, and does the command over it; the status.
+fn done_again<R: Threads + Wait + Sync>(
+    means: &Means<'_, '_, '_, R>,
+    line: &Line<'_>,
+    files: Files<'_>,
+    outline: OutlineSource<'_>,
+    found: Found<'_>,
+) -> Result<u8, AllocError> {
+    let alloc = means.rt.alloc();
+    let outline = OutlineSource {
+        source: found.source,
+        ..outline
+    };
+    let files = Files {
+        text: Some(found.source),
+        ..files
+    };
+    match read_outline(alloc, outline) {
+        Ok(read) => {
+            let expanded = Outlined::of(alloc, outline, &read);
+            done_over_found(means, line, files, found, &expanded)
+        }
+        Err(none) => done_over_found(means, line, files, found, &Err(none)),
+    }
+}
+
+/// Reports a refusal; the status.
+fn refused(rt: &HostRuntime, refusal: Refusal) -> Result<u8, AllocError> {
+    if refusal.number == RefusalNumber::Memory {
+        return Err(AllocError);
+    }
+    let line = format!(in rt.alloc(); "{refusal}")?;
+    tell(rt, &line);
+    Ok(1)
+}
+
+/// Searches for the assertions that an outline lacks, and does the command over the outline with them; the status.
+pub fn done_completed<R: Threads + Wait + Sync>(
+    means: &Means<'_, '_, '_, R>,
+    line: &Line<'_>,
+    files: Files<'_>,
+    outlined: &Outlined<'_>,
+) -> Result<u8, AllocError> {
+    let context = Context {
+        rt: means.threads,
+        alloc: means.rt.alloc(),
+        threads: means.most,
+        watcher: &Unwatched,
+    };
+    match complete(&context, outlined, steps_of(line)) {
+        Ok(Completed::Found(source, count)) => {
+            let found = Found {
+                source: &source,
+                count,
+            };
+            done_again(means, line, files, outlined.outline, found)
+        }
+        Ok(Completed::Unfound(report)) => {
+            reported(means.rt, &report);
+            Ok(1)
+        }
+        Err(refusal) => refused(means.rt, refusal),
+    }
+}
