@@ -34,6 +34,7 @@ impl Atom {
 /// Formulas over the names of a part, each once.
 #[derive(Drop)]
 pub struct Atoms {
+    alloc: Global,
     pub texts: Texts,
     pub atoms: Vec<Atom>,
 }
@@ -42,6 +43,7 @@ impl Atoms {
     /// None.
     pub(crate) fn new(alloc: Global) -> Atoms {
         Atoms {
+            alloc,
             texts: Texts::new(alloc),
             atoms: Vec::new(alloc),
         }
@@ -67,18 +69,17 @@ impl Atoms {
         Ok(())
     }
 
-    /// Adds a formula of three pieces.
+    /// Adds a formula of three pieces, which stands without parentheses beside others.
     pub(crate) fn add_joined(
         &mut self,
-        alloc: Global,
         first: &[u8],
         second: &[u8],
         third: &[u8],
-        atom: Atom,
+        is_premise: bool,
     ) -> Result<(), AllocError> {
-        let mut text = Vec::from_slice(alloc, first)?;
+        let mut text = Vec::from_slice(self.alloc, first)?;
         text.extend_from_slice(second)?;
         text.extend_from_slice(third)?;
-        self.add(&text, atom)
+        self.add(&text, Atom::tight(is_premise))
     }
 }

@@ -70,16 +70,11 @@ fn enclosed(alloc: Global, value: &[u8]) -> Result<Vec<u8>, AllocError> {
 }
 
 /// Adds that a word has a value, where that doesn't read it.
-fn add_equation(
-    alloc: Global,
-    atoms: &mut Atoms,
-    word: &[u8],
-    value: &[u8],
-) -> Result<(), AllocError> {
+fn add_equation(atoms: &mut Atoms, word: &[u8], value: &[u8]) -> Result<(), AllocError> {
     if has_word(value, word) {
         return Ok(());
     }
-    atoms.add_joined(alloc, word, b" = ", value, Atom::tight(false))
+    atoms.add_joined(word, b" = ", value, false)
 }
 
 /// Adds what a step gives in the value of another.
@@ -94,7 +89,7 @@ fn add_composed(
     }
     let inner = enclosed(alloc, &first.value)?;
     let value = replaced(alloc, &second.value, &first.word, &inner)?;
-    add_equation(alloc, atoms, &second.word, &value)
+    add_equation(atoms, &second.word, &value)
 }
 
 /// Adds the equations that these steps leave.
@@ -104,7 +99,7 @@ pub(crate) fn add_equations(
     steps: &[Step],
 ) -> Result<(), AllocError> {
     for step in steps.iter().take(MOST) {
-        add_equation(alloc, atoms, &step.word, &step.value)?;
+        add_equation(atoms, &step.word, &step.value)?;
     }
     for first in steps.iter().take(MOST) {
         for second in steps.iter().take(MOST) {

@@ -2,10 +2,12 @@
 
 use crate::atoms::{Atom, Atoms};
 use crate::brackets::{Bracket, body_of, brackets_of};
-use crate::equations::{Step, add_equations, add_preconditions};
+use crate::equations::{Step, add_equations, add_preconditions, has_word};
 use crate::numbers::{bounds_of, size_of};
+use crate::slots::Scope;
 use crate::substituted::Environments;
-use crate::words::{Family, PartWord, family_of, words_of};
+use crate::trial::rounds_of;
+use crate::words::{Family, PartWord, family_of, width_in, words_of};
 use rg_outline_syntax::{
     Binder, Comparison, Conditional, ExpressionKind, Head, HeadKind, ItemKind, Junction, Kind, Let,
     List, PartWritten, Span, Texts, Tokens, Written,
@@ -36,6 +38,15 @@ const FEW_WORDS: usize = 10;
 /// The comparisons.
 const COMPARISONS: [&[u8]; 6] = [b" = ", b" != ", b" <= ", b" >= ", b" < ", b" > "];
 
+/// What the index of a `for` gives: whether it is taken twice, and what is taken away.
+const COUNTED: [(bool, &[u8]); 5] = [
+    (false, b""),
+    (false, b" - 1"),
+    (true, b""),
+    (true, b" - 1"),
+    (true, b" - 2"),
+];
+
 /// A formula that is looked at.
 #[derive(Clone, Copy)]
 struct Job {
@@ -45,6 +56,13 @@ struct Job {
     is_premise: bool,
 }
 
+/// The index of a `for`, and the greatest number that it stands for, if that is known.
+#[derive(Clone, Copy)]
+struct Round {
+    index: Span,
+    greatest: i64,
+}
+
 /// The formulas, as they are found.
 #[derive(Drop)]
 struct Gathering<'a> {
@@ -52,12 +70,19 @@ struct Gathering<'a> {
     written: &'a Written,
     environments: Environments<'a>,
     family: Option<Family>,
+    /// The indices of the `for` in which the assertions stand.
+    rounds: Vec<Round>,
     words: Vec<PartWord>,
     numbers: Vec<u64>,
     jobs: Vec<Job>,
     /// How many of them were looked at.
     looked: usize,
     atoms: Atoms,
+}
+
+/// Whether a number fits a width.
+fn fits(number: i64, width: i64) -> bool {
+    width >= 62 || number < (1i64 << (width.max(0).min(61) as u32))
 }
 
 /// Whether a formula has to stand in parentheses beside others.
@@ -105,9 +130,7 @@ impl<'a> Gathering<'a> {
 
     /// Adds that a formula is false.
     fn add_denied(&mut self, text: &[u8]) -> Result<(), AllocError> {
-        let atom = Atom::tight(true);
-        self.atoms
-            .add_joined(self.alloc, b"not (", text, b")", atom)
+        self.atoms.add_joined(b"not (", text, b")", true)
     }
 
     /// Adds a comparison, and what it is with other signs.
@@ -140,9 +163,8 @@ impl<'a> Gathering<'a> {
             Comparison::Greater => 5..6,
         };
         for sign in COMPARISONS.get(own).unwrap_or(&[]) {
-            let atom = Atom::tight(job.is_premise);
             self.atoms
-                .add_joined(self.alloc, &first, sign, &second, atom)?;
+                .add_joined(&first, sign, &second, job.is_premise)?;
         }
         Ok(())
     }
@@ -188,7 +210,7 @@ impl<'a> Gathering<'a> {
         self.open(body, Job { environment, ..job })
     }
 
-    /// Opens the instances of a quantifier: at the part's own index and the other one, or at each number.
+    /// Opens the instances of a quantifier: at the indices of `for`, and at the part's own index and the other one, or at each number.
     fn open_instances(
         &mut self,
         job: Job,
@@ -196,6 +218,14 @@ impl<'a> Gathering<'a> {
         range: usize,
         body: usize,
     ) -> Result<(), AllocError> {
+        for place in 0..self.rounds.len() {
+            let round = self
+                .rounds
+                .get(place)
+                .map_or(Span::NOWHERE, |round| round.index);
+            let text = Vec::from_slice(self.alloc, round.of(self.environments.source))?;
+            self.open_at(job, index, body, &text)?;
+        }
         if let Some(family) = &self.family {
             let own = Vec::from_slice(self.alloc, family.index.of(self.environments.source))?;
             let other = match &family.other {
@@ -221,45 +251,22 @@ impl<'a> Gathering<'a> {
 
     /// Opens what a chain or an implication is made of.
     fn open_sides(&mut self, job: Job, kind: ExpressionKind) -> Result<(), AllocError> {
-        match kind {
+        let (first, second, is_premise) = match kind {
             ExpressionKind::Join(_, first, second) => {
                 self.open(first, job)?;
-                self.open(second, job)
+                return self.open(second, job);
             }
-            ExpressionKind::Imply(Conditional::Implies, first, second) => {
-                self.open(
-                    first,
-                    Job {
-                        is_premise: true,
-                        ..job
-                    },
-                )?;
-                self.open(
-                    second,
-                    Job {
-                        is_premise: false,
-                        ..job
-                    },
-                )
+            ExpressionKind::Imply(conditional, first, second) => {
+                (first, second, conditional == Conditional::Iff)
             }
-            ExpressionKind::Imply(Conditional::Iff, first, second) => {
-                self.open(
-                    first,
-                    Job {
-                        is_premise: true,
-                        ..job
-                    },
-                )?;
-                self.open(
-                    second,
-                    Job {
-                        is_premise: true,
-                        ..job
-                    },
-                )
-            }
-            _ => Ok(()),
-        }
+            _ => return Ok(()),
+        };
+        let given = Job {
+            is_premise: true,
+            ..job
+        };
+        self.open(first, given)?;
+        self.open(second, Job { is_premise, ..job })
     }
 
     /// Looks at a formula.
@@ -371,9 +378,17 @@ impl<'a> Gathering<'a> {
         Ok(())
     }
 
-    /// Adds a name of a formula at the part's own index and the other one; where the part has no index, at its own words.
+    /// Adds a name of a formula at the indices of `for` and the numbers before them, and at the part's own index and the other one; where the part has no
+    /// index, at its own words.
     fn add_name_everywhere(&mut self, named: Let) -> Result<(), AllocError> {
         let mut arguments = Texts::new(self.alloc);
+        for round in &self.rounds {
+            let index = round.index.of(self.environments.source);
+            arguments.push(index)?;
+            arguments.unended().extend_from_slice(index)?;
+            arguments.unended().extend_from_slice(b" - 1")?;
+            arguments.end()?;
+        }
         if let Some(family) = &self.family {
             arguments.push(family.index.of(self.environments.source))?;
             if let Some(other) = &family.other {
@@ -441,21 +456,20 @@ impl<'a> Gathering<'a> {
                 },
             );
         }
-        if environment.is_none() && !name.contains(&b'(') {
-            return self.add_equal_words(name);
-        }
-        Ok(())
+        self.add_equal_words(name, body)
     }
 
     /// Adds that a word of the part's own has the value of a name.
-    fn add_equal_words(&mut self, name: &[u8]) -> Result<(), AllocError> {
+    fn add_equal_words(&mut self, name: &[u8], body: usize) -> Result<(), AllocError> {
+        let width = width_in(self.environments.source, self.written, body);
         for word in self
             .words
             .iter()
             .filter(|word| word.is_own && word.width > 1)
         {
-            self.atoms
-                .add_joined(self.alloc, &word.text, b" = ", name, Atom::tight(false))?;
+            if width.is_none_or(|width| width == word.width) && !has_word(name, &word.text) {
+                self.atoms.add_joined(&word.text, b" = ", name, false)?;
+            }
         }
         Ok(())
     }
@@ -494,9 +508,8 @@ impl<'a> Gathering<'a> {
                 }
                 let number = format!(in self.alloc; "{number}")?;
                 for sign in signs.unwrap_or(&[]) {
-                    let atom = Atom::tight(word.is_own);
                     self.atoms
-                        .add_joined(self.alloc, &word.text, sign, number.as_bytes(), atom)?;
+                        .add_joined(&word.text, sign, number.as_bytes(), word.is_own)?;
                 }
             }
         }
@@ -510,13 +523,30 @@ impl<'a> Gathering<'a> {
         };
         let index = family.index.of(self.environments.source);
         let greatest = family.bounds.map_or(0, |bounds| bounds.1);
-        for word in &self.words {
-            let fits = word.width >= 62 || greatest < (1i64 << (word.width.max(0).min(61) as u32));
-            if fits {
-                for sign in COMPARISONS.get(..2).unwrap_or(&[]) {
-                    let atom = Atom::tight(true);
-                    self.atoms
-                        .add_joined(self.alloc, &word.text, sign, index, atom)?;
+        for word in self.words.iter().filter(|word| fits(greatest, word.width)) {
+            for sign in COMPARISONS.get(..2).unwrap_or(&[]) {
+                self.atoms.add_joined(&word.text, sign, index, true)?;
+            }
+        }
+        Ok(())
+    }
+
+    /// Adds that a word of the part's own is what steps, the same ones in each round of a `for`, may have made it.
+    fn add_counted(&mut self) -> Result<(), AllocError> {
+        for round in &self.rounds {
+            let index = round.index.of(self.environments.source);
+            let most = round.greatest.saturating_mul(2);
+            for word in self
+                .words
+                .iter()
+                .filter(|word| word.is_own && fits(most, word.width))
+            {
+                for (twice, less) in COUNTED {
+                    let mut value = Vec::from_slice(self.alloc, index)?;
+                    value.extend_from_slice(if twice { b" + " } else { b"" })?;
+                    value.extend_from_slice(if twice { index } else { b"" })?;
+                    value.extend_from_slice(less)?;
+                    self.atoms.add_joined(&word.text, b" = ", &value, false)?;
                 }
             }
         }
@@ -539,9 +569,8 @@ impl<'a> Gathering<'a> {
                         && index == 0
                         && (first.is_own || second.is_own)
                         && first.width > 1;
-                    let atom = Atom::tight(is_premise);
                     self.atoms
-                        .add_joined(self.alloc, &first.text, sign, &second.text, atom)?;
+                        .add_joined(&first.text, sign, &second.text, is_premise)?;
                 }
             }
         }
@@ -603,12 +632,10 @@ impl<'a> Gathering<'a> {
         {
             let mut left = Vec::from_slice(self.alloc, &step.word)?;
             left.extend_from_slice(raise)?;
-            self.atoms
-                .add_joined(self.alloc, &left, b" = ", &other.text, Atom::tight(false))?;
+            self.atoms.add_joined(&left, b" = ", &other.text, false)?;
             let mut right = Vec::from_slice(self.alloc, &other.text)?;
             right.extend_from_slice(raise)?;
-            self.atoms
-                .add_joined(self.alloc, &right, b" = ", &step.word, Atom::tight(false))?;
+            self.atoms.add_joined(&right, b" = ", &step.word, false)?;
         }
         Ok(())
     }
@@ -637,6 +664,7 @@ impl<'a> Gathering<'a> {
         self.look_at_all()?;
         self.add_numbered()?;
         self.add_indexed()?;
+        self.add_counted()?;
         self.add_steps(body)?;
         self.add_pairs()
     }
@@ -659,7 +687,51 @@ fn numbers_of(alloc: Global, tokens: &Tokens) -> Result<Vec<u64>, AllocError> {
     Ok(numbers)
 }
 
-/// The formulas that may stand in the assertions of a part.
+/// Takes out what names the index of a `for` in which it can't stand: of a `for` elsewhere, or of the same where a quantifier has it, too.
+fn take_out_strange(
+    alloc: Global,
+    source: &[u8],
+    written: &Written,
+    rounds: &[Round],
+    atoms: &mut Atoms,
+) -> Result<(), AllocError> {
+    for item in &written.items {
+        let ItemKind::For { index, .. } = item.kind else {
+            continue;
+        };
+        let mut name = Vec::from_slice(alloc, index.of(source))?;
+        if rounds
+            .iter()
+            .any(|round| round.index.of(source) == index.of(source))
+        {
+            name.extend_from_slice(b" in")?;
+        }
+        for (place, atom) in atoms.atoms.iter_mut().enumerate() {
+            atom.is_out |= has_word(atoms.texts.at(place), &name);
+        }
+    }
+    Ok(())
+}
+
+/// The indices of the `for` around a scope.
+fn rounds_in(
+    alloc: Global,
+    source: &[u8],
+    written: &Written,
+    items: &[usize],
+) -> Result<Vec<Round>, AllocError> {
+    let mut rounds = Vec::new(alloc);
+    for item in items {
+        let kind = written.items.get(*item).map(|item| item.kind);
+        if let Some(ItemKind::For { index, range, .. }) = kind {
+            let greatest = bounds_of(written, source, range).map_or(0, |bounds| bounds.1);
+            rounds.push(Round { index, greatest })?;
+        }
+    }
+    Ok(rounds)
+}
+
+/// The formulas that may stand in the assertions of a scope.
 ///
 /// # Errors
 ///
@@ -669,16 +741,22 @@ pub fn atoms_of(
     source: &[u8],
     tokens: &Tokens,
     written: &Written,
-    part: PartWritten,
+    scopes: &[Scope],
+    scope: Scope,
 ) -> Result<Atoms, AllocError> {
+    let Some(part) = written.parts.get(scope.part).copied() else {
+        return Ok(Atoms::new(alloc));
+    };
     let brackets = brackets_of(alloc, tokens)?;
     let family = family_of(alloc, source, written, part)?;
     let words = words_of(alloc, source, written, part, family.as_ref())?;
+    let rounds = rounds_in(alloc, source, written, &rounds_of(alloc, scopes, scope)?)?;
     let mut gathering = Gathering {
         alloc,
         written,
         environments: Environments::new(alloc, source, tokens),
         family,
+        rounds,
         words,
         numbers: numbers_of(alloc, tokens)?,
         jobs: Vec::new(alloc),
@@ -688,6 +766,11 @@ pub fn atoms_of(
     if let Some(body) = body_of(&brackets, part.span) {
         gathering.gather(part, body)?;
     }
-    let Gathering { atoms, .. } = gathering;
+    let Gathering {
+        rounds,
+        mut atoms,
+        ..
+    } = gathering;
+    take_out_strange(alloc, source, written, &rounds, &mut atoms)?;
     Ok(atoms)
 }

@@ -15,6 +15,6 @@ mod words;
 pub use atoms::{Atom, Atoms};
 pub use filled::{Filled, fill};
 pub use gathered::atoms_of;
-pub use slots::{Slot, SlotKind, slots_of};
-pub use trial::trial_of;
+pub use slots::{Scope, Slot, SlotKind, Slots, slots_of};
+pub use trial::{Trial, trial_of};
 pub use words::some_word;

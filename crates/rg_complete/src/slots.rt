@@ -27,15 +27,31 @@ pub struct Slot {
     pub at: usize,
     /// The byte of the statement that it is about.
     pub near: usize,
+    /// The scope of its assertion, by its place among the scopes.
+    pub scope: usize,
+}
+
+/// Where assertions know the same names: the body of a part, or that of a `for` in it.
+#[derive(Clone, Copy)]
+pub struct Scope {
     /// The part, by its place among those that are written.
     pub part: usize,
+    /// Of a `for`, its place among the items, and the scope around it, which stands before this one.
+    pub round: Option<(usize, usize)>,
+}
+
+/// The places of an outline, in their order, and their scopes, part by part.
+#[derive(Drop)]
+pub struct Slots {
+    pub slots: Vec<Slot>,
+    pub scopes: Vec<Scope>,
 }
 
 /// A block that is still to be looked at.
 #[derive(Clone, Copy)]
 struct Open {
     block: List,
-    part: usize,
+    scope: usize,
     /// Whether what holds at its end has a place of its own: it is a body whose part has no `post`.
     has_end: bool,
     end: Span,
@@ -49,6 +65,7 @@ struct Finding<'a> {
     brackets: Vec<Bracket>,
     open: Vec<Open>,
     slots: Vec<Slot>,
+    scopes: Vec<Scope>,
 }
 
 /// Whether a part says what holds where it ends.
@@ -92,13 +109,13 @@ impl Finding<'_> {
         kind: SlotKind,
         at: usize,
         near: usize,
-        part: usize,
+        scope: usize,
     ) -> Result<(), AllocError> {
         self.slots.push(Slot {
             kind,
             at,
             near,
-            part,
+            scope,
         })?;
         Ok(())
     }
@@ -120,9 +137,26 @@ impl Finding<'_> {
         })?;
         match (blocks.1, end_of(&self.brackets, span)) {
             (Some(block), _) => self.open.push(Open { block, ..inner })?,
-            (None, Some(end)) => self.add(SlotKind::Otherwise, end.start, span.start, open.part)?,
+            (None, Some(end)) => self.add(SlotKind::Otherwise, end.start, span.start, open.scope)?,
             (None, None) => {}
         }
+        Ok(())
+    }
+
+    /// Adds the scope of a `for`, and opens its body.
+    fn take_rounds(&mut self, open: Open, item: usize, body: List) -> Result<(), AllocError> {
+        let around = self.scopes.get(open.scope).copied();
+        let scope = self.scopes.len();
+        self.scopes.push(Scope {
+            part: around.map_or(0, |around| around.part),
+            round: Some((item, open.scope)),
+        })?;
+        self.open.push(Open {
+            block: body,
+            scope,
+            has_end: false,
+            ..open
+        })?;
         Ok(())
     }
 
@@ -133,13 +167,9 @@ impl Finding<'_> {
         item: Item,
         is_asserted: bool,
     ) -> Result<(), AllocError> {
+        let start = item.span.start;
         if !is_asserted {
-            self.add(
-                SlotKind::Before,
-                item.span.start,
-                item.span.start,
-                open.part,
-            )?;
+            self.add(SlotKind::Before, start, start, open.scope)?;
         }
         match item.kind {
             ItemKind::If { yes, no, .. } => self.take_choice(open, item.span, (yes, no)),
@@ -149,12 +179,7 @@ impl Finding<'_> {
                 ..
             } => {
                 if invariant.is_none() && is_asserted {
-                    self.add(
-                        SlotKind::Invariant,
-                        item.span.end,
-                        item.span.start,
-                        open.part,
-                    )?;
+                    self.add(SlotKind::Invariant, item.span.end, start, open.scope)?;
                 }
                 self.open.push(Open {
                     block: body,
@@ -178,15 +203,19 @@ impl Finding<'_> {
             };
             if matches!(item.kind, ItemKind::Assertion(_)) {
                 is_asserted = true;
-            } else {
-                self.take_statement(open, item, is_asserted)?;
-                is_asserted = false;
-                is_endless_now = is_endless(written, item);
+                continue;
             }
+            match item.kind {
+                // (what holds before a `for` stands before its first statement, in the first round)
+                ItemKind::For { body, .. } => self.take_rounds(open, *index, body)?,
+                _ => self.take_statement(open, item, is_asserted)?,
+            }
+            is_asserted = false;
+            is_endless_now = is_endless(written, item);
         }
         if open.has_end && !is_asserted && !is_endless_now {
             let at = line_start(self.source, open.end.start);
-            self.add(SlotKind::End, at, open.end.start, open.part)?;
+            self.add(SlotKind::End, at, open.end.start, open.scope)?;
         }
         Ok(())
     }
@@ -196,9 +225,14 @@ impl Finding<'_> {
         let Some(body) = body_of(&self.brackets, part.span) else {
             return Ok(());
         };
+        let scope = self.scopes.len();
+        self.scopes.push(Scope {
+            part: place,
+            round: None,
+        })?;
         self.open.push(Open {
             block: part.body,
-            part: place,
+            scope,
             has_end: !has_post(self.written, part),
             end: body.end,
         })?;
@@ -212,7 +246,7 @@ impl Finding<'_> {
     }
 }
 
-/// The places of an outline at which an assertion may be written and none is, in their order: not those within a `for`.
+/// The places of an outline at which an assertion may be written and none is: not those within named statements.
 ///
 /// # Errors
 ///
@@ -222,18 +256,23 @@ pub fn slots_of(
     source: &[u8],
     tokens: &Tokens,
     written: &Written,
-) -> Result<Vec<Slot>, AllocError> {
+) -> Result<Slots, AllocError> {
     let mut finding = Finding {
         written,
         source,
         brackets: brackets_of(alloc, tokens)?,
         open: Vec::new(alloc),
         slots: Vec::new(alloc),
+        scopes: Vec::new(alloc),
     };
     for (place, part) in written.parts.iter().enumerate() {
         finding.take_part(place, *part)?;
     }
-    let Finding { mut slots, .. } = finding;
+    let Finding {
+        mut slots,
+        scopes,
+        ..
+    } = finding;
     slots.sort_by_key(|slot: &Slot| slot.at)?;
-    Ok(slots)
+    Ok(Slots { slots, scopes })
 }

@@ -200,6 +200,21 @@ pub(crate) fn words_of<'a>(
     Ok(words)
 }
 
+/// The width of the first word that stands in an expression; nothing where none does.
+pub(crate) fn width_in(source: &[u8], written: &Written, expression: usize) -> Option<i64> {
+    for place in written.first_within(expression)..expression.saturating_add(1) {
+        if let ExpressionKind::Name { name, .. } = written.expression(place)?.kind {
+            let word = name.of(source);
+            for declaration in &written.declarations {
+                if declaration.name.of(source) == word {
+                    return number_of(written, source, declaration.width);
+                }
+            }
+        }
+    }
+    None
+}
+
 /// A word of an outline, as it is named anywhere; nothing where none is found.
 ///
 /// # Errors

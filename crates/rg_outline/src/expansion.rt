@@ -32,6 +32,8 @@ pub struct Assertion {
     pub full: usize,
     pub span: Span,
     pub origin: Origin,
+    /// The round of a `for`, or the use of named statements, in which it stands: the greater the later, and 0 outside of these.
+    pub round: usize,
 }
 
 /// A word of a step with the tree of the value that it gets.
@@ -185,6 +187,11 @@ pub struct Expansion<'a> {
     pub count: usize,
     /// The outermost use of named statements that is being worked out.
     pub(crate) used: Option<Span>,
+    /// The round of a `for`, or the use, that is being worked out, and how many there were so far.
+    pub(crate) round: usize,
+    pub(crate) rounds: usize,
+    /// The statement or the assertion of a part at which the first fault was met.
+    pub at: Option<Span>,
 }
 
 impl Assertion {
@@ -194,6 +201,7 @@ impl Assertion {
         full: 0,
         span: NOWHERE,
         origin: Origin::Nothing,
+        round: 0,
     };
 }
 
@@ -304,7 +312,16 @@ impl<'a> Expansion<'a> {
             openers: Vec::new(alloc),
             count: 0,
             used: None,
+            round: 0,
+            rounds: 0,
+            at: None,
         }
+    }
+
+    /// Begins a round of a `for`, or a use of named statements.
+    pub(crate) fn begin_round(&mut self) {
+        self.rounds = self.rounds.saturating_add(1);
+        self.round = self.rounds;
     }
 
     /// Adds the numbers that indices stand for at a fault.
@@ -375,6 +392,7 @@ impl<'a> Expansion<'a> {
             full,
             span,
             origin,
+            round: self.round,
         }
     }
 

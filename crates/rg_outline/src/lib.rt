@@ -37,6 +37,7 @@ pub fn work_out(expansion: &mut Expansion<'_>) -> Result<(), Fault> {
     expansion.take_parts();
     expansion.refuse_sharing();
     if !expansion.scope.is_stopped() {
+        expansion.at = None;
         expansion.specify_parts();
         expansion.derive();
         expansion.count_openers();

@@ -34,6 +34,7 @@ impl Expansion<'_> {
                 Some(item) if !self.scope.is_stopped() => item,
                 _ => break,
             };
+            self.at = Some(item.span);
             match item.kind {
                 ItemKind::Assertion(formula) => {
                     let tree = self.scope.state_formula(formula);
@@ -69,12 +70,15 @@ impl Expansion<'_> {
         self.scope.refuse_taken(index);
         let numbers = self.scope.numbers_of(range);
         let mark = self.scope.names.len();
+        let outer = self.round;
         for place in numbers.start..numbers.end {
             let number = self.scope.number_at(place);
             self.scope.know_number(index, item.span, number);
+            self.begin_round();
             self.take_items(body, rows, depth - 1);
             self.scope.forget(mark);
         }
+        self.round = outer;
     }
 
     /// Adds the rows of the statements that a use names.
@@ -87,9 +91,12 @@ impl Expansion<'_> {
         let outer = self.used;
         self.used = outer.or(Some(span));
         let mark = self.scope.names.len();
+        let round = self.round;
+        self.begin_round();
         let body = self.scope.enter(used);
         self.take_items(body, rows, depth - 1);
         self.scope.leave(used, mark);
+        self.round = round;
         self.used = outer;
     }
 

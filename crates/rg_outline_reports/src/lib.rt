@@ -55,6 +55,6 @@ pub use inputs::{Input, Inputs};
 pub use outlined::{Outlined, ReadOutline, read_outline};
 pub use questions::{Asks, Outside, Question};
 pub use reports::Claim;
-pub use slots::{Demand, Leading, Member, Obligation, leading_assertions};
+pub use slots::{Before, Demand, Leading, Member, Obligation, Spot, leading_assertions};
 pub use unread::unread_line;
 pub use values::values_of;

@@ -23,16 +23,31 @@ pub enum Demand {
     Other,
 }
 
-/// What a condition asks, and of which assertions: each by the place of its formula.
+/// An assertion of a part: where it is written, and in which round of a `for`, or use of named statements, the greater the later.
+#[derive(Clone, Copy)]
+pub struct Spot {
+    pub span: Span,
+    pub round: usize,
+}
+
+/// What a condition asks, and of which assertions.
 #[derive(Clone, Copy)]
 pub struct Obligation {
     pub demand: Demand,
     /// The part, by its place in the text.
     pub part: usize,
     /// What holds before.
-    pub given: Option<Span>,
+    pub given: Option<Spot>,
     /// What has to hold then.
-    pub due: Option<Span>,
+    pub due: Option<Spot>,
+}
+
+/// Where an assertion is.
+fn spot_of(assertion: Assertion) -> Spot {
+    Spot {
+        span: assertion.span,
+        round: assertion.round,
+    }
 }
 
 /// What a condition asks of one assertion, or of two.
@@ -40,13 +55,13 @@ fn asks(demand: Demand, part: usize, given: Assertion, due: Assertion) -> Obliga
     Obligation {
         demand,
         part,
-        given: Some(given.span),
-        due: Some(due.span),
+        given: Some(spot_of(given)),
+        due: Some(spot_of(due)),
     }
 }
 
 /// What a condition asks that is given no assertion.
-fn asks_alone(demand: Demand, part: usize, due: Option<Span>) -> Obligation {
+fn asks_alone(demand: Demand, part: usize, due: Option<Spot>) -> Obligation {
     Obligation {
         demand,
         part,
@@ -79,7 +94,7 @@ fn of_line(expansion: &Expansion<'_>, of: OfLine, line: &Line) -> Obligation {
 fn of_parts(expansion: &Expansion<'_>, of: OfParts) -> Obligation {
     match of {
         OfParts::Pre(part) => {
-            let pre = expansion.parts.get(part).map(|known| known.pre.span);
+            let pre = expansion.parts.get(part).map(|known| spot_of(known.pre));
             asks_alone(Demand::Entered, part, pre)
         }
         OfParts::Post => asks_alone(Demand::Ended, 0, None),
@@ -102,26 +117,51 @@ pub(crate) fn obligations_of(expansion: &Expansion<'_>) -> Result<Vec<Obligation
 /// What assertions of an outline say as the text has them, or where the outline can't be read.
 #[derive(Drop)]
 pub enum Leading {
-    /// The place of the first fault.
+    /// The place of the first fault: of a fault in a statement or an assertion, where this stands.
     Fault(Span),
-    /// The assertions with which the body of each part begins, without the invariant; those that are too long are empty.
-    Parts(Vec<Texts>),
+    /// The assertions before each statement of the body of each part, in their order.
+    Parts(Vec<Vec<Before>>),
 }
 
-/// The assertions with which the body of a part begins.
-fn leading_of(expansion: &Expansion<'_>, body: usize) -> Result<Texts, Fault> {
-    let mut texts = Texts::new(expansion.scope.alloc);
+/// The assertions before a statement, without the invariant; those that are too long are empty.
+#[derive(Drop)]
+pub struct Before {
+    pub texts: Texts,
+    /// The byte at which the statement begins.
+    pub near: usize,
+}
+
+/// Adds an assertion, without the invariant; one that is too long is empty.
+fn push_own(
+    expansion: &Expansion<'_>,
+    texts: &mut Texts,
+    assertion: Assertion,
+) -> Result<(), Fault> {
+    let mut text = Vec::new(expansion.scope.alloc);
+    match push_flat(expansion, &mut text, assertion.own) {
+        Err(fault) if is_memory(fault) => return Err(fault),
+        Err(_) => texts.push(&[])?,
+        Ok(()) => texts.push(&text)?,
+    }
+    Ok(())
+}
+
+/// The assertions before each statement of a body.
+fn leading_of(expansion: &Expansion<'_>, body: usize) -> Result<Vec<Before>, Fault> {
+    let alloc = expansion.scope.alloc;
+    let mut all = Vec::new(alloc);
+    let mut texts = Texts::new(alloc);
     for row in expansion.rows_of(expansion.block(body).rows) {
-        if let BlockRow::Assertion(assertion) = row {
-            let mut text = Vec::new(expansion.scope.alloc);
-            match push_flat(expansion, &mut text, assertion.own) {
-                Err(fault) if is_memory(fault) => return Err(fault),
-                Err(_) => texts.push(&[])?,
-                Ok(()) => texts.push(&text)?,
+        match *row {
+            BlockRow::Assertion(assertion) => push_own(expansion, &mut texts, assertion)?,
+            BlockRow::Statement(statement) => {
+                let near = expansion.statement(statement).span.start;
+                let texts = std::mem::replace(&mut texts, Texts::new(alloc));
+                all.push(Before { texts, near })?;
             }
         }
     }
-    Ok(texts)
+    Ok(all)
 }
 
 /// Whether memory was refused.
@@ -129,12 +169,15 @@ fn is_memory(fault: Fault) -> bool {
     matches!(fault.kind, FaultKind::Memory)
 }
 
-/// The assertions with which the bodies of an outline begin.
-fn leading_in(alloc: Global, source: &[u8]) -> Result<Vec<Texts>, Fault> {
+/// The assertions before the statements of the bodies of an outline.
+fn leading_in(alloc: Global, source: &[u8]) -> Result<Vec<Vec<Before>>, Fault> {
     let tokens = Tokens::read(alloc, source)?;
     let written = parse(alloc, source, &tokens)?;
     let mut expansion = Expansion::new(alloc, source, &written);
-    work_out(&mut expansion)?;
+    if let Err(fault) = work_out(&mut expansion) {
+        let span = expansion.at.unwrap_or(fault.span);
+        return Err(Fault { span, ..fault });
+    }
     let mut parts = Vec::new(alloc);
     for part in &expansion.parts {
         parts.push(leading_of(&expansion, part.body)?)?;
@@ -142,7 +185,7 @@ fn leading_in(alloc: Global, source: &[u8]) -> Result<Vec<Texts>, Fault> {
     Ok(parts)
 }
 
-/// The assertions with which the bodies of an outline in these bytes begin, as the text has them; or the place of its first fault.
+/// The assertions before the statements of the bodies of an outline in these bytes, as the text has them; or the place of its first fault.
 ///
 /// # Errors
 ///
@@ -158,10 +201,8 @@ pub fn leading_assertions(alloc: Global, source: &[u8]) -> Result<Leading, Alloc
 /// A part of the text.
 #[derive(Clone, Copy)]
 pub struct Member {
-    /// Where it is named.
-    pub name: Span,
-    /// The place of the assertion at its end.
-    pub end: Span,
+    /// The assertion at its end.
+    pub end: Spot,
     /// The words that it owns, as bits.
     pub owned: u64,
     /// The written part of which it is, by its place among these.
@@ -181,8 +222,7 @@ pub(crate) fn members_of(expansion: &Expansion<'_>) -> Result<Vec<Member>, Alloc
     let mut members = Vec::new(expansion.scope.alloc);
     for part in &expansion.parts {
         members.push(Member {
-            name: part.span,
-            end: part.post.span,
+            end: spot_of(part.post),
             owned: part.owned_bits,
             family: family_of(expansion, part.span),
         })?;

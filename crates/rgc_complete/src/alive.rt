@@ -129,13 +129,4 @@ impl Alive {
         }
         has_changed
     }
-
-    /// A copy.
-    pub(crate) fn copy(&self, alloc: Global) -> Result<Alive, AllocError> {
-        let mut rows = Vec::new(alloc);
-        for row in &self.rows {
-            rows.push(row.copy(alloc)?)?;
-        }
-        Ok(Alive { rows })
-    }
 }

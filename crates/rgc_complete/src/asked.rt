@@ -15,7 +15,7 @@ use rg_tree::copy::copy_formula;
 use rg_tree::rule_conditions::copy_assigns;
 use rg_tree::tree::Formula;
 use rg_tree::typing::typed_trees_fit;
-use rg_words::{RefusalNumber, SourceFile};
+use rg_words::{RefusalNumber, SourceFile, State};
 use std::alloc::{AllocError, Global};
 
 /// The most decisions of a search.
@@ -125,26 +125,36 @@ fn with_goal(
     strengthened(alloc, base, given, goal, reading)
 }
 
+/// The states between which a condition fails: the second one is given where the condition speaks of any two.
+fn failing(
+    alloc: Global,
+    condition: &Condition,
+    first: &State,
+    second: Option<&State>,
+) -> Result<Outcome, AllocError> {
+    let before = values_of(alloc, first)?;
+    let next = match second {
+        Some(second) => values_of(alloc, second)?,
+        None => after(alloc, condition, &before)?,
+    };
+    Ok(Outcome::Fails(before, next))
+}
+
+/// What a search that ended says of a condition.
+fn said(alloc: Global, condition: &Condition, judged: Judged) -> Result<Outcome, AllocError> {
+    match judged {
+        Judged::Holds(_) => Ok(Outcome::Holds),
+        Judged::Fails(first, second) => failing(alloc, condition, &first, second.as_ref()),
+        Judged::GaveUp | Judged::TooLarge => Ok(Outcome::Unknown),
+    }
+}
+
 /// What a search says of a condition.
 fn outcome_of(alloc: Global, condition: &Condition) -> Result<Outcome, AllocError> {
-    match judge(
-        alloc,
-        condition,
-        SourceFile::Derivation,
-        1,
-        MOST_STEPS,
-        &mut Unwatched,
-    ) {
-        Ok(Judged::Holds(_)) => Ok(Outcome::Holds),
-        Ok(Judged::Fails(first, second)) => {
-            let before = values_of(alloc, &first)?;
-            let next = match &second {
-                Some(second) => values_of(alloc, second)?,
-                None => after(alloc, condition, &before)?,
-            };
-            Ok(Outcome::Fails(before, next))
-        }
-        Ok(_) => Ok(Outcome::Unknown),
+    let mut own = Unwatched;
+    let file = SourceFile::Derivation;
+    match judge(alloc, condition, file, 1, MOST_STEPS, &mut own) {
+        Ok(judged) => said(alloc, condition, judged),
         Err(refusal) if refusal.number == RefusalNumber::Memory => Err(AllocError),
         Err(_) => Ok(Outcome::Unknown),
     }

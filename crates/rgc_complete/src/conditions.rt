@@ -1,8 +1,10 @@
 //! The conditions of an outline in which nothing is known at the places where no assertion is written, and what each asks of these places.
 
-use rg_complete::{Slot, fill, slots_of, some_word};
+use crate::elaborated::Tried;
+use rg_complete::{Scope, Slot, Slots, fill, slots_of, some_word};
 use rg_outline_reports::{
-    Demand, Format, Member, NoFiles, Obligation, OutlineSource, Outlined, ReadOutline, read_outline,
+    Demand, Format, Member, NoFiles, Obligation, OutlineSource, Outlined, ReadOutline, Spot,
+    read_outline,
 };
 use rg_outline_syntax::{Span, Texts};
 use rg_tree::condition::Condition;
@@ -10,25 +12,33 @@ use rg_words::Refusal;
 use rgc_outlines::derive_outline;
 use std::alloc::{AllocError, Global};
 
-/// A condition, and what it asks: of which part, and of which places, by their numbers.
+/// An assertion of a part: its place, and the formulas that are tried there. At first, in their stead, the round of a `for` in which it stands.
+#[derive(Clone, Copy, PartialEq, Eq)]
+pub(crate) struct Stand {
+    pub(crate) place: usize,
+    pub(crate) instance: usize,
+}
+
+/// A condition, and what it asks: of which part, and of which assertions.
 #[derive(Clone, Copy)]
 pub(crate) struct Duty {
     pub(crate) condition: usize,
     pub(crate) demand: Demand,
     pub(crate) part: usize,
-    pub(crate) given: Option<usize>,
-    pub(crate) due: Option<usize>,
+    pub(crate) given: Option<Stand>,
+    pub(crate) due: Option<Stand>,
 }
 
 /// The conditions, and the places of which they speak: first those at which no assertion is written.
 #[derive(Drop)]
 pub(crate) struct Base {
     pub(crate) slots: Vec<Slot>,
+    pub(crate) scopes: Vec<Scope>,
     pub(crate) conditions: Vec<Condition>,
     pub(crate) duties: Vec<Duty>,
     pub(crate) members: Vec<Member>,
-    /// The place at the end of each part.
-    pub(crate) ends: Vec<usize>,
+    /// The assertion at the end of each part.
+    pub(crate) ends: Vec<Stand>,
 }
 
 /// An outline without a name, whose faults nobody reads.
@@ -66,25 +76,38 @@ fn true_formulas(alloc: Global, word: &[u8], count: usize) -> Result<Texts, Allo
     Ok(texts)
 }
 
-/// The number of a place, which is added where it is a new one.
-fn place_of(places: &mut Vec<Span>, span: Span) -> Result<usize, AllocError> {
-    if let Some(place) = places.iter().position(|known| known.start == span.start) {
-        return Ok(place);
+/// Where an assertion is, whose place is added where it is a new one.
+fn stand_of(places: &mut Vec<Span>, spot: Spot) -> Result<Stand, AllocError> {
+    let known = places
+        .iter()
+        .position(|known| known.start == spot.span.start);
+    let place = known.unwrap_or(places.len());
+    if known.is_none() {
+        places.push(spot.span)?;
     }
-    let place = places.len();
-    places.push(span)?;
-    Ok(place)
+    Ok(Stand {
+        place,
+        instance: spot.round,
+    })
 }
 
-/// The number of a place, if there is one.
-fn place_if(places: &mut Vec<Span>, span: Option<Span>) -> Result<Option<usize>, AllocError> {
-    match span {
-        Some(span) => Ok(Some(place_of(places, span)?)),
+/// Where an assertion is, if there is one.
+fn stand_if(places: &mut Vec<Span>, spot: Option<Spot>) -> Result<Option<Stand>, AllocError> {
+    match spot {
+        Some(spot) => Ok(Some(stand_of(places, spot)?)),
         None => Ok(None),
     }
 }
 
-/// What the conditions ask, by the numbers of places.
+/// Whether it is asked already that others keep what is written there.
+fn is_asked(duties: &[Duty], duty: Duty) -> bool {
+    duty.demand == Demand::Stable
+        && duties.iter().any(|known| {
+            known.demand == Demand::Stable && known.part == duty.part && known.given == duty.given
+        })
+}
+
+/// What the conditions ask, by places and rounds.
 fn duties_of(
     alloc: Global,
     obligations: &[Obligation],
@@ -92,14 +115,15 @@ fn duties_of(
 ) -> Result<Vec<Duty>, AllocError> {
     let mut duties = Vec::new(alloc);
     for (condition, obligation) in obligations.iter().enumerate() {
-        if obligation.demand != Demand::Other {
-            duties.push(Duty {
-                condition,
-                demand: obligation.demand,
-                part: obligation.part,
-                given: place_if(places, obligation.given)?,
-                due: place_if(places, obligation.due)?,
-            })?;
+        let duty = Duty {
+            condition,
+            demand: obligation.demand,
+            part: obligation.part,
+            given: stand_if(places, obligation.given)?,
+            due: stand_if(places, obligation.due)?,
+        };
+        if duty.demand != Demand::Other && !is_asked(&duties, duty) {
+            duties.push(duty)?;
         }
     }
     Ok(duties)
@@ -109,7 +133,7 @@ fn duties_of(
 fn base_of(
     alloc: Global,
     outlined: &Outlined<'_>,
-    slots: Vec<Slot>,
+    slots: Slots,
     spans: &[Span],
 ) -> Result<Option<Base>, Refusal> {
     let derived = match derive_outline(alloc, &outlined.files) {
@@ -122,15 +146,102 @@ fn base_of(
     let members = outlined.members()?;
     let mut ends = Vec::new(alloc);
     for member in &members {
-        ends.push(place_of(&mut places, member.end)?)?;
+        ends.push(stand_of(&mut places, member.end)?)?;
     }
+    let Slots { slots, scopes } = slots;
     Ok(Some(Base {
         slots,
+        scopes,
         conditions,
         duties,
         members,
         ends,
     }))
+}
+
+impl Duty {
+    /// The formulas that are tried where it leads; none where it leads nowhere.
+    pub(crate) fn leads_to(self) -> usize {
+        self.due.map_or(usize::MAX, |due| due.instance)
+    }
+}
+
+/// A round: the part, the scope, and its number.
+type Round = (usize, usize, usize);
+
+impl Base {
+    /// The scope of a place; none where it has no assertion to be found.
+    fn scope_of(&self, stand: Stand) -> usize {
+        self.slots
+            .get(stand.place)
+            .map_or(usize::MAX, |slot| slot.scope)
+    }
+
+    /// The rounds in which assertions stand, each once and in order.
+    fn rounds(&self, alloc: Global) -> Result<Vec<Round>, AllocError> {
+        let mut rounds = Vec::new(alloc);
+        for duty in &self.duties {
+            if let Some(stand) = duty.given {
+                rounds.push((duty.part, self.scope_of(stand), stand.instance))?;
+            }
+            if let Some(stand) = duty.due {
+                rounds.push((duty.part, self.scope_of(stand), stand.instance))?;
+            }
+        }
+        for (part, stand) in self.ends.iter().enumerate() {
+            rounds.push((part, self.scope_of(*stand), stand.instance))?;
+        }
+        rounds.sort_unstable();
+        rounds.dedup();
+        Ok(rounds)
+    }
+
+    /// An assertion of a part with its formulas in place of its round: those of its scope in the round of the same rank.
+    fn located(&self, rounds: &[Round], tried: &Tried, part: usize, stand: Stand) -> Stand {
+        let scope = self.scope_of(stand);
+        let rank = rounds
+            .iter()
+            .filter(|round| round.0 == part && round.1 == scope && round.2 < stand.instance)
+            .count();
+        let mut before = 0usize;
+        for (instance, known) in tried.instances.iter().enumerate() {
+            if known.part == part && known.scope == scope {
+                if before == rank {
+                    return Stand { instance, ..stand };
+                }
+                before = before.saturating_add(1);
+            }
+        }
+        Stand {
+            instance: usize::MAX,
+            ..stand
+        }
+    }
+
+    /// Gives each assertion its formulas in place of its round.
+    pub(crate) fn locate(&mut self, alloc: Global, tried: &Tried) -> Result<(), AllocError> {
+        let rounds = self.rounds(alloc)?;
+        let mut duties = Vec::new(alloc);
+        for duty in &self.duties {
+            let part = duty.part;
+            duties.push(Duty {
+                given: duty
+                    .given
+                    .map(|stand| self.located(&rounds, tried, part, stand)),
+                due: duty
+                    .due
+                    .map(|stand| self.located(&rounds, tried, part, stand)),
+                ..*duty
+            })?;
+        }
+        let mut ends = Vec::new(alloc);
+        for (part, stand) in self.ends.iter().enumerate() {
+            ends.push(self.located(&rounds, tried, part, *stand))?;
+        }
+        self.duties = duties;
+        self.ends = ends;
+        Ok(())
+    }
 }
 
 /// The conditions of an outline; nothing where it has no word, or can't be worked out.
@@ -147,8 +258,8 @@ pub(crate) fn conditions_of(
     let Some(word) = some_word(alloc, source, &read.written)? else {
         return Ok(None);
     };
-    let formulas = true_formulas(alloc, &word, slots.len())?;
-    let made = fill(alloc, source, &slots, &formulas)?;
+    let formulas = true_formulas(alloc, &word, slots.slots.len())?;
+    let made = fill(alloc, source, &slots.slots, &formulas)?;
     let outline = nameless(&made.source);
     let Some(written) = unless_refused(read_outline(alloc, outline))? else {
         return Ok(None);

@@ -1,9 +1,10 @@
 //! The formulas that are tried, as the text of each part has them.
 
 use crate::alive::Bits;
+use crate::conditions::Base;
 use crate::evaluate::{Moment, holds, words_of};
-use rg_complete::{Atoms, atoms_of, trial_of};
-use rg_outline_reports::{Leading, Member, ReadOutline, leading_assertions};
+use rg_complete::{Atoms, Scope, atoms_of, trial_of};
+use rg_outline_reports::{Before, Leading, Member, ReadOutline, leading_assertions};
 use rg_outline_syntax::{Span, Texts};
 use rg_parse::formula;
 use rg_tree::tree::Formula;
@@ -16,18 +17,19 @@ const MOST_FAULTS: usize = 120;
 /// The most premises.
 const MOST_PREMISES: usize = 80;
 
-/// The formulas of a part of the text.
+/// The formulas of a scope in a part of the text; of a `for`, in one of its rounds.
 #[derive(Drop)]
 pub(crate) struct Instance {
-    /// Which of the written parts it is.
-    pub(crate) family: usize,
-    pub(crate) member: Member,
+    pub(crate) scope: usize,
+    /// The part of the text, and the words that it owns, as bits.
+    pub(crate) part: usize,
+    owned: u64,
     /// Each formula as the text has it; empty where it is out.
     pub(crate) texts: Texts,
     pub(crate) formulas: Vec<Option<Formula>>,
 }
 
-/// The formulas of a written part.
+/// The formulas of a scope.
 #[derive(Drop)]
 pub(crate) struct FamilyAtoms {
     pub(crate) atoms: Atoms,
@@ -59,42 +61,39 @@ impl Instance {
 }
 
 impl Tried {
-    /// The formulas of the family of a part.
-    pub(crate) fn family_of(&self, part: usize) -> Option<&FamilyAtoms> {
-        let instance = self.instances.get(part)?;
-        self.families.get(instance.family)
+    /// The formulas of the scope of an instance.
+    pub(crate) fn family_of(&self, instance: usize) -> Option<&FamilyAtoms> {
+        let instance = self.instances.get(instance)?;
+        self.families.get(instance.scope)
     }
 
-    /// The premises of the family of a part.
-    pub(crate) fn premises_of(&self, part: usize) -> &[usize] {
-        match self.family_of(part) {
+    /// The premises of the scope of an instance.
+    pub(crate) fn premises_of(&self, instance: usize) -> &[usize] {
+        match self.family_of(instance) {
             Some(family) => family.premises.as_slice(),
             None => &[],
         }
     }
 
-    /// Which formulas of a part are true in a state.
+    /// Which formulas of an instance are true in a state.
     pub(crate) fn truth(
         &self,
         alloc: Global,
-        part: usize,
+        instance: usize,
         state: &[u64],
     ) -> Result<Bits, AllocError> {
-        match self.instances.get(part) {
+        match self.instances.get(instance) {
             Some(instance) => instance.truth(alloc, state),
             None => Bits::new(alloc, 0, false),
         }
     }
 }
 
-/// Takes out the formula at a place of a trial; where no formula stands there, all that have arguments. Whether there was one.
-fn take_out(all: &mut [Atoms], spans: &[Span], fault: Span) -> bool {
+/// Takes out the formula at a place of a trial; whether there was one.
+fn take_out(all: &mut [Atoms], spans: &[Vec<Span>], fault: Span) -> bool {
     let mut has_found = false;
-    let mut place = 0usize;
-    for atoms in all.iter_mut() {
-        for atom in atoms.atoms.iter_mut() {
-            let span = spans.get(place).copied().unwrap_or(Span::NOWHERE);
-            place = place.saturating_add(1);
+    for (atoms, spans) in all.iter_mut().zip(spans) {
+        for (atom, span) in atoms.atoms.iter_mut().zip(spans) {
             if !atom.is_out && span.start <= fault.start && fault.start < span.end {
                 atom.is_out = true;
                 has_found = true;
@@ -104,18 +103,11 @@ fn take_out(all: &mut [Atoms], spans: &[Span], fault: Span) -> bool {
     has_found
 }
 
-/// Takes out all formulas in which something stands in parentheses; whether there was one.
-fn take_out_calls(all: &mut [Atoms]) -> bool {
-    let mut has_found = false;
-    for atoms in all.iter_mut() {
-        for (place, atom) in atoms.atoms.iter_mut().enumerate() {
-            if !atom.is_out && atoms.texts.at(place).contains(&b'(') {
-                atom.is_out = true;
-                has_found = true;
-            }
-        }
-    }
-    has_found
+/// What the formulas say in each part of the text, before which byte, and before which byte those of each scope stand.
+#[derive(Drop)]
+struct Said {
+    parts: Vec<Vec<Before>>,
+    nears: Vec<usize>,
 }
 
 /// What the formulas say in each part of the text; those that can't be read are taken out.
@@ -123,20 +115,27 @@ fn read_all(
     alloc: Global,
     source: &[u8],
     read: &ReadOutline,
+    scopes: &[Scope],
     all: &mut [Atoms],
-) -> Result<Vec<Texts>, AllocError> {
+) -> Result<Said, AllocError> {
     for _ in 0..MOST_FAULTS {
-        let trial = trial_of(alloc, source, &read.tokens, &read.written, all)?;
+        let trial = trial_of(alloc, source, &read.tokens, &read.written, scopes, all)?;
         match leading_assertions(alloc, &trial.source)? {
-            Leading::Parts(parts) => return Ok(parts),
+            Leading::Parts(parts) => {
+                let nears = trial.nears;
+                return Ok(Said { parts, nears });
+            }
             Leading::Fault(fault) => {
-                if !take_out(all, &trial.spans, fault) && !take_out_calls(all) {
+                if !take_out(all, &trial.spans, fault) {
                     break;
                 }
             }
         }
     }
-    Ok(Vec::new(alloc))
+    Ok(Said {
+        parts: Vec::new(alloc),
+        nears: Vec::new(alloc),
+    })
 }
 
 /// The texts of all formulas of a part, from those of the formulas that are not out.
@@ -154,19 +153,19 @@ fn spread(alloc: Global, atoms: &Atoms, said: &Texts) -> Result<Texts, AllocErro
     Ok(texts)
 }
 
-/// Whether two formulas say the same in all parts of a family.
-fn are_same(instances: &[Instance], family: usize, first: usize, second: usize) -> bool {
+/// Whether two formulas of a scope say the same in all parts and rounds.
+fn are_same(instances: &[Instance], scope: usize, first: usize, second: usize) -> bool {
     instances
         .iter()
-        .filter(|instance| instance.family == family)
+        .filter(|instance| instance.scope == scope)
         .all(|instance| instance.texts.at(first) == instance.texts.at(second))
 }
 
-/// Whether a formula says nothing in some part of a family.
-fn is_void(instances: &[Instance], family: usize, place: usize) -> bool {
+/// Whether a formula of a scope says nothing in some part or round.
+fn is_void(instances: &[Instance], scope: usize, place: usize) -> bool {
     instances
         .iter()
-        .filter(|instance| instance.family == family)
+        .filter(|instance| instance.scope == scope)
         .any(|instance| {
             let text = instance.texts.at(place);
             text.is_empty() || matches!(text, b"true" | b"false")
@@ -174,16 +173,16 @@ fn is_void(instances: &[Instance], family: usize, place: usize) -> bool {
 }
 
 /// Takes out what says nothing, and what another says in fewer bytes.
-fn take_out_same(instances: &[Instance], family: usize, atoms: &mut Atoms) {
+fn take_out_same(instances: &[Instance], scope: usize, atoms: &mut Atoms) {
     let count = atoms.atoms.len();
     for place in 0..count {
-        let mut is_out = is_void(instances, family, place);
+        let mut is_out = is_void(instances, scope, place);
         for other in 0..count {
             let is_shorter = (atoms.texts.at(other).len(), other)
                 < (atoms.texts.at(place).len(), place);
             let is_in = atoms.atoms.get(other).is_some_and(|atom| !atom.is_out);
             if !is_out && is_shorter && is_in {
-                is_out = are_same(instances, family, place, other);
+                is_out = are_same(instances, scope, place, other);
             }
         }
         if let Some(atom) = atoms.atoms.get_mut(place) {
@@ -201,7 +200,7 @@ fn formula_of(alloc: Global, layout: &Layout, text: &[u8]) -> Result<Option<Form
     }
 }
 
-/// Reads the formulas of a part.
+/// Reads the formulas of an instance.
 fn read_formulas(
     alloc: Global,
     layout: &Layout,
@@ -229,17 +228,17 @@ fn fixed_words(layout: &Layout) -> u64 {
     bits
 }
 
-/// What is known of the formulas of a family.
+/// What is known of the formulas of a scope.
 fn family_of(
     alloc: Global,
     layout: &Layout,
     instances: &[Instance],
-    family: usize,
+    scope: usize,
     atoms: Atoms,
 ) -> Result<FamilyAtoms, AllocError> {
     let mut premises = Vec::new(alloc);
     let mut firm = Bits::new(alloc, atoms.atoms.len(), false)?;
-    let first = instances.iter().find(|instance| instance.family == family);
+    let first = instances.iter().find(|instance| instance.scope == scope);
     for (place, atom) in atoms.atoms.iter().enumerate() {
         if atom.is_premise && !atom.is_out && premises.len() < MOST_PREMISES {
             premises.push(place)?;
@@ -247,7 +246,7 @@ fn family_of(
         if let Some(instance) = first
             && let Some(Some(formula)) = instance.formulas.get(place)
         {
-            let kept = instance.member.owned | fixed_words(layout);
+            let kept = instance.owned | fixed_words(layout);
             firm.put(place, words_of(formula) & !kept == 0);
         }
     }
@@ -258,42 +257,59 @@ fn family_of(
     })
 }
 
-/// The formulas that are tried in an outline, whose parts are these.
+/// The formulas of each scope in each part of the text and each round, as texts.
+fn instances_of(
+    alloc: Global,
+    said: &Said,
+    members: &[Member],
+    all: &[Atoms],
+) -> Result<Vec<Instance>, AllocError> {
+    let mut instances = Vec::new(alloc);
+    for (part, (member, groups)) in members.iter().zip(&said.parts).enumerate() {
+        for group in groups {
+            let scope = said.nears.iter().position(|near| *near == group.near);
+            if let Some(scope) = scope
+                && let Some(atoms) = all.get(scope)
+            {
+                instances.push(Instance {
+                    scope,
+                    part,
+                    owned: member.owned,
+                    texts: spread(alloc, atoms, &group.texts)?,
+                    formulas: Vec::new(alloc),
+                })?;
+            }
+        }
+    }
+    Ok(instances)
+}
+
+/// The formulas that are tried in an outline whose scopes and parts are these.
 pub(crate) fn tried_of(
     alloc: Global,
     source: &[u8],
     read: &ReadOutline,
     layout: &Layout,
-    members: &[Member],
+    base: &Base,
 ) -> Result<Tried, AllocError> {
+    let scopes = &base.scopes;
     let mut all = Vec::new(alloc);
-    for part in &read.written.parts {
-        all.push(atoms_of(alloc, source, &read.tokens, &read.written, *part)?)?;
+    for scope in scopes {
+        all.push(atoms_of(alloc, source, &read.tokens, &read.written, scopes, *scope)?)?;
     }
-    let said = read_all(alloc, source, read, &mut all)?;
-    let mut instances = Vec::new(alloc);
-    for (member, texts) in members.iter().zip(&said) {
-        let family = member.family;
-        if let Some(atoms) = all.get(family) {
-            instances.push(Instance {
-                family,
-                member: *member,
-                texts: spread(alloc, atoms, texts)?,
-                formulas: Vec::new(alloc),
-            })?;
-        }
-    }
-    for (family, atoms) in all.iter_mut().enumerate() {
-        take_out_same(&instances, family, atoms);
+    let said = read_all(alloc, source, read, scopes, &mut all)?;
+    let mut instances = instances_of(alloc, &said, &base.members, &all)?;
+    for (scope, atoms) in all.iter_mut().enumerate() {
+        take_out_same(&instances, scope, atoms);
     }
     for instance in instances.iter_mut() {
-        if let Some(atoms) = all.get(instance.family) {
+        if let Some(atoms) = all.get(instance.scope) {
             read_formulas(alloc, layout, atoms, instance)?;
         }
     }
     let mut families = Vec::new(alloc);
-    for (family, atoms) in all.into_iter().enumerate() {
-        families.push(family_of(alloc, layout, &instances, family, atoms)?)?;
+    for (scope, atoms) in all.into_iter().enumerate() {
+        families.push(family_of(alloc, layout, &instances, scope, atoms)?)?;
     }
     Ok(Tried {
         families,

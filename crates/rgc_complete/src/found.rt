@@ -21,6 +21,9 @@ use std::thread::Threads;
 /// The most steps of runs that are followed where nothing is found.
 const MOST_STEPS_OF_RUNS: u64 = 500_000;
 
+/// The most decisions of each search for an outline with an assertion less.
+const MOST_STEPS_OF_THINNING: u64 = 20_000;
+
 /// What was found.
 #[derive(Drop)]
 pub enum Completed {
@@ -66,7 +69,7 @@ fn search_of<'a>(
         questions: 0,
     };
     for slot in &base.slots {
-        match tried.families.get(slot.part) {
+        match tried.families.get(slot.scope) {
             Some(family) => search.alive.push(candidates_of(alloc, family)?)?,
             None => search
                 .alive
@@ -106,7 +109,11 @@ impl Thinning<'_> {
             return Ok(false);
         };
         match unless_refused(Outlined::of(alloc, outline, &read))? {
-            Some(outlined) => is_proved(context, &outlined.files, known, self.steps),
+            Some(outlined) => {
+                // (what takes long is rarely so)
+                let steps = self.steps.min(MOST_STEPS_OF_THINNING);
+                is_proved(context, &outlined.files, known, steps)
+            }
             None => Ok(false),
         }
     }
@@ -195,13 +202,14 @@ pub fn complete<R: Threads + Wait + Sync, P: Watcher + Copy + Sync>(
     let alloc = context.alloc;
     let source = outlined.outline.source;
     let unfound = Completed::Unfound(Vec::new(alloc));
-    let Some(base) = conditions_of(alloc, source, outlined.read)? else {
+    let Some(mut base) = conditions_of(alloc, source, outlined.read)? else {
         return Ok(unfound);
     };
     let Some(first) = base.conditions.first() else {
         return Ok(unfound);
     };
-    let tried = tried_of(alloc, source, outlined.read, &first.layout, &base.members)?;
+    let tried = tried_of(alloc, source, outlined.read, &first.layout, &base)?;
+    base.locate(alloc, &tried)?;
     let mut search = search_of(alloc, &base, &tried)?;
     refute_reached(alloc, &base, &tried, &mut search.alive)?;
     if let Some(failure) = search.settle_all()? {

@@ -1,7 +1,7 @@
 //! What is remembered of a condition: states at which it may fail, and with what it held.
 
 use crate::alive::{Bits, Candidate, is_true};
-use crate::conditions::{Base, Duty};
+use crate::conditions::{Base, Duty, Stand};
 use crate::elaborated::Tried;
 use crate::evaluate::{Moment, after, holds};
 use rg_outline_reports::Demand;
@@ -10,13 +10,6 @@ use std::alloc::{AllocError, Global};
 
 /// The most states of a condition.
 const MOST: usize = 300;
-
-/// A place of a part.
-#[derive(Clone, Copy)]
-pub(crate) struct Source {
-    pub(crate) part: usize,
-    pub(crate) place: usize,
-}
 
 /// A state in which all hold that a condition is given beside candidates.
 #[derive(Drop)]
@@ -40,26 +33,19 @@ pub(crate) struct Asked {
 /// What is remembered of a condition.
 #[derive(Drop)]
 pub(crate) struct Memory {
-    pub(crate) sources: Vec<Source>,
+    pub(crate) sources: Vec<Stand>,
     pub(crate) met: Vec<Met>,
     pub(crate) held: Vec<Asked>,
 }
 
 /// What is given to a condition.
-fn sources_of(alloc: Global, base: &Base, duty: Duty) -> Result<Vec<Source>, AllocError> {
-    let mut sources = Vec::new(alloc);
+fn sources_of(alloc: Global, base: &Base, duty: Duty) -> Result<Vec<Stand>, AllocError> {
     if duty.demand == Demand::Ended {
-        for (part, place) in base.ends.iter().enumerate() {
-            sources.push(Source {
-                part,
-                place: *place,
-            })?;
-        }
-    } else if let Some(place) = duty.given {
-        sources.push(Source {
-            part: duty.part,
-            place,
-        })?;
+        return Vec::from_slice(alloc, &base.ends);
+    }
+    let mut sources = Vec::new(alloc);
+    if let Some(stand) = duty.given {
+        sources.push(stand)?;
     }
     Ok(sources)
 }
@@ -70,19 +56,12 @@ fn are_among(few: &[Candidate], many: &[Candidate]) -> bool {
 }
 
 impl Asked {
-    /// Whether it holds where another does: it is given as much, and asks no more.
-    fn follows(&self, other: &Asked) -> bool {
-        let is_given = self
-            .given
+    /// Whether it is given as much as another.
+    fn has_given(&self, other: &Asked) -> bool {
+        self.given
             .iter()
             .zip(&other.given)
-            .all(|(own, others)| are_among(others, own));
-        let asks_less = match (&self.due, &other.due) {
-            (None, None) => true,
-            (Some(own), Some(others)) => are_among(own, others),
-            _ => false,
-        };
-        is_given && asks_less
+            .all(|(own, others)| are_among(others, own))
     }
 }
 
@@ -96,16 +75,42 @@ impl Memory {
         })
     }
 
-    /// Whether a question was answered by another.
-    pub(crate) fn is_answered(&self, asked: &Asked) -> bool {
-        self.held.iter().any(|held| asked.follows(held))
+    /// Whether what a condition asks by itself was found to hold where it is given no more.
+    pub(crate) fn holds_alone(&self, asked: &Asked) -> bool {
+        self.held
+            .iter()
+            .any(|held| held.due.is_none() && asked.has_given(held))
+    }
+
+    /// Whether a candidate was found to hold where the condition leads, when it was given no more.
+    fn is_led_to(&self, asked: &Asked, candidate: Candidate) -> bool {
+        self.held.iter().any(|held| match &held.due {
+            Some(due) => due.contains(&candidate) && asked.has_given(held),
+            None => false,
+        })
+    }
+
+    /// Those of the candidates for which nothing was found yet.
+    pub(crate) fn unknown(
+        &self,
+        alloc: Global,
+        asked: &Asked,
+        due: &[Candidate],
+    ) -> Result<Vec<Candidate>, AllocError> {
+        let mut unknown = Vec::new(alloc);
+        for candidate in due {
+            if !self.is_led_to(asked, *candidate) {
+                unknown.push(*candidate)?;
+            }
+        }
+        Ok(unknown)
     }
 
     /// Whether all that is given holds in a state.
     fn is_given(&self, tried: &Tried, met: &Met, asked: &Asked) -> bool {
         let mut all_hold = true;
         for ((source, truth), needed) in self.sources.iter().zip(&met.given).zip(&asked.given) {
-            let premises = tried.premises_of(source.part);
+            let premises = tried.premises_of(source.instance);
             all_hold &= needed
                 .iter()
                 .all(|candidate| is_true(*candidate, truth, premises));
@@ -114,8 +119,8 @@ impl Memory {
     }
 
     /// Whether a question is to be answered no because of a state.
-    fn refutes(&self, tried: &Tried, met: &Met, part: usize, asked: &Asked) -> bool {
-        let premises = tried.premises_of(part);
+    fn refutes(&self, tried: &Tried, met: &Met, due: usize, asked: &Asked) -> bool {
+        let premises = tried.premises_of(due);
         let is_false = match &asked.due {
             None => met.is_broken,
             Some(due) => !due
@@ -126,9 +131,9 @@ impl Memory {
     }
 
     /// The last state because of which a question is to be answered no.
-    pub(crate) fn refuted(&self, tried: &Tried, part: usize, asked: &Asked) -> Option<usize> {
+    pub(crate) fn refuted(&self, tried: &Tried, due: usize, asked: &Asked) -> Option<usize> {
         (0..self.met.len()).rev().find(|index| match self.met.get(*index) {
-            Some(met) => self.refutes(tried, met, part, asked),
+            Some(met) => self.refutes(tried, met, due, asked),
             None => false,
         })
     }
@@ -155,20 +160,24 @@ pub(crate) struct Looked<'a> {
     pub(crate) alloc: Global,
     pub(crate) tried: &'a Tried,
     pub(crate) condition: &'a Condition,
-    pub(crate) part: usize,
+    /// The formulas that are tried where it leads.
+    pub(crate) due: usize,
 }
 
 impl Looked<'_> {
     /// What is so of the condition in two states.
-    fn met(&self, sources: &[Source], moment: Moment<'_>) -> Result<Met, AllocError> {
+    fn met(&self, sources: &[Stand], moment: Moment<'_>) -> Result<Met, AllocError> {
         let mut given = Vec::new(self.alloc);
         for source in sources {
-            given.push(self.tried.truth(self.alloc, source.part, moment.before)?)?;
+            given.push(
+                self.tried
+                    .truth(self.alloc, source.instance, moment.before)?,
+            )?;
         }
         Ok(Met {
             state: Vec::from_slice(self.alloc, moment.before)?,
             given,
-            due: self.tried.truth(self.alloc, self.part, moment.after)?,
+            due: self.tried.truth(self.alloc, self.due, moment.after)?,
             is_broken: is_broken(self.condition, moment),
         })
     }
@@ -203,7 +212,7 @@ impl Looked<'_> {
             return Ok(());
         }
         let met = self.met(&memory.sources, moment)?;
-        if memory.refutes(self.tried, &met, self.part, asked) {
+        if memory.refutes(self.tried, &met, self.due, asked) {
             memory.met.push(met)?;
         }
         Ok(())

@@ -2,7 +2,7 @@
 
 use crate::alive::{Alive, Bits, Candidate};
 use crate::asked::{Outcome, ask};
-use crate::conditions::{Base, Duty};
+use crate::conditions::{Base, Duty, Stand};
 use crate::elaborated::{FamilyAtoms, Instance, Tried};
 use crate::evaluate::Moment;
 use crate::memory::{Asked, Looked, Memory};
@@ -66,6 +66,11 @@ struct Chosen {
     cost: usize,
 }
 
+/// Whether an assertion stands at a place.
+fn is_at(stand: Option<Stand>, place: usize) -> bool {
+    stand.is_some_and(|stand| stand.place == place)
+}
+
 /// Adds a candidate as the text of a part has it.
 fn push_candidate(
     instance: &Instance,
@@ -96,6 +101,14 @@ struct Conjuncts {
 }
 
 impl Conjuncts {
+    /// None.
+    fn new(alloc: Global) -> Conjuncts {
+        Conjuncts {
+            text: Vec::new(alloc),
+            count: 0,
+        }
+    }
+
     /// Their formula, which is true where there are none.
     fn formula(self, alloc: Global) -> Result<Vec<u8>, AllocError> {
         let Conjuncts { text, count } = self;
@@ -173,23 +186,20 @@ fn cheapest(alive: &Alive, family: &FamilyAtoms, truth: &Bits, place: usize) -> 
 }
 
 impl<'a> Search<'a> {
-    /// Adds what is needed at a place, as the text of a part has it.
-    fn push_needed(
+    /// Adds candidates, as the text of a part has them.
+    fn push_all(
         &self,
-        part: usize,
-        place: usize,
+        instance: usize,
+        candidates: &[Candidate],
         conjuncts: &mut Conjuncts,
     ) -> Result<(), AllocError> {
-        let (Some(instance), Some(needed)) = (
-            self.tried.instances.get(part),
-            self.needed.get(place),
+        let (Some(instance), Some(family)) = (
+            self.tried.instances.get(instance),
+            self.tried.family_of(instance),
         ) else {
             return Ok(());
         };
-        let Some(family) = self.tried.families.get(instance.family) else {
-            return Ok(());
-        };
-        for candidate in needed {
+        for candidate in candidates {
             if conjuncts.count > 0 {
                 conjuncts.text.extend_from_slice(b" and ")?;
             }
@@ -199,37 +209,22 @@ impl<'a> Search<'a> {
         Ok(())
     }
 
-    /// No conjuncts.
-    fn no_conjuncts(&self) -> Conjuncts {
-        Conjuncts {
-            text: Vec::new(self.alloc),
-            count: 0,
-        }
-    }
-
-    /// What is given where a condition is asked.
-    fn given(&self, duty: Duty) -> Result<Vec<u8>, AllocError> {
-        let mut conjuncts = self.no_conjuncts();
-        if duty.demand == Demand::Ended {
-            for (part, place) in self.base.ends.iter().enumerate() {
-                self.push_needed(part, *place, &mut conjuncts)?;
+    /// What is given to a condition that is asked.
+    fn given(&self, index: usize, asked: &Asked) -> Result<Vec<u8>, AllocError> {
+        let mut conjuncts = Conjuncts::new(self.alloc);
+        if let Some(memory) = self.memories.get(index) {
+            for (stand, candidates) in memory.sources.iter().zip(&asked.given) {
+                self.push_all(stand.instance, candidates, &mut conjuncts)?;
             }
-        } else if let Some(place) = duty.given {
-            self.push_needed(duty.part, place, &mut conjuncts)?;
         }
         conjuncts.formula(self.alloc)
     }
 
-    /// What is needed where a condition leads, if anything is.
-    fn due(&self, duty: Duty) -> Result<Option<Vec<u8>>, AllocError> {
-        let mut conjuncts = self.no_conjuncts();
-        if let Some(place) = duty.due {
-            self.push_needed(duty.part, place, &mut conjuncts)?;
-        }
-        if conjuncts.count == 0 {
-            return Ok(None);
-        }
-        Ok(Some(conjuncts.formula(self.alloc)?))
+    /// What a condition that is asked is to lead to.
+    fn goal(&self, duty: Duty, due: &[Candidate]) -> Result<Vec<u8>, AllocError> {
+        let mut conjuncts = Conjuncts::new(self.alloc);
+        self.push_all(duty.leads_to(), due, &mut conjuncts)?;
+        conjuncts.formula(self.alloc)
     }
 
     /// The cheapest candidate of what is given to a condition that is false in a state that was met.
@@ -240,7 +235,7 @@ impl<'a> Search<'a> {
         for (source, truth) in memory.sources.iter().zip(&met.given) {
             let (Some(alive), Some(family)) = (
                 self.alive.get(source.place),
-                self.tried.family_of(source.part),
+                self.tried.family_of(source.instance),
             ) else {
                 continue;
             };
@@ -256,11 +251,12 @@ impl<'a> Search<'a> {
     /// Opens the conditions to which a place is due, or given.
     pub(crate) fn open_about(&mut self, place: usize, is_given: bool) {
         for (index, duty) in self.base.duties.iter().enumerate() {
-            let is_end = duty.demand == Demand::Ended && self.base.ends.contains(&place);
+            let is_end = duty.demand == Demand::Ended
+                && self.base.ends.iter().any(|stand| stand.place == place);
             let touches = if is_given {
-                duty.given == Some(place) || is_end
+                is_at(duty.given, place) || is_end
             } else {
-                duty.due == Some(place)
+                is_at(duty.due, place)
             };
             if touches && let Some(is_open) = self.is_open.get_mut(index) {
                 *is_open = true;
@@ -297,23 +293,19 @@ impl<'a> Search<'a> {
 
     /// Takes away, where a condition leads, what is false in a state that was met.
     fn refute(&mut self, index: usize, duty: Duty, met: usize) {
-        let (Some(place), Some(memory)) = (duty.due, self.memories.get(index)) else {
+        let (Some(due), Some(memory)) = (duty.due, self.memories.get(index)) else {
             return;
         };
-        if let (Some(met), Some(alive)) = (memory.met.get(met), self.alive.get_mut(place)) {
-            alive.keep_true(&met.due, self.tried.premises_of(duty.part));
+        if let (Some(met), Some(alive)) = (memory.met.get(met), self.alive.get_mut(due.place)) {
+            alive.keep_true(&met.due, self.tried.premises_of(due.instance));
         }
-        self.forget_refuted(place);
+        self.forget_refuted(due.place);
     }
 
-    /// Takes away at a place what was needed last.
-    fn give_up(&mut self, place: usize) {
-        let last = self
-            .needed
-            .get(place)
-            .and_then(|needed| needed.last().copied());
-        if let (Some(last), Some(alive)) = (last, self.alive.get_mut(place)) {
-            alive.put(last, false);
+    /// Takes away a candidate at a place.
+    fn give_up(&mut self, place: usize, candidate: Candidate) {
+        if let Some(alive) = self.alive.get_mut(place) {
+            alive.put(candidate, false);
         }
         self.forget_refuted(place);
     }
@@ -326,25 +318,29 @@ impl<'a> Search<'a> {
         }
     }
 
-    /// What a condition is given, and what it is to lead to; nothing where nothing is needed there.
+    /// What is to be asked of a condition: nothing where all is known that is needed.
     fn asked(&self, index: usize, duty: Duty, is_alone: bool) -> Result<Option<Asked>, AllocError> {
+        let Some(memory) = self.memories.get(index) else {
+            return Ok(None);
+        };
         let mut given = Vec::new(self.alloc);
-        if let Some(memory) = self.memories.get(index) {
-            for source in &memory.sources {
-                given.push(self.copy_needed(source.place)?)?;
-            }
+        for source in &memory.sources {
+            given.push(self.copy_needed(source.place)?)?;
         }
+        let mut asked = Asked { given, due: None };
         if is_alone {
-            return Ok(Some(Asked { given, due: None }));
+            if memory.holds_alone(&asked) {
+                return Ok(None);
+            }
+            return Ok(Some(asked));
         }
-        let due = self.copy_needed(duty.due.unwrap_or(usize::MAX))?;
+        let needed = self.copy_needed(duty.due.map_or(usize::MAX, |due| due.place))?;
+        let due = memory.unknown(self.alloc, &asked, &needed)?;
         if due.is_empty() {
             return Ok(None);
         }
-        Ok(Some(Asked {
-            given,
-            due: Some(due),
-        }))
+        asked.due = Some(due);
+        Ok(Some(asked))
     }
 
     /// Goes on after a state at which a condition fails: by a candidate more, or by fewer where it leads.
@@ -381,7 +377,7 @@ impl<'a> Search<'a> {
             alloc: self.alloc,
             tried: self.tried,
             condition,
-            part: duty.part,
+            due: duty.leads_to(),
         };
         looked.look_near(memory, moment, asked)?;
         looked.remember(memory, moment)
@@ -389,19 +385,34 @@ impl<'a> Search<'a> {
 
     /// Has a condition searched.
     fn search(&mut self, index: usize, duty: Duty, asked: Asked) -> Result<Step, AllocError> {
-        let Some(condition) = self.base.conditions.get(duty.condition) else {
+        let base = self.base;
+        let Some(condition) = base.conditions.get(duty.condition) else {
             return Ok(Step::Done);
         };
         self.questions = self.questions.saturating_add(1);
-        let given = self.given(duty)?;
-        let mut goal = None;
-        if asked.due.is_some() {
-            goal = self.due(duty)?;
-        }
-        let outcome = match &goal {
-            Some(goal) => ask(self.alloc, condition, &given, Some(goal))?,
+        let given = self.given(index, &asked)?;
+        let outcome = match &asked.due {
+            Some(due) => ask(self.alloc, condition, &given, Some(&self.goal(duty, due)?))?,
             None => ask(self.alloc, condition, &given, None)?,
         };
+        self.go_on(index, duty, asked, outcome)
+    }
+
+    /// The last state because of which a question is to be answered no.
+    fn refuted(&self, index: usize, duty: Duty, asked: &Asked) -> Option<usize> {
+        let tried = self.tried;
+        let memory = self.memories.get(index)?;
+        memory.refuted(tried, duty.leads_to(), asked)
+    }
+
+    /// Goes on after what a search said of a condition.
+    fn go_on(
+        &mut self,
+        index: usize,
+        duty: Duty,
+        asked: Asked,
+        outcome: Outcome,
+    ) -> Result<Step, AllocError> {
         match outcome {
             Outcome::Holds => {
                 if let Some(memory) = self.memories.get_mut(index) {
@@ -415,19 +426,20 @@ impl<'a> Search<'a> {
                     after: &after,
                 };
                 self.remember(index, duty, moment, &asked)?;
-                let memory = self.memories.get(index);
-                let met = memory.and_then(|memory| memory.refuted(self.tried, duty.part, &asked));
-                Ok(if met.is_some() {
-                    Step::Again
-                } else {
-                    Step::Stuck
-                })
+                if self.refuted(index, duty, &asked).is_some() {
+                    return Ok(Step::Again);
+                }
+                Ok(Step::Stuck)
             }
             Outcome::Unknown => {
-                let (true, Some(place)) = (asked.due.is_some(), duty.due) else {
+                let last = match &asked.due {
+                    Some(due) => due.last().copied(),
+                    None => None,
+                };
+                let (Some(last), Some(due)) = (last, duty.due) else {
                     return Ok(Step::Stuck);
                 };
-                self.give_up(place);
+                self.give_up(due.place, last);
                 Ok(Step::Again)
             }
         }
@@ -438,16 +450,8 @@ impl<'a> Search<'a> {
         let Some(asked) = self.asked(index, duty, is_alone)? else {
             return Ok(Step::Done);
         };
-        let memory = self.memories.get(index);
-        if let Some(met) = memory.and_then(|memory| memory.refuted(self.tried, duty.part, &asked)) {
+        if let Some(met) = self.refuted(index, duty, &asked) {
             return self.mend(index, duty, met, is_alone);
-        }
-        if self
-            .memories
-            .get(index)
-            .is_some_and(|memory| memory.is_answered(&asked))
-        {
-            return Ok(Step::Done);
         }
         self.search(index, duty, asked)
     }

@@ -15,10 +15,10 @@ fn copies(alloc: Global, needed: &[Vec<Candidate>]) -> Result<Vec<Vec<Candidate>
 }
 
 impl<'a> Search<'a> {
-    /// The family of the part of a place.
+    /// The formulas of the scope of a place.
     pub(crate) fn family_at(&self, place: usize) -> Option<&'a FamilyAtoms> {
         let slot = self.base.slots.get(place)?;
-        self.tried.families.get(slot.part)
+        self.tried.families.get(slot.scope)
     }
 
     /// Leaves as candidates what is needed alone.

@@ -3,7 +3,7 @@
 use crate::search::{Failure, Search};
 use rg_complete::Slot;
 use rg_outline_reports::{Demand, Format, Outlined};
-use rg_outline_syntax::{Span, push_count};
+use rg_outline_syntax::{ItemKind, Span, push_count};
 use serde_json::json;
 use std::alloc::{AllocError, Global};
 
@@ -46,14 +46,36 @@ struct Unfound {
     says: &'static str,
     state: Vec<u8>,
     tried: u64,
+    /// The line of a use of named statements in the part.
+    used: Option<u64>,
 }
 
 /// The place at which a condition fails.
 fn slot_of(search: &Search<'_>, failure: &Failure) -> Option<Slot> {
     let count = search.base.slots.len();
-    let given = failure.duty.given.filter(|place| *place < count);
-    let place = given.or(failure.duty.due)?;
-    search.base.slots.get(place).copied()
+    let given = failure.duty.given.filter(|given| given.place < count);
+    let stand = given
+        .or(failure.duty.due)
+        .or(search.base.ends.first().copied())?;
+    search.base.slots.get(stand.place).copied()
+}
+
+/// The first use of named statements within a part.
+fn used_in(outlined: &Outlined<'_>, part: Span) -> Option<Span> {
+    for item in &outlined.read.written.items {
+        let used = item.span;
+        let is_within = part.start <= used.start && used.end <= part.end;
+        if is_within && matches!(item.kind, ItemKind::Use(_)) {
+            return Some(used);
+        }
+    }
+    None
+}
+
+/// How many formulas are tried at a place.
+fn tried_at(search: &Search<'_>, slot: Option<Slot>) -> usize {
+    let family = slot.and_then(|slot| search.tried.families.get(slot.scope));
+    family.map_or(0, |family| family.atoms.count())
 }
 
 /// What is reported of a condition that no candidate makes hold.
@@ -63,34 +85,24 @@ fn unfound_of(
     failure: &Failure,
 ) -> Result<Unfound, AllocError> {
     let source = outlined.outline.source;
-    let written = &outlined.read.written;
     let slot = slot_of(search, failure);
-    let family = search
-        .tried
-        .instances
-        .get(failure.duty.part)
-        .map_or(0, |instance| instance.family);
-    let name = written
-        .parts
-        .get(family)
-        .map_or(Span::NOWHERE, |part| part.name);
+    let member = search.base.members.get(failure.duty.part);
+    let part = member.and_then(|member| outlined.read.written.parts.get(member.family));
+    let name = part.map_or(Span::NOWHERE, |part| part.name);
+    let whole = part.map_or(Span::NOWHERE, |part| part.span);
     let start = slot.map_or(name.start, |slot| slot.near);
     let position = Span { start, end: start }.position(source);
     let places = outlined.places()?;
     let mut state = Vec::new(search.alloc);
     push_state(&mut state, &places.words, &failure.state)?;
-    let atoms = search
-        .tried
-        .families
-        .get(family)
-        .map_or(0, |family| family.atoms.count());
     Ok(Unfound {
         line: position.line as u64,
         column: position.column as u64,
         part: Vec::from_slice(search.alloc, name.of(source))?,
         says: said(failure.duty.demand),
         state,
-        tried: atoms as u64,
+        tried: tried_at(search, slot) as u64,
+        used: used_in(outlined, whole).map(|used| used.position(source).line as u64),
     })
 }
 
@@ -131,5 +143,10 @@ pub(crate) fn unfound_report(
     text.extend_from_slice(b"\n    tried: ")?;
     push_count(&mut text, unfound.tried)?;
     text.extend_from_slice(b" formulas, alone and after a premise\n")?;
+    if let Some(line) = unfound.used {
+        text.extend_from_slice(b"    within named statements, as those of line ")?;
+        push_count(&mut text, line)?;
+        text.extend_from_slice(b", none is looked for: what is needed there has to be written\n")?;
+    }
     Ok(text)
 }

@@ -3,7 +3,6 @@
 use crate::alive::Candidate;
 use crate::elaborated::FamilyAtoms;
 use crate::search::{Search, cost_of};
-use rg_complete::SlotKind;
 use std::alloc::{AllocError, Global};
 
 /// Adds a formula, in parentheses where it needs them.
@@ -94,13 +93,5 @@ impl Search<'_> {
             }
         }
         Ok(texts)
-    }
-
-    /// Whether a place is one at which an assertion is written only where it has to be.
-    pub(crate) fn is_rare(&self, place: usize) -> bool {
-        self.base
-            .slots
-            .get(place)
-            .is_some_and(|slot| slot.kind == SlotKind::Otherwise)
     }
 }

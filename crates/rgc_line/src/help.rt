@@ -436,14 +436,16 @@ Examples:
 };
 
 static COMPLETE: Help = Help {
-    about: "Finds the assertions and loop invariants that an outline lacks, and prints it with them",
+    about: "Finds assertions and loop invariants that an outline lacks, and prints it with them",
     more: "What is written stays as it stands. What is found is verified as any outline is, and the verdict is
 printed on standard error, or on standard output where the file is rewritten. Where nothing is found
 that makes all conditions hold, it is reported where, and the status is 1.
 
 Example:
-  rgc complete lock.rgo > complete.rgo
-      verified: 77 conditions, 73 by search; 9 assertions were found",
+  rgc complete lock.rgo
+      verified: 77 conditions, 73 by search
+      0 assertions were found
+      (it lacks none, so it is printed as it stands)",
     fields: &[
         (
             "steps",
