@@ -80,7 +80,7 @@ fn delivered<R: Threads + Wait + Sync>(
     found: Found<'_>,
     verdict: &[u8],
 ) -> Result<u8, AllocError> {
-    let rt = means.rt;
+    let (rt, format) = (means.rt, line.settings.format);
     let said = count_line(rt, line, found.count)?;
     match line.command {
         Command::Complete {
@@ -97,11 +97,11 @@ fn delivered<R: Threads + Wait + Sync>(
             if status != 0 {
                 return Ok(status);
             }
-            let status = shown(rt, verdict, 0);
-            Ok(status.max(shown(rt, said.as_bytes(), 0)))
+            let status = shown(rt, format, verdict, 0);
+            Ok(shown(rt, format, said.as_bytes(), status))
         }
         _ => {
-            let status = shown(rt, found.source, 0);
+            let status = shown(rt, format, found.source, 0);
             reported(rt, verdict);
             reported(rt, said.as_bytes());
             Ok(status)
@@ -155,7 +155,12 @@ fn done_over_found<'a, R: Threads + Wait + Sync>(
     let status = done_with(means, line, files, expanded)?;
     if status == 0 {
         let said = count_line(means.rt, line, found.count)?;
-        return Ok(shown(means.rt, said.as_bytes(), status));
+        return Ok(shown(
+            means.rt,
+            line.settings.format,
+            said.as_bytes(),
+            status,
+        ));
     }
     Ok(status)
 }
