@@ -10,6 +10,8 @@ pub struct Filled {
     pub source: Vec<u8>,
     /// Where the assertion of each place begins, with its brace where it has one; nowhere, where nothing was written.
     pub spans: Vec<Span>,
+    /// Where the outline goes on after each assertion, and how many bytes were added before that.
+    added: Vec<(usize, usize)>,
 }
 
 /// The white space with which the line of a byte begins, where the byte is the first of its line.
@@ -68,6 +70,17 @@ fn margins_of<'a>(source: &'a [u8], slot: Slot) -> Margins<'a> {
 }
 
 impl Filled {
+    /// The byte of the outline before anything was added that stands at this byte.
+    pub fn origin(&self, at: usize) -> usize {
+        let mut before = 0usize;
+        for (next, added) in &self.added {
+            if *next <= at {
+                before = *added;
+            }
+        }
+        at.saturating_sub(before)
+    }
+
     /// Adds a formula with what stands around it.
     fn push(&mut self, margins: Margins<'_>, formula: &[u8]) -> Result<(), AllocError> {
         self.source.extend_from_slice(margins.first)?;
@@ -98,6 +111,7 @@ pub fn fill(
     let mut filled = Filled {
         source: Vec::new(alloc),
         spans: Vec::new(alloc),
+        added: Vec::new(alloc),
     };
     let mut done = 0usize;
     for (index, slot) in slots.iter().enumerate() {
@@ -111,6 +125,8 @@ pub fn fill(
             .extend_from_slice(source.get(done..slot.at).unwrap_or(&[]))?;
         done = slot.at;
         filled.push(margins_of(source, *slot), formula)?;
+        let next = filled.source.len();
+        filled.added.push((next, next.saturating_sub(done)))?;
     }
     filled
         .source

@@ -1,7 +1,7 @@
 //! The conditions of an outline in which nothing is known at the places where no assertion is written, and what each asks of these places.
 
 use crate::elaborated::Tried;
-use rg_complete::{Scope, Slot, Slots, fill, slots_of, some_word};
+use rg_complete::{Filled, Scope, Slot, Slots, fill, slots_of, some_word};
 use rg_outline_reports::{
     Demand, Format, Member, NoFiles, Obligation, OutlineSource, Outlined, ReadOutline, Spot,
     read_outline,
@@ -33,6 +33,8 @@ pub(crate) struct Duty {
 #[derive(Drop)]
 pub(crate) struct Base {
     pub(crate) slots: Vec<Slot>,
+    /// The byte of the outline that each place is about: of a place with an assertion, where that is written.
+    pub(crate) nears: Vec<usize>,
     pub(crate) scopes: Vec<Scope>,
     pub(crate) conditions: Vec<Condition>,
     pub(crate) duties: Vec<Duty>,
@@ -134,14 +136,14 @@ fn base_of(
     alloc: Global,
     outlined: &Outlined<'_>,
     slots: Slots,
-    spans: &[Span],
+    made: &Filled,
 ) -> Result<Option<Base>, Refusal> {
     let derived = match derive_outline(alloc, &outlined.files) {
         Ok(derived) => derived,
         Err(_) => return Ok(None),
     };
     let conditions = derived.conditions(alloc)?;
-    let mut places = Vec::from_slice(alloc, spans)?;
+    let mut places = Vec::from_slice(alloc, &made.spans)?;
     let duties = duties_of(alloc, &outlined.obligations()?, &mut places)?;
     let members = outlined.members()?;
     let mut ends = Vec::new(alloc);
@@ -149,8 +151,16 @@ fn base_of(
         ends.push(stand_of(&mut places, member.end)?)?;
     }
     let Slots { slots, scopes } = slots;
+    let mut nears = Vec::new(alloc);
+    for (place, span) in places.iter().enumerate() {
+        match slots.get(place) {
+            Some(slot) => nears.push(slot.near)?,
+            None => nears.push(made.origin(span.start))?,
+        }
+    }
     Ok(Some(Base {
         slots,
+        nears,
         scopes,
         conditions,
         duties,
@@ -265,7 +275,7 @@ pub(crate) fn conditions_of(
         return Ok(None);
     };
     match unless_refused(Outlined::of(alloc, outline, &written))? {
-        Some(outlined) => base_of(alloc, &outlined, slots, &made.spans),
+        Some(outlined) => base_of(alloc, &outlined, slots, &made),
         None => Ok(None),
     }
 }

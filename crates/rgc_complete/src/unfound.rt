@@ -10,9 +10,9 @@ use std::alloc::{AllocError, Global};
 /// What a condition asks, in words.
 fn said(demand: Demand) -> &'static str {
     match demand {
-        Demand::Leads => "after this step or test what has to hold there",
-        Demand::Stable => "that steps of others keep what is written here",
-        Demand::Guaranteed => "that this step is inside what the part promises",
+        Demand::Leads => "what has to hold after the next step or test",
+        Demand::Stable => "that steps of others keep it",
+        Demand::Guaranteed => "that the next step is inside what the part promises",
         Demand::Entered => "what has to hold where the part begins",
         Demand::Ended => "the program's post at the end",
         Demand::Other => "this",
@@ -43,7 +43,11 @@ struct Unfound {
     line: u64,
     column: u64,
     part: Vec<u8>,
+    /// Whether an assertion is written there.
+    is_written: bool,
     says: &'static str,
+    /// The line of the assertion that isn't given, if it is written.
+    due: Option<u64>,
     state: Vec<u8>,
     tried: u64,
     /// The line of a use of named statements in the part.
@@ -51,13 +55,10 @@ struct Unfound {
 }
 
 /// The place at which a condition fails.
-fn slot_of(search: &Search<'_>, failure: &Failure) -> Option<Slot> {
-    let count = search.base.slots.len();
-    let given = failure.duty.given.filter(|given| given.place < count);
-    let stand = given
-        .or(failure.duty.due)
-        .or(search.base.ends.first().copied())?;
-    search.base.slots.get(stand.place).copied()
+fn place_of(search: &Search<'_>, failure: &Failure) -> Option<usize> {
+    let first = search.base.ends.first().copied();
+    let stand = failure.duty.given.or(failure.duty.due).or(first)?;
+    Some(stand.place)
 }
 
 /// The first use of named statements within a part.
@@ -78,6 +79,24 @@ fn tried_at(search: &Search<'_>, slot: Option<Slot>) -> usize {
     family.map_or(0, |family| family.atoms.count())
 }
 
+/// The line of a byte.
+fn line_of(source: &[u8], start: usize) -> u64 {
+    Span { start, end: start }.position(source).line as u64
+}
+
+/// The line of what a step or a test is to lead to, where that is written.
+fn due_of(search: &Search<'_>, source: &[u8], failure: &Failure) -> Option<u64> {
+    if failure.duty.demand != Demand::Leads {
+        return None;
+    }
+    let place = failure.duty.due?.place;
+    let near = search.base.nears.get(place).copied()?;
+    if place < search.base.slots.len() {
+        return None;
+    }
+    Some(line_of(source, near))
+}
+
 /// What is reported of a condition that no candidate makes hold.
 fn unfound_of(
     search: &Search<'_>,
@@ -85,12 +104,14 @@ fn unfound_of(
     failure: &Failure,
 ) -> Result<Unfound, AllocError> {
     let source = outlined.outline.source;
-    let slot = slot_of(search, failure);
+    let place = place_of(search, failure);
+    let slot = place.and_then(|place| search.base.slots.get(place).copied());
+    let near = place.and_then(|place| search.base.nears.get(place).copied());
     let member = search.base.members.get(failure.duty.part);
     let part = member.and_then(|member| outlined.read.written.parts.get(member.family));
     let name = part.map_or(Span::NOWHERE, |part| part.name);
     let whole = part.map_or(Span::NOWHERE, |part| part.span);
-    let start = slot.map_or(name.start, |slot| slot.near);
+    let start = near.unwrap_or(name.start);
     let position = Span { start, end: start }.position(source);
     let places = outlined.places()?;
     let mut state = Vec::new(search.alloc);
@@ -99,18 +120,39 @@ fn unfound_of(
         line: position.line as u64,
         column: position.column as u64,
         part: Vec::from_slice(search.alloc, name.of(source))?,
+        is_written: slot.is_none(),
         says: said(failure.duty.demand),
+        due: due_of(search, source, failure),
         state,
         tried: tried_at(search, slot) as u64,
-        used: used_in(outlined, whole).map(|used| used.position(source).line as u64),
+        used: used_in(outlined, whole).map(|used| line_of(source, used.start)),
     })
+}
+
+/// Adds what isn't given, in words.
+fn push_missing(text: &mut Vec<u8>, unfound: &Unfound) -> Result<(), AllocError> {
+    if unfound.is_written {
+        text.extend_from_slice(b"what is written here doesn't give ")?;
+    } else {
+        text.extend_from_slice(b"no assertion is found here that gives ")?;
+    }
+    text.extend_from_slice(unfound.says.as_bytes())?;
+    if let Some(line) = unfound.due {
+        text.extend_from_slice(b", as line ")?;
+        push_count(text, line)?;
+        text.extend_from_slice(b" has it")?;
+    }
+    Ok(())
 }
 
 /// It as a JSON value in a line of its own.
 fn json_line(alloc: Global, file: &str, unfound: &Unfound) -> Result<Vec<u8>, AllocError> {
     let part = str::from_utf8(&unfound.part).unwrap_or("");
     let state = str::from_utf8(&unfound.state).unwrap_or("");
-    let (line, column, says, tried) = (unfound.line, unfound.column, unfound.says, unfound.tried);
+    let mut missing = Vec::new(alloc);
+    push_missing(&mut missing, unfound)?;
+    let says = str::from_utf8(&missing).unwrap_or("");
+    let (line, column, tried) = (unfound.line, unfound.column, unfound.tried);
     let value =
         json!(in alloc; {"column": column, "file": file, "kind": "unfound", "line": line, "part": part, "says": says, "state": state, "tried": tried})?;
     let mut text = value.to_string(alloc)?;
@@ -136,13 +178,16 @@ pub(crate) fn unfound_report(
     push_count(&mut text, unfound.column)?;
     text.extend_from_slice(b": ")?;
     text.extend_from_slice(&unfound.part)?;
-    text.extend_from_slice(b": no assertion is found here that gives ")?;
-    text.extend_from_slice(unfound.says.as_bytes())?;
+    text.extend_from_slice(b": ")?;
+    push_missing(&mut text, &unfound)?;
     text.extend_from_slice(b"\n    state: ")?;
     text.extend_from_slice(&unfound.state)?;
-    text.extend_from_slice(b"\n    tried: ")?;
-    push_count(&mut text, unfound.tried)?;
-    text.extend_from_slice(b" formulas, alone and after a premise\n")?;
+    if !unfound.is_written {
+        text.extend_from_slice(b"\n    tried: ")?;
+        push_count(&mut text, unfound.tried)?;
+        text.extend_from_slice(b" formulas, alone and after a premise")?;
+    }
+    text.push(b'\n')?;
     if let Some(line) = unfound.used {
         text.extend_from_slice(b"    within named statements, as those of line ")?;
         push_count(&mut text, line)?;
