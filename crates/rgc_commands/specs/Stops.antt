@@ -71,7 +71,7 @@ unread_line (Find _ _ None) files = text_line files None
 unread_line (Find _ _ (Some _)) files = text_line files (derivation_line files None)
 unread_line (Outline _ _ _ _ _) files = outline_line files None
 unread_line (Verify _ _ _ _) files = outline_line files None
-unread_line (Complete _ _ _) files = outline_line files None
+unread_line (Complete _ _ _ _) files = outline_line files None
 unread_line (Challenge _ _) files = outline_line files None
 unread_line (Explain _) files = None
 
@@ -105,7 +105,7 @@ AreFilesRefused (RunOutline _ _ _ _ _) files e = OfOutline files (λ outline. Is
 AreFilesRefused (Outline _ _ _ proofs _) files e = OfOutline files (λ outline. IsExpandRefusal (is_some proofs) outline MOST_STEPS e)
 AreFilesRefused (Verify _ steps false _) files e = OfOutline files (λ outline. IsVerifyRefusal outline (search_steps steps) e)
 AreFilesRefused (Verify _ steps true _) files e = OfOutline files (λ outline. IsProgramRefusal outline.text.items e)
-AreFilesRefused (Complete _ _ _) files e = ⊥
+AreFilesRefused (Complete _ _ _ _) files e = ⊥
 -- (where an outline is verified, a changed program may be refused)
 AreFilesRefused (Challenge _ _) files e = OfOutline files (λ outline. IsVerifyRefusal outline MOST_STEPS e ⊎ ((conditions : ℕ) × IsVerified conditions outline))
 AreFilesRefused (Explain _) files e = ⊥
@@ -128,7 +128,7 @@ IsFault s (RunOutline _ _ _ _ _) files lines = IsRefusedOutline files.outline li
 IsFault s (Outline _ _ _ _ _) files lines = IsRefusedOutline files.outline lines
 IsFault s (Verify _ _ false _) files lines = IsRefusedOutline files.outline lines ⊎ ((s.has_accesses ≡ true) × OfOutline files (LacksCodeOfOutline s true lines))
 IsFault s (Verify _ _ true _) files lines = IsRefusedOutline files.outline lines
-IsFault s (Complete _ _ _) files lines = IsRefusedOutline files.outline lines
+IsFault s (Complete _ _ _ _) files lines = IsRefusedOutline files.outline lines
 IsFault s (Challenge _ _) files lines = IsRefusedOutline files.outline lines
 IsFault s _ files lines = ⊥
 
@@ -161,7 +161,7 @@ fits s (AccessesOutline _) = not (asks_for_form s)
 fits s (Run _ _ _ _ _ _ _) = not (asks_for_form s)
 fits s (Clauses _ _) = fits_clauses s
 -- (an outline is completed before it is verified: the line that verifies it is another one)
-fits s (Complete _ _ _) = false
+fits s (Complete _ _ _ _) = false
 fits s (Verify _ _ is_runs_only text) = not (asks_for_form s) && fits_verdict s is_runs_only text
 fits s _ = not (asks_for_form s) && not (is_some s.erase)
 

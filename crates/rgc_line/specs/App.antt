@@ -116,7 +116,7 @@ row_of Clauses = leaf (codes "clauses") (field File "TEXT" ∷ derivation_files 
 row_of Find = leaf (codes "find") (field File "TEXT" ∷ derivation_files ∷ condition ∷ field NumberOrMillion "steps" ∷ output ∷ explained ∷ [])
 row_of Outline = leaf (codes "outline") (field File "OUTLINE" ∷ field OptionalFile "text" ∷ derivation_files ∷ field RepeatedFile "proofs" ∷ field OptionalFile "map" ∷ threads ∷ [])
 row_of Verify = leaf (codes "verify") (field Files "OUTLINE" ∷ field OptionalNumber "steps" ∷ field Flag "runs-only" ∷ field OptionalFile "text" ∷ threads ∷ format ∷ warnings ∷ accesses ∷ complete ∷ [])
-row_of Complete = leaf (codes "complete") (field File "OUTLINE" ∷ field OptionalNumber "steps" ∷ field Flag "in-place" ∷ threads ∷ format ∷ warnings ∷ [])
+row_of Complete = leaf (codes "complete") (field File "OUTLINE" ∷ field OptionalNumber "steps" ∷ field Flag "invariant" ∷ field Flag "in-place" ∷ threads ∷ format ∷ warnings ∷ [])
 row_of Challenge = leaf (codes "challenge") (field File "OUTLINE" ∷ field Flag "refused" ∷ threads ∷ format ∷ [])
 row_of Explain = leaf (codes "explain") (field NeededNumber "NUMBER" ∷ [])
 

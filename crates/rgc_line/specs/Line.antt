@@ -37,7 +37,7 @@ contents_of (Clauses text chosen) = (kind.Clauses, file text ∷ chosen_values c
 contents_of (Find text steps chosen) = (kind.Find, file text ∷ chosen_values chosen (number steps ∷ []))
 contents_of (Outline outline text derivation proofs map) = (kind.Outline, file outline ∷ optional file text ∷ optional file derivation ∷ optional file proofs ∷ optional file map ∷ [])
 contents_of (Verify outlines steps is_runs_only text) = (kind.Verify, file_of outlines ∷ optional number steps ∷ flag is_runs_only ∷ optional file text ∷ [])
-contents_of (Complete outline steps is_in_place) = (kind.Complete, file outline ∷ optional number steps ∷ flag is_in_place ∷ [])
+contents_of (Complete outline steps finds_invariant is_in_place) = (kind.Complete, file outline ∷ optional number steps ∷ flag finds_invariant ∷ flag is_in_place ∷ [])
 contents_of (Challenge outline has_refused) = (kind.Challenge, file outline ∷ flag has_refused ∷ [])
 contents_of (Explain n) = (kind.Explain, number n ∷ [])
 

@@ -25,7 +25,7 @@ named (EmitOutline outline) = files (Some outline) None None
 named (Accesses text derivation proofs) = files (Some text) (Some derivation) (Some proofs)
 named (AccessesOutline outline) = files (Some outline) None None
 named (RunOutline outline start moves _ _) = record (files (Some outline) None None) { start = start; moves = moves }
-named (Complete outline _ _) = files (Some outline) None None
+named (Complete outline _ _ _) = files (Some outline) None None
 named (Challenge outline _) = files (Some outline) None None
 named (Outline outline _ _ _ _) = files (Some outline) None None
 named (Verify outlines _ _ _) = files (Some outlines.outline) None None

@@ -255,11 +255,12 @@ pub enum Command<'a> {
         is_runs_only: bool,
         text: Option<&'a str>,
     },
-    /// An outline with the assertions that it lacks, which is verified with at most so many decisions for each condition. It is printed, or takes the place
-    /// of the file.
+    /// An outline with the assertions that it lacks, and with conjuncts of its invariant where that is asked, which is verified with at most so many
+    /// decisions for each condition. It is printed, or takes the place of the file.
     Complete {
         outline: &'a str,
         steps: Option<u64>,
+        finds_invariant: bool,
         is_in_place: bool,
     },
     /// The small changes of an outline's program that its specification doesn't see, and the others too where that is asked.

@@ -109,6 +109,8 @@ pub const VERIFY_STEPS: Field = field!(OptionalNumber "steps");
 
 pub const RUNS_ONLY: Field = field!(Flag "runs-only");
 
+pub const INVARIANT: Field = field!(Flag "invariant");
+
 pub const IN_PLACE: Field = field!(Flag "in-place");
 
 pub const START: Field = field!(OptionalFile "start");
@@ -303,7 +305,15 @@ pub static COMMANDS: [Row; 15] = [
     Row {
         kind: Kind::Complete,
         name: "complete",
-        fields: &[OUTLINE, VERIFY_STEPS, IN_PLACE, THREADS, FORMAT, WARNINGS],
+        fields: &[
+            OUTLINE,
+            VERIFY_STEPS,
+            INVARIANT,
+            IN_PLACE,
+            THREADS,
+            FORMAT,
+            WARNINGS,
+        ],
     },
     Row {
         kind: Kind::Challenge,

@@ -453,6 +453,11 @@ Example:
              verification, 1000000 where it isn't given",
         ),
         (
+            "invariant",
+            "search for conjuncts of the invariant, too: they say what the program\n\
+             keeps, so read what is found",
+        ),
+        (
             "in-place",
             "rewrite the file, in place of printing the outline",
         ),

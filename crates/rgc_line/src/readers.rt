@@ -11,8 +11,8 @@ ghost use Rattle.rgc_line.specs.declared.fields.FieldFault.TheVariants.{Accesses
 
 use crate::command::{Command, settings_of};
 use crate::commands::{
-    COMMANDS, CONDITIONS, DERIVATION, DERIVATION_FILES, DRAW, FORMULAS, HINTS, IN_PLACE, Kind,
-    LIMIT, MAP, MOVES, OUTLINE, PROOFS, REFUSAL, REFUSED, RUNS_ONLY, Row, START, STEPS, TEXT,
+    COMMANDS, CONDITIONS, DERIVATION, DERIVATION_FILES, DRAW, FORMULAS, HINTS, INVARIANT, IN_PLACE,
+    Kind, LIMIT, MAP, MOVES, OUTLINE, PROOFS, REFUSAL, REFUSED, RUNS_ONLY, Row, START, STEPS, TEXT,
     VERIFY_STEPS, WRITTEN_PROOFS, WRITTEN_TEXT,
 };
 use crate::fields::{
@@ -191,6 +191,7 @@ fn command_of<'a>(
         Kind::Complete => Ok(Command::Complete {
             outline: file(matches, OUTLINE.id),
             steps: number_or_none(matches, VERIFY_STEPS.id),
+            finds_invariant: is_given(matches, INVARIANT.id),
             is_in_place: is_given(matches, IN_PLACE.id),
         }),
         Kind::Challenge => Ok(Command::Challenge {

@@ -28,7 +28,7 @@ IsOverOutline (AccessesOutline _) = Unit {0}
 IsOverOutline (RunOutline _ _ _ _ _) = Unit {0}
 IsOverOutline (Outline _ _ _ _ _) = Unit {0}
 IsOverOutline (Verify _ _ _ _) = Unit {0}
-IsOverOutline (Complete _ _ _) = Unit {0}
+IsOverOutline (Complete _ _ _ _) = Unit {0}
 IsOverOutline (Challenge _ _) = Unit {0}
 IsOverOutline _ = ⊥
 
