@@ -15,7 +15,7 @@ pub struct Filled {
 }
 
 /// The white space with which the line of a byte begins, where the byte is the first of its line.
-fn indent_of(source: &[u8], at: usize) -> Option<&[u8]> {
+pub(crate) fn indent_of(source: &[u8], at: usize) -> Option<&[u8]> {
     let start = line_start(source, at);
     if start == at && start > 0 && source.get(start.saturating_sub(1)).copied() != Some(b'\n') {
         return None;

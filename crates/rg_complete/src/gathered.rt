@@ -516,7 +516,7 @@ impl<'a> Gathering<'a> {
         Ok(())
     }
 
-    /// Adds comparisons of words with the part's index.
+    /// Adds comparisons of words with the part's index: of its own words, of those that are wider than a bit.
     fn add_indexed(&mut self) -> Result<(), AllocError> {
         let Some(family) = &self.family else {
             return Ok(());
@@ -524,6 +524,9 @@ impl<'a> Gathering<'a> {
         let index = family.index.of(self.environments.source);
         let greatest = family.bounds.map_or(0, |bounds| bounds.1);
         for word in self.words.iter().filter(|word| fits(greatest, word.width)) {
+            if word.is_own && word.width == 1 {
+                continue;
+            }
             for sign in COMPARISONS.get(..2).unwrap_or(&[]) {
                 self.atoms.add_joined(&word.text, sign, index, true)?;
             }

@@ -117,6 +117,17 @@ impl Alive {
         }
     }
 
+    /// Takes away all candidates that have a formula.
+    pub(crate) fn leave_out(&mut self, atom: usize, premises: &[usize]) {
+        for (index, row) in self.rows.iter_mut().enumerate() {
+            let premise = index.checked_sub(1).and_then(|place| premises.get(place));
+            if premise.is_some_and(|premise| *premise == atom) {
+                row.words.clear();
+            }
+            row.put(atom, false);
+        }
+    }
+
     /// Takes away what is false where the formulas of these bits are true alone; whether there was such. The premise of each row but the first one is one of
     /// the formulas.
     pub(crate) fn keep_true(&mut self, truth: &Bits, premises: &[usize]) -> bool {

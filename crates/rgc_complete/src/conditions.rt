@@ -124,7 +124,7 @@ fn duties_of(
             given: stand_if(places, obligation.given)?,
             due: stand_if(places, obligation.due)?,
         };
-        if duty.demand != Demand::Other && !is_asked(&duties, duty) {
+        if !is_asked(&duties, duty) {
             duties.push(duty)?;
         }
     }

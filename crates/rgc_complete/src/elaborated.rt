@@ -36,6 +36,8 @@ pub(crate) struct FamilyAtoms {
     pub(crate) premises: Vec<usize>,
     /// Those that speak of words of the part's own alone.
     pub(crate) firm: Bits,
+    /// What each costs.
+    pub(crate) costs: Vec<usize>,
 }
 
 /// All formulas that are tried.
@@ -217,6 +219,24 @@ fn read_formulas(
     Ok(())
 }
 
+/// What a member of a family costs that is named by its number.
+const COST_OF_NUMBER: usize = 15;
+
+/// What a formula costs: its bytes, and more where the part has an index and a word is named by a number.
+fn cost_of(text: &[u8], has_index: bool) -> usize {
+    let mut cost = text.len();
+    let mut is_number = false;
+    for byte in text {
+        match *byte {
+            b'[' => is_number = has_index,
+            b'0'..=b'9' => {}
+            b']' if is_number => cost = cost.saturating_add(COST_OF_NUMBER),
+            _ => is_number = false,
+        }
+    }
+    cost
+}
+
 /// The words that no step changes, as bits.
 fn fixed_words(layout: &Layout) -> u64 {
     let mut bits = 0u64;
@@ -235,11 +255,14 @@ fn family_of(
     instances: &[Instance],
     scope: usize,
     atoms: Atoms,
+    has_index: bool,
 ) -> Result<FamilyAtoms, AllocError> {
+    let mut costs = Vec::new(alloc);
     let mut premises = Vec::new(alloc);
     let mut firm = Bits::new(alloc, atoms.atoms.len(), false)?;
     let first = instances.iter().find(|instance| instance.scope == scope);
     for (place, atom) in atoms.atoms.iter().enumerate() {
+        costs.push(cost_of(atoms.texts.at(place), has_index))?;
         if atom.is_premise && !atom.is_out && premises.len() < MOST_PREMISES {
             premises.push(place)?;
         }
@@ -254,6 +277,7 @@ fn family_of(
         atoms,
         premises,
         firm,
+        costs,
     })
 }
 
@@ -309,7 +333,11 @@ pub(crate) fn tried_of(
     }
     let mut families = Vec::new(alloc);
     for (scope, atoms) in all.into_iter().enumerate() {
-        families.push(family_of(alloc, layout, &instances, scope, atoms)?)?;
+        let part = scopes
+            .get(scope)
+            .and_then(|scope| read.written.parts.get(scope.part));
+        let has_index = part.is_some_and(|part| part.index.is_some());
+        families.push(family_of(alloc, layout, &instances, scope, atoms, has_index)?)?;
     }
     Ok(Tried {
         families,

@@ -9,7 +9,7 @@ use crate::search::{Failure, Search};
 use crate::unfound::unfound_report;
 use rg_complete::{Slot, fill};
 use rg_find::Watcher;
-use rg_outline_reports::{Outlined, read_outline};
+use rg_outline_reports::{Demand, Outlined, read_outline};
 use rg_outline_syntax::Texts;
 use rg_words::Refusal;
 use rgc_answers::Context;
@@ -27,9 +27,9 @@ const MOST_STEPS_OF_THINNING: u64 = 20_000;
 /// What was found.
 #[derive(Drop)]
 pub enum Completed {
-    /// An outline, and how many assertions were added to it.
-    Found(Vec<u8>, usize),
-    /// What is said where none are found.
+    /// An outline, how many assertions were added to it, and how many conjuncts to its invariant.
+    Found(Vec<u8>, usize, usize),
+    /// What is said where none are found; nothing where no assertions would help.
     Unfound(Vec<u8>),
 }
 
@@ -43,7 +43,7 @@ struct Thinning<'s> {
 }
 
 /// All candidates of a family.
-fn candidates_of(alloc: Global, family: &FamilyAtoms) -> Result<Alive, AllocError> {
+pub(crate) fn candidates_of(alloc: Global, family: &FamilyAtoms) -> Result<Alive, AllocError> {
     let mut bits = Bits::new(alloc, family.atoms.atoms.len(), false)?;
     for (place, atom) in family.atoms.atoms.iter().enumerate() {
         bits.put(place, !atom.is_out);
@@ -52,7 +52,7 @@ fn candidates_of(alloc: Global, family: &FamilyAtoms) -> Result<Alive, AllocErro
 }
 
 /// A search in which nothing is refuted yet.
-fn search_of<'a>(
+pub(crate) fn search_of<'a>(
     alloc: Global,
     base: &'a Base,
     tried: &'a Tried,
@@ -67,6 +67,7 @@ fn search_of<'a>(
         is_loose: Vec::new(alloc),
         memories: Vec::new(alloc),
         questions: 0,
+        stuck_at: 0,
     };
     for slot in &base.slots {
         match tried.families.get(slot.scope) {
@@ -181,6 +182,9 @@ fn unfound_of(
     failure: &Failure,
 ) -> Result<Completed, Refusal> {
     let mut report = Vec::new(alloc);
+    if failure.duty.demand == Demand::Other {
+        return Ok(Completed::Unfound(report));
+    }
     let runs = runs_only(alloc, outlined, Some(MOST_STEPS_OF_RUNS))?;
     if runs.is_broken {
         report.extend_from_slice(&runs.reported)?;
@@ -225,5 +229,5 @@ pub fn complete<R: Threads + Wait + Sync, P: Watcher + Copy + Sync>(
     if !thinned(context, &mut thinning)? {
         return Ok(unfound);
     }
-    Ok(Completed::Found(thinning.outline(alloc)?, thinning.count()))
+    Ok(Completed::Found(thinning.outline(alloc)?, thinning.count(), 0))
 }

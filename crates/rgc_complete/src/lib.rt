@@ -7,6 +7,7 @@ mod conditions;
 mod elaborated;
 mod evaluate;
 mod found;
+mod invariant;
 mod memory;
 mod prints;
 mod reached;
@@ -17,3 +18,4 @@ mod unfound;
 mod written;
 
 pub use found::{Completed, complete};
+pub use invariant::complete_with_invariant;

@@ -15,6 +15,7 @@ const MOST: usize = 300;
 #[derive(Drop)]
 pub(crate) struct Met {
     pub(crate) state: Vec<u64>,
+    pub(crate) next: Vec<u64>,
     /// Which formulas are true there, of each source.
     pub(crate) given: Vec<Bits>,
     /// Which formulas are true in the next state, of the part.
@@ -176,6 +177,7 @@ impl Looked<'_> {
         }
         Ok(Met {
             state: Vec::from_slice(self.alloc, moment.before)?,
+            next: Vec::from_slice(self.alloc, moment.after)?,
             given,
             due: self.tried.truth(self.alloc, self.due, moment.after)?,
             is_broken: is_broken(self.condition, moment),

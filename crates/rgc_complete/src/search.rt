@@ -25,8 +25,9 @@ const COST_OF_OTHERS: usize = 14;
 #[derive(Drop)]
 pub(crate) struct Failure {
     pub(crate) duty: Duty,
-    /// A state in which it fails, where one is known.
+    /// A state in which it fails, where one is known, and that after it.
     pub(crate) state: Vec<u64>,
+    pub(crate) next: Vec<u64>,
 }
 
 /// A search.
@@ -45,6 +46,8 @@ pub(crate) struct Search<'a> {
     /// What is remembered of each condition.
     pub(crate) memories: Vec<Memory>,
     pub(crate) questions: usize,
+    /// Which of the states of a condition no candidate makes impossible.
+    pub(crate) stuck_at: usize,
 }
 
 /// How it goes on after a question.
@@ -60,10 +63,10 @@ enum Step {
 
 /// A candidate of a place that was chosen, and what it costs.
 #[derive(Clone, Copy)]
-struct Chosen {
-    place: usize,
-    candidate: Candidate,
-    cost: usize,
+pub(crate) struct Chosen {
+    pub(crate) place: usize,
+    pub(crate) candidate: Candidate,
+    pub(crate) cost: usize,
 }
 
 /// Whether an assertion stands at a place.
@@ -125,11 +128,15 @@ impl Conjuncts {
     }
 }
 
+/// What a formula costs.
+fn cost_of_atom(family: &FamilyAtoms, atom: usize) -> usize {
+    family.costs.get(atom).copied().unwrap_or(0)
+}
+
 /// What a candidate costs.
 pub(crate) fn cost_of(family: &FamilyAtoms, candidate: Candidate) -> usize {
-    let own = family.atoms.texts.at(candidate.atom).len();
     let mut is_firm = family.firm.has(candidate.atom);
-    let mut cost = own;
+    let mut cost = cost_of_atom(family, candidate.atom);
     let premise = candidate
         .row
         .checked_sub(1)
@@ -137,7 +144,7 @@ pub(crate) fn cost_of(family: &FamilyAtoms, candidate: Candidate) -> usize {
     if let Some(premise) = premise {
         is_firm &= family.firm.has(premise);
         cost = cost
-            .saturating_add(family.atoms.texts.at(premise).len())
+            .saturating_add(cost_of_atom(family, premise))
             .saturating_add(COST_OF_PREMISE);
     }
     if is_firm {
@@ -148,7 +155,12 @@ pub(crate) fn cost_of(family: &FamilyAtoms, candidate: Candidate) -> usize {
 }
 
 /// The cheapest candidate of a place that is false where these formulas are true alone.
-fn cheapest(alive: &Alive, family: &FamilyAtoms, truth: &Bits, place: usize) -> Option<Chosen> {
+pub(crate) fn cheapest(
+    alive: &Alive,
+    family: &FamilyAtoms,
+    truth: &Bits,
+    place: usize,
+) -> Option<Chosen> {
     let mut best: Option<Chosen> = None;
     for row in 0..alive.len() {
         let premise = row
@@ -353,7 +365,10 @@ impl<'a> Search<'a> {
     ) -> Result<Step, AllocError> {
         match self.choose(index, met) {
             Some(chosen) => self.need(chosen)?,
-            None if is_alone => return Ok(Step::Stuck),
+            None if is_alone => {
+                self.stuck_at = met;
+                return Ok(Step::Stuck);
+            }
             None => self.refute(index, duty, met),
         }
         Ok(Step::Again)
@@ -471,16 +486,19 @@ impl<'a> Search<'a> {
         Ok(false)
     }
 
-    /// The last state of a condition.
-    fn last_state(&self, index: usize) -> Result<Vec<u64>, AllocError> {
-        match self
-            .memories
-            .get(index)
-            .and_then(|memory| memory.met.last())
-        {
-            Some(met) => Vec::from_slice(self.alloc, &met.state),
-            None => Ok(Vec::new(self.alloc)),
+    /// A condition that fails, and the states at which it does.
+    fn failure(&self, index: usize, duty: Duty) -> Result<Failure, AllocError> {
+        let mut failure = Failure {
+            duty,
+            state: Vec::new(self.alloc),
+            next: Vec::new(self.alloc),
+        };
+        let memory = self.memories.get(index);
+        if let Some(met) = memory.and_then(|memory| memory.met.get(self.stuck_at)) {
+            failure.state = Vec::from_slice(self.alloc, &met.state)?;
+            failure.next = Vec::from_slice(self.alloc, &met.next)?;
         }
+        Ok(failure)
     }
 
     /// The next condition that is to be asked, and whether for what it asks by itself, too.
@@ -506,8 +524,7 @@ impl<'a> Search<'a> {
             };
             let holds_alone = !is_loose || self.holds(index, duty, true)?;
             if !holds_alone || !self.holds(index, duty, false)? {
-                let state = self.last_state(index)?;
-                return Ok(Some(Failure { duty, state }));
+                return Ok(Some(self.failure(index, duty)?));
             }
         }
         Ok(None)

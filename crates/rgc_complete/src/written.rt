@@ -55,7 +55,7 @@ fn push_candidate(
 }
 
 /// Candidates as an assertion.
-fn assertion(
+pub(crate) fn assertion(
     alloc: Global,
     family: &FamilyAtoms,
     needed: &[Candidate],

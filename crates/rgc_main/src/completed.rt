@@ -7,7 +7,7 @@ use rg_find::Unwatched;
 use rg_outline_reports::{OutlineSource, Outlined, read_outline};
 use rg_words::{Refusal, RefusalNumber};
 use rgc_commands::{Context, Expanded, Files, Sides};
-use rgc_complete::{Completed, complete};
+use rgc_complete::{Completed, complete, complete_with_invariant};
 use rgc_line::{Command, Format, Line, Outlines};
 use std::alloc::AllocError;
 use std::sync::Wait;
@@ -56,21 +56,36 @@ pub fn verifying<'a>(line: &Line<'a>) -> Line<'a> {
     }
 }
 
-/// What is said of how many assertions were found.
-fn count_line(rt: &HostRuntime, line: &Line<'_>, count: usize) -> Result<String, AllocError> {
-    match line.settings.format {
-        Format::Plain if count == 1 => String::from_str(rt.alloc(), "1 assertion was found\n"),
-        Format::Plain => format!(in rt.alloc(); "{count} assertions were found\n"),
-        Format::Json => format!(in rt.alloc(); "{{\"found\":{count},\"kind\":\"completed\"}}\n"),
+/// What is said of how many assertions, and conjuncts of the invariant, were found.
+fn count_line(rt: &HostRuntime, line: &Line<'_>, found: Found<'_>) -> Result<String, AllocError> {
+    let alloc = rt.alloc();
+    let (count, conjuncts) = (found.count, found.conjuncts);
+    if line.settings.format == Format::Json {
+        return format!(in alloc;
+            "{{\"conjuncts\":{conjuncts},\"found\":{count},\"kind\":\"completed\"}}\n"
+        );
     }
+    let mut said = match count {
+        1 => String::from_str(alloc, "1 assertion was found\n")?,
+        _ => format!(in alloc; "{count} assertions were found\n")?,
+    };
+    match conjuncts {
+        0 => {}
+        1 => said.push_str("1 conjunct of the invariant was found: read what it says\n")?,
+        _ => said.push_str(&format!(in alloc;
+            "{conjuncts} conjuncts of the invariant were found: read what they say\n"
+        )?)?,
+    }
+    Ok(said)
 }
 
 /// An outline that was found.
 #[derive(Clone, Copy)]
 struct Found<'s> {
     source: &'s [u8],
-    /// How many assertions were added.
+    /// How many assertions were added, and how many conjuncts to the invariant.
     count: usize,
+    conjuncts: usize,
 }
 
 /// Prints an outline that was verified, or puts it into its file, with what is said of it; the status.
@@ -81,7 +96,7 @@ fn delivered<R: Threads + Wait + Sync>(
     verdict: &[u8],
 ) -> Result<u8, AllocError> {
     let (rt, format) = (means.rt, line.settings.format);
-    let said = count_line(rt, line, found.count)?;
+    let said = count_line(rt, line, found)?;
     match line.command {
         Command::Complete {
             outline,
@@ -154,13 +169,8 @@ fn done_over_found<'a, R: Threads + Wait + Sync>(
     }
     let status = done_with(means, line, files, expanded)?;
     if status == 0 {
-        let said = count_line(means.rt, line, found.count)?;
-        return Ok(shown(
-            means.rt,
-            line.settings.format,
-            said.as_bytes(),
-            status,
-        ));
+        let said = count_line(means.rt, line, found)?;
+        return Ok(shown(means.rt, line.settings.format, said.as_bytes(), status));
     }
     Ok(status)
 }
@@ -201,31 +211,50 @@ fn refused(rt: &HostRuntime, refusal: Refusal) -> Result<u8, AllocError> {
     Ok(1)
 }
 
-/// Searches for the assertions that an outline lacks, and does the command over the outline with them; the status.
-pub fn done_completed<R: Threads + Wait + Sync>(
+/// Searches for what an outline lacks.
+fn searched<R: Threads + Wait + Sync>(
     means: &Means<'_, '_, '_, R>,
     line: &Line<'_>,
-    files: Files<'_>,
     outlined: &Outlined<'_>,
-) -> Result<u8, AllocError> {
+) -> Result<Completed, Refusal> {
     let context = Context {
         rt: means.threads,
         alloc: means.rt.alloc(),
         threads: means.most,
         watcher: &Unwatched,
     };
-    match complete(&context, outlined, steps_of(line)) {
-        Ok(Completed::Found(source, count)) => {
+    match line.command {
+        Command::Complete {
+            finds_invariant: true,
+            ..
+        } => complete_with_invariant(&context, outlined, steps_of(line)),
+        _ => complete(&context, outlined, steps_of(line)),
+    }
+}
+
+/// Searches for the assertions that an outline lacks, and does the command over the outline with them; the status. Nothing where the outline is to be
+/// verified as it stands, since no assertions would help.
+pub fn done_completed<R: Threads + Wait + Sync>(
+    means: &Means<'_, '_, '_, R>,
+    line: &Line<'_>,
+    files: Files<'_>,
+    outlined: &Outlined<'_>,
+) -> Result<Option<u8>, AllocError> {
+    match searched(means, line, outlined) {
+        Ok(Completed::Found(source, count, conjuncts)) => {
             let found = Found {
                 source: &source,
                 count,
+                conjuncts,
             };
-            done_again(means, line, files, outlined.outline, found)
+            let status = done_again(means, line, files, outlined.outline, found)?;
+            Ok(Some(status))
         }
+        Ok(Completed::Unfound(report)) if report.is_empty() => Ok(None),
         Ok(Completed::Unfound(report)) => {
             reported(means.rt, &report);
-            Ok(1)
+            Ok(Some(1))
         }
-        Err(refusal) => refused(means.rt, refusal),
+        Err(refusal) => Ok(Some(refused(means.rt, refusal)?)),
     }
 }

@@ -486,8 +486,10 @@ fn done_over<'a, R: Threads + Wait + Sync>(
     match read_outline(alloc, outline) {
         Ok(read) => {
             let expanded = Outlined::of(alloc, outline, &read);
-            if let (true, Ok(outlined)) = (completes(line), &expanded) {
-                return done_completed(means, line, files, outlined);
+            if let (true, Ok(outlined)) = (completes(line), &expanded)
+                && let Some(status) = done_completed(means, line, files, outlined)?
+            {
+                return Ok(status);
             }
             done_with(means, &asked, files, &expanded)
         }

@@ -1,0 +1,92 @@
+//! Conjuncts that are added to the invariant of an outline.
+
+use crate::equations::has_word;
+use crate::filled::indent_of;
+use rg_outline_syntax::{HeadKind, Span, Texts, Written};
+use std::alloc::{AllocError, Global};
+
+/// Whether a formula of a part has a name that stands in this part alone.
+pub fn has_own_name(source: &[u8], written: &Written, part: usize, formula: &[u8]) -> bool {
+    let heads = written.parts.get(part).map(|part| part.heads);
+    heads.is_some_and(|heads| {
+        written.heads(heads).iter().any(|head| match head.kind {
+            HeadKind::Let(named) => has_word(formula, named.name.of(source)),
+            _ => false,
+        })
+    })
+}
+
+/// A formula of a part, said of each member of its family.
+///
+/// # Errors
+///
+/// Only where memory is refused.
+pub fn said_of_all(
+    alloc: Global,
+    source: &[u8],
+    written: &Written,
+    part: usize,
+    formula: &[u8],
+) -> Result<Vec<u8>, AllocError> {
+    let mut text = Vec::new(alloc);
+    let index = written.parts.get(part).and_then(|part| part.index);
+    if let Some((index, range)) = index {
+        let range = written
+            .ranges
+            .get(range)
+            .map_or(Span::NOWHERE, |range| range.span);
+        text.extend_from_slice(b"all ")?;
+        text.extend_from_slice(index.of(source))?;
+        text.extend_from_slice(b" in ")?;
+        text.extend_from_slice(range.of(source))?;
+        text.extend_from_slice(b": ")?;
+    }
+    text.extend_from_slice(formula)?;
+    Ok(text)
+}
+
+/// The byte before which conjuncts are added: the first clause after all names, or the end of these.
+fn place_of(written: &Written) -> Option<usize> {
+    let mut clause = None;
+    let mut end = None;
+    for head in written.heads(written.following_words) {
+        end = Some(head.span.end);
+        match head.kind {
+            HeadKind::Clause(..) => clause = clause.or(Some(head.span.start)),
+            _ => clause = None,
+        }
+    }
+    clause.or(end)
+}
+
+/// The outline with these conjuncts added to its invariant.
+///
+/// # Errors
+///
+/// Only where memory is refused.
+pub fn with_conjuncts(
+    alloc: Global,
+    source: &[u8],
+    written: &Written,
+    conjuncts: &Texts,
+) -> Result<Vec<u8>, AllocError> {
+    let place = place_of(written).unwrap_or(0);
+    let mut made = Vec::from_slice(alloc, source.get(..place).unwrap_or(&[]))?;
+    for index in 0..conjuncts.len() {
+        match indent_of(source, place) {
+            Some(indent) => {
+                made.extend_from_slice(b"invariant ")?;
+                made.extend_from_slice(conjuncts.at(index))?;
+                made.push(b'\n')?;
+                made.extend_from_slice(indent)?;
+            }
+            None => {
+                made.extend_from_slice(b" invariant ")?;
+                made.extend_from_slice(conjuncts.at(index))?;
+                made.push(b' ')?;
+            }
+        }
+    }
+    made.extend_from_slice(source.get(place..).unwrap_or(&[]))?;
+    Ok(made)
+}

@@ -1,0 +1,291 @@
+//! The search for conjuncts of the invariant that an outline lacks.
+
+use crate::alive::{Alive, Bits, Candidate};
+use crate::conditions::{Base, conditions_of, nameless, unless_refused};
+use crate::elaborated::{FamilyAtoms, Tried, tried_of};
+use crate::found::{Completed, candidates_of, complete, search_of};
+use crate::reached::refute_reached;
+use crate::search::{Chosen, Failure, cheapest};
+use crate::written::assertion;
+use rg_complete::{has_own_name, said_of_all, with_conjuncts};
+use rg_find::Watcher;
+use rg_outline_reports::{OutlineSource, Outlined, ReadOutline, read_outline};
+use rg_outline_syntax::Texts;
+use rg_words::Refusal;
+use rgc_answers::Context;
+use std::alloc::{AllocError, Global};
+use std::sync::Wait;
+use std::thread::Threads;
+
+/// The most searches for assertions.
+const MOST_TRIES: usize = 200;
+
+/// A conjunct: a candidate of the scope of a part.
+#[derive(Clone, Copy, PartialEq, Eq)]
+struct Conjunct {
+    scope: usize,
+    candidate: Candidate,
+}
+
+/// What a search for assertions came to.
+#[derive(Drop)]
+enum Attempt {
+    Holds,
+    Fails(Failure),
+    /// The outline can't be worked out.
+    Refused,
+}
+
+/// An outline, and the conjuncts that are added to its invariant.
+#[derive(Drop)]
+struct Strengthening<'a> {
+    alloc: Global,
+    source: &'a [u8],
+    read: &'a ReadOutline,
+    base: &'a Base,
+    tried: &'a Tried,
+    /// What isn't refuted, of each scope.
+    alive: Vec<Alive>,
+    chosen: Vec<Conjunct>,
+}
+
+/// Searches for the assertions of an outline.
+fn attempt(alloc: Global, source: &[u8]) -> Result<Attempt, Refusal> {
+    let outline = nameless(source);
+    let Some(read) = unless_refused(read_outline(alloc, outline))? else {
+        return Ok(Attempt::Refused);
+    };
+    let Some(mut base) = conditions_of(alloc, source, &read)? else {
+        return Ok(Attempt::Refused);
+    };
+    let Some(first) = base.conditions.first() else {
+        return Ok(Attempt::Refused);
+    };
+    let tried = tried_of(alloc, source, &read, &first.layout, &base)?;
+    base.locate(alloc, &tried)?;
+    let mut search = search_of(alloc, &base, &tried)?;
+    refute_reached(alloc, &base, &tried, &mut search.alive)?;
+    match search.settle_all()? {
+        Some(failure) => Ok(Attempt::Fails(failure)),
+        None => Ok(Attempt::Holds),
+    }
+}
+
+/// The candidates of a scope of which a conjunct may be made.
+fn candidates_for(
+    alloc: Global,
+    source: &[u8],
+    read: &ReadOutline,
+    part: usize,
+    family: &FamilyAtoms,
+) -> Result<Alive, AllocError> {
+    let mut alive = candidates_of(alloc, family)?;
+    for (atom, _) in family.atoms.atoms.iter().enumerate() {
+        if has_own_name(source, &read.written, part, family.atoms.texts.at(atom)) {
+            alive.leave_out(atom, &family.premises);
+        }
+    }
+    Ok(alive)
+}
+
+impl Strengthening<'_> {
+    /// Takes the candidates of each part, but for those that are false in a state that was met.
+    fn begin(&mut self, met: &[Vec<Bits>]) -> Result<(), AllocError> {
+        for (scope, family) in self.base.scopes.iter().zip(&self.tried.families) {
+            let is_whole = scope.round.is_none();
+            self.alive.push(if is_whole {
+                candidates_for(self.alloc, self.source, self.read, scope.part, family)?
+            } else {
+                Alive::new(self.alloc, 0, &Bits::new(self.alloc, 0, false)?)?
+            })?;
+        }
+        for truths in met {
+            self.keep_true(truths);
+        }
+        Ok(())
+    }
+
+    /// Takes away what is false in a state.
+    fn keep_true(&mut self, truths: &[Bits]) {
+        for (place, (instance, truth)) in self.tried.instances.iter().zip(truths).enumerate() {
+            if let Some(alive) = self.alive.get_mut(instance.scope) {
+                alive.keep_true(truth, self.tried.premises_of(place));
+            }
+        }
+    }
+
+    /// The outline with the conjuncts.
+    fn outline(&self) -> Result<Vec<u8>, AllocError> {
+        let alloc = self.alloc;
+        let mut texts = Texts::new(alloc);
+        for conjunct in &self.chosen {
+            if let (Some(family), Some(scope)) = (
+                self.tried.families.get(conjunct.scope),
+                self.base.scopes.get(conjunct.scope),
+            ) {
+                let formula = assertion(alloc, family, &[conjunct.candidate])?;
+                let written = &self.read.written;
+                let text = said_of_all(alloc, self.source, written, scope.part, &formula)?;
+                texts.push(&text)?;
+            }
+        }
+        with_conjuncts(alloc, self.source, &self.read.written, &texts)
+    }
+
+    /// The cheapest candidate that is false in a state.
+    fn choose(&self, state: &[u64]) -> Result<Option<Conjunct>, AllocError> {
+        let mut best: Option<Chosen> = None;
+        for instance in &self.tried.instances {
+            if let (Some(alive), Some(family)) = (
+                self.alive.get(instance.scope),
+                self.tried.families.get(instance.scope),
+            ) {
+                let truth = instance.truth(self.alloc, state)?;
+                if let Some(chosen) = cheapest(alive, family, &truth, instance.scope)
+                    && best.is_none_or(|best| chosen.cost < best.cost)
+                {
+                    best = Some(chosen);
+                }
+            }
+        }
+        Ok(best.map(|chosen| Conjunct {
+            scope: chosen.place,
+            candidate: chosen.candidate,
+        }))
+    }
+
+    /// Lets go of the conjuncts that are false in a state; whether there are such.
+    fn drop_false(&mut self, state: &[u64]) -> Result<bool, AllocError> {
+        let mut truths = Vec::new(self.alloc);
+        for instance in &self.tried.instances {
+            truths.push(instance.truth(self.alloc, state)?)?;
+        }
+        self.keep_true(&truths);
+        let count = self.chosen.len();
+        let mut kept = Vec::new(self.alloc);
+        for conjunct in &self.chosen {
+            let alive = self.alive.get(conjunct.scope);
+            if alive.is_some_and(|alive| alive.has(conjunct.candidate)) {
+                kept.push(*conjunct)?;
+            }
+        }
+        self.chosen = kept;
+        Ok(self.chosen.len() < count)
+    }
+
+    /// Lets go of the last conjunct for good; whether there is one.
+    fn drop_last(&mut self) -> bool {
+        let Some(last) = self.chosen.pop() else {
+            return false;
+        };
+        if let Some(alive) = self.alive.get_mut(last.scope) {
+            alive.put(last.candidate, false);
+        }
+        true
+    }
+
+    /// Goes on after a condition that no assertion makes hold: with a conjunct more, or with fewer; whether it can.
+    fn go_on(&mut self, failure: &Failure) -> Result<bool, AllocError> {
+        match self.choose(&failure.state)? {
+            Some(conjunct) if !self.chosen.contains(&conjunct) => {
+                self.chosen.push(conjunct)?;
+                Ok(true)
+            }
+            _ => self.drop_false(&failure.next),
+        }
+    }
+
+    /// Adds conjuncts until assertions make all conditions hold; whether they do.
+    fn strengthen(&mut self) -> Result<bool, Refusal> {
+        for _ in 0..MOST_TRIES {
+            let source = self.outline()?;
+            let goes_on = match attempt(self.alloc, &source)? {
+                Attempt::Holds => return Ok(true),
+                Attempt::Fails(failure) => self.go_on(&failure)?,
+                Attempt::Refused => self.drop_last(),
+            };
+            if !goes_on {
+                return Ok(false);
+            }
+        }
+        Ok(false)
+    }
+
+    /// Leaves out each conjunct without which assertions make all conditions hold, the last first.
+    fn thin(&mut self) -> Result<(), Refusal> {
+        let all = Vec::from_slice(self.alloc, &self.chosen)?;
+        for conjunct in all.iter().rev() {
+            let before = Vec::from_slice(self.alloc, &self.chosen)?;
+            self.chosen.retain(|one: &Conjunct| *one != *conjunct);
+            let source = self.outline()?;
+            if !matches!(attempt(self.alloc, &source)?, Attempt::Holds) {
+                self.chosen = before;
+            }
+        }
+        Ok(())
+    }
+}
+
+/// The outline with conjuncts of its invariant, and how many; nothing where none make all conditions hold.
+fn strengthened(
+    alloc: Global,
+    outlined: &Outlined<'_>,
+) -> Result<Option<(Vec<u8>, usize)>, Refusal> {
+    let source = outlined.outline.source;
+    let Some(mut base) = conditions_of(alloc, source, outlined.read)? else {
+        return Ok(None);
+    };
+    let Some(first) = base.conditions.first() else {
+        return Ok(None);
+    };
+    let tried = tried_of(alloc, source, outlined.read, &first.layout, &base)?;
+    base.locate(alloc, &tried)?;
+    let mut search = search_of(alloc, &base, &tried)?;
+    let met = refute_reached(alloc, &base, &tried, &mut search.alive)?;
+    let mut strengthening = Strengthening {
+        alloc,
+        source,
+        read: outlined.read,
+        base: &base,
+        tried: &tried,
+        alive: Vec::new(alloc),
+        chosen: Vec::new(alloc),
+    };
+    strengthening.begin(&met)?;
+    if !strengthening.strengthen()? {
+        return Ok(None);
+    }
+    strengthening.thin()?;
+    let count = strengthening.chosen.len();
+    Ok(Some((strengthening.outline()?, count)))
+}
+
+/// Searches for conjuncts of the invariant and for assertions that an outline lacks. Where none are found, what is reported is so of the outline as it stands.
+///
+/// # Errors
+///
+/// Where memory is refused, or where more decisions are asked than a search may make.
+pub fn complete_with_invariant<R: Threads + Wait + Sync, P: Watcher + Copy + Sync>(
+    context: &Context<'_, R, P>,
+    outlined: &Outlined<'_>,
+    steps: u64,
+) -> Result<Completed, Refusal> {
+    let alloc = context.alloc;
+    let Some((source, count)) = strengthened(alloc, outlined)? else {
+        return complete(context, outlined, steps);
+    };
+    let outline = OutlineSource {
+        source: &source,
+        ..outlined.outline
+    };
+    let Some(read) = unless_refused(read_outline(alloc, outline))? else {
+        return complete(context, outlined, steps);
+    };
+    let Some(made) = unless_refused(Outlined::of(alloc, outline, &read))? else {
+        return complete(context, outlined, steps);
+    };
+    match complete(context, &made, steps)? {
+        Completed::Found(source, assertions, _) => Ok(Completed::Found(source, assertions, count)),
+        Completed::Unfound(_) => complete(context, outlined, steps),
+    }
+}
