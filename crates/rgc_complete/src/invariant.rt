@@ -50,7 +50,7 @@ struct Strengthening<'a> {
 }
 
 /// Searches for the assertions of an outline.
-fn attempt(alloc: Global, source: &[u8]) -> Result<Attempt, Refusal> {
+fn attempted(alloc: Global, source: &[u8]) -> Result<Attempt, Refusal> {
     let outline = nameless(source);
     let Some(read) = unless_refused(read_outline(alloc, outline))? else {
         return Ok(Attempt::Refused);
@@ -199,7 +199,7 @@ impl Strengthening<'_> {
     fn strengthen(&mut self) -> Result<bool, Refusal> {
         for _ in 0..MOST_TRIES {
             let source = self.outline()?;
-            let goes_on = match attempt(self.alloc, &source)? {
+            let goes_on = match attempted(self.alloc, &source)? {
                 Attempt::Holds => return Ok(true),
                 Attempt::Fails(failure) => self.go_on(&failure)?,
                 Attempt::Refused => self.drop_last(),
@@ -218,7 +218,7 @@ impl Strengthening<'_> {
             let before = Vec::from_slice(self.alloc, &self.chosen)?;
             self.chosen.retain(|one: &Conjunct| *one != *conjunct);
             let source = self.outline()?;
-            if !matches!(attempt(self.alloc, &source)?, Attempt::Holds) {
+            if !matches!(attempted(self.alloc, &source)?, Attempt::Holds) {
                 self.chosen = before;
             }
         }
