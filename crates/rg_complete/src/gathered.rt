@@ -2,7 +2,7 @@
 
 use crate::atoms::{Atom, Atoms};
 use crate::brackets::{Bracket, body_of, brackets_of};
-use crate::equations::{Step, add_equations, add_preconditions, has_word};
+use crate::equations::{Step, add_equations, add_preconditions, has_word, replaced};
 use crate::numbers::{bounds_of, size_of};
 use crate::slots::Scope;
 use crate::substituted::Environments;
@@ -154,7 +154,7 @@ impl<'a> Gathering<'a> {
             return Ok(());
         }
         let own = match comparison {
-            Comparison::Equal => 0..2,
+            Comparison::Equal => 0..3,
             Comparison::NotEqual => 0..2,
             _ if job.is_premise => 0..6,
             Comparison::LessOrEqual => 2..3,
@@ -534,6 +534,35 @@ impl<'a> Gathering<'a> {
         Ok(())
     }
 
+    /// Adds that words of all other parts are 0, where there are three parts or more.
+    fn add_others(&mut self) -> Result<(), AllocError> {
+        let source = self.environments.source;
+        let Some(family) = self.family.as_ref().filter(|family| family.other.is_none()) else {
+            return Ok(());
+        };
+        let index = family.index.of(source);
+        let name: &[u8] = if index == b"j" { b"k" } else { b"j" };
+        let range = self.written.ranges.get(family.range);
+        let range = range.map_or(Span::NOWHERE, |range| range.span);
+        for word in self.words.iter().filter(|word| word.is_own) {
+            let mut text = Vec::from_slice(self.alloc, b"all ")?;
+            text.extend_from_slice(name)?;
+            text.extend_from_slice(b" in ")?;
+            text.extend_from_slice(range.of(source))?;
+            text.extend_from_slice(b" but ")?;
+            text.extend_from_slice(index)?;
+            text.extend_from_slice(b": ")?;
+            text.extend_from_slice(&replaced(self.alloc, &word.text, index, name)?)?;
+            text.extend_from_slice(b" = 0")?;
+            let atom = Atom {
+                is_loose: true,
+                ..Atom::tight(false)
+            };
+            self.atoms.add(&text, atom)?;
+        }
+        Ok(())
+    }
+
     /// Adds that a word of the part's own is what steps, the same ones in each round of a `for`, may have made it.
     fn add_counted(&mut self) -> Result<(), AllocError> {
         for round in &self.rounds {
@@ -667,6 +696,7 @@ impl<'a> Gathering<'a> {
         self.look_at_all()?;
         self.add_numbered()?;
         self.add_indexed()?;
+        self.add_others()?;
         self.add_counted()?;
         self.add_steps(body)?;
         self.add_pairs()

@@ -20,6 +20,7 @@ pub(crate) struct PartWord {
 #[derive(Drop)]
 pub(crate) struct Family {
     pub(crate) index: Span,
+    pub(crate) range: usize,
     pub(crate) bounds: Option<(i64, i64)>,
     /// The index of the other part, where there are two.
     pub(crate) other: Option<Vec<u8>>,
@@ -48,6 +49,7 @@ pub(crate) fn family_of(
     }
     Ok(Some(Family {
         index,
+        range,
         bounds,
         other,
     }))
