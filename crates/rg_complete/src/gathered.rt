@@ -541,7 +541,7 @@ impl<'a> Gathering<'a> {
             return Ok(());
         };
         let index = family.index.of(source);
-        let name: &[u8] = if index == b"j" { b"k" } else { b"j" };
+        let name: &[u8] = if index == b"j".as_slice() { b"k" } else { b"j" };
         let range = self.written.ranges.get(family.range);
         let range = range.map_or(Span::NOWHERE, |range| range.span);
         for word in self.words.iter().filter(|word| word.is_own) {

@@ -16,7 +16,7 @@ pub fn has_own_name(source: &[u8], written: &Written, part: usize, formula: &[u8
     })
 }
 
-/// A formula of a part, said of each member of its family.
+/// A formula of a part, said of each member of its family where it speaks of the index.
 ///
 /// # Errors
 ///
@@ -30,7 +30,9 @@ pub fn said_of_all(
 ) -> Result<Vec<u8>, AllocError> {
     let mut text = Vec::new(alloc);
     let index = written.parts.get(part).and_then(|part| part.index);
-    if let Some((index, range)) = index {
+    if let Some((index, range)) = index
+        && has_word(formula, index.of(source))
+    {
         let range = written
             .ranges
             .get(range)
