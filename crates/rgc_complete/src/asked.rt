@@ -15,7 +15,7 @@ use rg_tree::copy::copy_formula;
 use rg_tree::rule_conditions::copy_assigns;
 use rg_tree::tree::Formula;
 use rg_tree::typing::typed_trees_fit;
-use rg_words::{RefusalNumber, SourceFile, State};
+use rg_words::{Refusal, RefusalNumber, SourceFile, State};
 use std::alloc::{AllocError, Global};
 
 /// The most decisions of a search.
@@ -155,9 +155,16 @@ fn outcome_of(alloc: Global, condition: &Condition) -> Result<Outcome, AllocErro
     let file = SourceFile::Derivation;
     match judge(alloc, condition, file, 1, MOST_STEPS, &mut own) {
         Ok(judged) => said(alloc, condition, judged),
-        Err(refusal) if refusal.number == RefusalNumber::Memory => Err(AllocError),
-        Err(_) => Ok(Outcome::Unknown),
+        Err(refusal) => unknown(refusal),
     }
+}
+
+/// That a text can't be read says nothing of a condition, unless memory was refused.
+fn unknown(refusal: Refusal) -> Result<Outcome, AllocError> {
+    if refusal.number == RefusalNumber::Memory {
+        return Err(AllocError);
+    }
+    Ok(Outcome::Unknown)
 }
 
 /// What a search says of a condition with what this text gives as a hypothesis more; and with what the other says as its goal, if there is one.
@@ -167,15 +174,17 @@ pub(crate) fn ask(
     given: &[u8],
     goal: Option<&[u8]>,
 ) -> Result<Outcome, AllocError> {
-    let Ok(given) = formula(alloc, &base.layout, given) else {
-        return Ok(Outcome::Unknown);
+    let given = match formula(alloc, &base.layout, given) {
+        Ok(given) => given,
+        Err(refusal) => return unknown(refusal),
     };
     let Some(goal) = goal else {
         let condition = with_given(alloc, base, &given)?;
         return outcome_of(alloc, &condition);
     };
-    let Ok(goal) = formula(alloc, &base.layout, goal) else {
-        return Ok(Outcome::Unknown);
+    let goal = match formula(alloc, &base.layout, goal) {
+        Ok(goal) => goal,
+        Err(refusal) => return unknown(refusal),
     };
     let condition = with_goal(alloc, base, &given, &goal)?;
     outcome_of(alloc, &condition)

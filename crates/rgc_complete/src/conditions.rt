@@ -8,7 +8,7 @@ use rg_outline_reports::{
 };
 use rg_outline_syntax::{Span, Texts};
 use rg_tree::condition::Condition;
-use rg_words::Refusal;
+use rg_words::{Refusal, RefusalNumber};
 use rgc_outlines::derive_outline;
 use std::alloc::{AllocError, Global};
 
@@ -140,6 +140,7 @@ fn base_of(
 ) -> Result<Option<Base>, Refusal> {
     let derived = match derive_outline(alloc, &outlined.files) {
         Ok(derived) => derived,
+        Err(refusal) if refusal.number == RefusalNumber::Memory => return Err(refusal),
         Err(_) => return Ok(None),
     };
     let conditions = derived.conditions(alloc)?;
