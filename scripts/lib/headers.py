@@ -61,7 +61,7 @@ def declared(text, name):
     demand(found, f"there is no struct {name}")
     others = dict(re.findall(r"^ +/\* (\w+\[\d+\]): (.*?) \*/$", found[1], re.M))
     members = []
-    for it, array, count, comment in re.findall(r"^ +([^/*\n][^;\n]*?)\b(\w+)(?:\[(\d+)\])?;(?: */\*(.*?)\*/)?", found[1], re.M | re.S):
+    for it, array, count, comment in re.findall(r"^ +([^/*\s][^;\n]*?)\b(\w+)(?:\[(\d+)\])?;(?: */\*(.*?)\*/)?", found[1], re.M | re.S):
         for member in [f"{array}[{item}]" for item in range(int(count))] if count else [array]:
             note = others.pop(member, comment)
             kind = "const" if it.startswith("const ") else "plain" if "RGC_ATOMIC(" not in it else "world" if "outside" in note else "atomic"
