@@ -1,6 +1,6 @@
 /* Parts alone, as a compiler makes them of the header without marks, and with what it says of waiting where the device says nothing. Each line of
  * the input is `PART MILLISECONDS VALUES..`: the words get these values, and the part runs in a process of its own for so long at most, of the
- * processor's time. A line is printed for each: `ended`, `goes on`, or the signal that stopped it, and the words. */
+ * processor's time, and to the end of the section in which it then is. A line is printed for each: `ended`, `goes on`, or the signal that stopped it, and the words. */
 #include <signal.h>
 #include <stdbool.h>
 #include <stdint.h>
@@ -9,13 +9,35 @@
 #include <sys/wait.h>
 #include <unistd.h>
 
-#define RGC_ENTER(w) __asm volatile("" : : : "memory")
-#define RGC_LEAVE(w) __asm volatile("" : : : "memory")
+/* Whether the part is inside a section, where nobody looks at the words, and whether its time is over. */
+static volatile sig_atomic_t inside, over;
+
+static void stop(int number)
+{
+    if (inside) {
+        over = 1;
+    } else {
+        signal(number, SIG_DFL);
+        raise(number);
+    }
+}
+
+static void leave(void)
+{
+    inside = 0;
+    if (over) {
+        stop(SIGVTALRM);
+    }
+}
+
+#define RGC_ENTER(w) do { inside = 1; __asm volatile("" : : : "memory"); } while (0)
+#define RGC_LEAVE(w) do { __asm volatile("" : : : "memory"); leave(); } while (0)
 #include "words.h"
 
 static void run_alone(int part, long milliseconds)
 {
     const struct itimerval most = {.it_value = {milliseconds / 1000, milliseconds % 1000 * 1000}};
+    signal(SIGVTALRM, stop);
     setitimer(ITIMER_VIRTUAL, &most, NULL);
     run_part(part);
     _exit(0);
