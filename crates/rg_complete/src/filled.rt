@@ -4,11 +4,11 @@ use crate::slots::{Slot, SlotKind, line_start};
 use rg_outline_syntax::{Span, Texts};
 use std::alloc::{AllocError, Global};
 
-/// An outline with assertions that were added.
+/// An outline with formulas that were added.
 #[derive(Drop)]
 pub struct Filled {
     pub source: Vec<u8>,
-    /// Where the assertion of each place begins, with its brace where it has one; nowhere, where nothing was written.
+    /// Where each formula stands, with the brace before it where it has one; nowhere, where nothing was written.
     pub spans: Vec<Span>,
     /// Where the outline goes on after each assertion, and how many bytes were added before that.
     added: Vec<(usize, usize)>,
@@ -70,6 +70,26 @@ fn margins_of<'a>(source: &'a [u8], slot: Slot) -> Margins<'a> {
 }
 
 impl Filled {
+    /// Nothing yet.
+    pub(crate) fn new(alloc: Global) -> Filled {
+        Filled {
+            source: Vec::new(alloc),
+            spans: Vec::new(alloc),
+            added: Vec::new(alloc),
+        }
+    }
+
+    /// Adds a formula, with the brace that stands before it, if one does.
+    pub(crate) fn push_formula(&mut self, formula: &[u8]) -> Result<(), AllocError> {
+        let inner = self.source.len();
+        let brace = if self.source.ends_with(b"{ ") { 2 } else { 0 };
+        let start = inner.saturating_sub(brace);
+        self.source.extend_from_slice(formula)?;
+        let end = self.source.len();
+        self.spans.push(Span { start, end })?;
+        Ok(())
+    }
+
     /// The byte of the outline before anything was added that stands at this byte.
     pub fn origin(&self, at: usize) -> usize {
         let mut before = 0usize;
@@ -85,12 +105,7 @@ impl Filled {
     fn push(&mut self, margins: Margins<'_>, formula: &[u8]) -> Result<(), AllocError> {
         self.source.extend_from_slice(margins.first)?;
         self.source.extend_from_slice(margins.second)?;
-        let inner = self.source.len();
-        self.source.extend_from_slice(formula)?;
-        let end = self.source.len();
-        let has_brace = margins.second.ends_with(b"{ ");
-        let start = inner.saturating_sub(if has_brace { 2 } else { 0 });
-        self.spans.push(Span { start, end })?;
+        self.push_formula(formula)?;
         self.source.extend_from_slice(margins.third)?;
         self.source.extend_from_slice(margins.last)?;
         Ok(())
@@ -108,11 +123,7 @@ pub fn fill(
     slots: &[Slot],
     formulas: &Texts,
 ) -> Result<Filled, AllocError> {
-    let mut filled = Filled {
-        source: Vec::new(alloc),
-        spans: Vec::new(alloc),
-        added: Vec::new(alloc),
-    };
+    let mut filled = Filled::new(alloc);
     let mut done = 0usize;
     for (index, slot) in slots.iter().enumerate() {
         let formula = formulas.at(index);

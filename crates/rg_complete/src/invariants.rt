@@ -1,7 +1,7 @@
 //! Conjuncts that are added to the invariant of an outline.
 
 use crate::equations::has_word;
-use crate::filled::indent_of;
+use crate::filled::{Filled, indent_of};
 use rg_outline_syntax::{HeadKind, Span, Texts, Written};
 use std::alloc::{AllocError, Global};
 
@@ -71,24 +71,22 @@ pub fn with_conjuncts(
     source: &[u8],
     written: &Written,
     conjuncts: &Texts,
-) -> Result<Vec<u8>, AllocError> {
+) -> Result<Filled, AllocError> {
     let place = place_of(written).unwrap_or(0);
-    let mut made = Vec::from_slice(alloc, source.get(..place).unwrap_or(&[]))?;
+    let mut made = Filled::new(alloc);
+    made.source
+        .extend_from_slice(source.get(..place).unwrap_or(&[]))?;
+    let indent = indent_of(source, place);
     for index in 0..conjuncts.len() {
-        match indent_of(source, place) {
-            Some(indent) => {
-                made.extend_from_slice(b"invariant ")?;
-                made.extend_from_slice(conjuncts.at(index))?;
-                made.push(b'\n')?;
-                made.extend_from_slice(indent)?;
-            }
-            None => {
-                made.extend_from_slice(b" invariant ")?;
-                made.extend_from_slice(conjuncts.at(index))?;
-                made.push(b' ')?;
-            }
-        }
+        let before: &[u8] = if indent.is_some() { b"" } else { b" " };
+        let after: &[u8] = if indent.is_some() { b"\n" } else { b" " };
+        made.source.extend_from_slice(before)?;
+        made.source.extend_from_slice(b"invariant ")?;
+        made.push_formula(conjuncts.at(index))?;
+        made.source.extend_from_slice(after)?;
+        made.source.extend_from_slice(indent.unwrap_or(&[]))?;
     }
-    made.extend_from_slice(source.get(place..).unwrap_or(&[]))?;
+    made.source
+        .extend_from_slice(source.get(place..).unwrap_or(&[]))?;
     Ok(made)
 }

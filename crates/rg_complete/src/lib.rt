@@ -3,6 +3,7 @@
 
 mod atoms;
 mod brackets;
+mod compared;
 mod equations;
 mod filled;
 mod gathered;

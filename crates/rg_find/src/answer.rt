@@ -11,7 +11,8 @@ ghost use Rattle.rg_find.specs.Found.{IsFound, FoundFits, FoundInOrder, fault_of
 use crate::logged_lines::lines_of;
 use rg_clauses::Clauses;
 use rg_hints::{Lines, check};
-use rg_search::{Answer, Given, Refutation, Twin, Unwatched, Watcher, solve};
+use rg_search::{Answer, Given, Refutation, Twin, solve};
+use rg_watch::{Unwatched, Watcher};
 use rg_words::limits::{MOST_DECISIONS, MOST_PROOF_BYTES};
 use rg_words::{Refusal, RefusalNumber};
 use std::alloc::Global;

@@ -10,4 +10,3 @@ mod twins;
 
 pub use answer::{Found, find, find_watched};
 pub use judgement::{Judged, judge};
-pub use rg_search::{Unwatched, Watcher};

@@ -318,7 +318,7 @@ impl FailureReports {
                 self.count = self.count.saturating_add(1);
                 return report_alone(expansion, &mut self.untrue, asked, number, b"not so: ");
             }
-            Failing::Unproved => b"no proof found within the steps: ",
+            Failing::Unproved => b"no proof found within the bounds of the search: ",
             Failing::TooLarge =>
                 b"its proof has more than 16777216 bytes, the most of one condition: ",
         };

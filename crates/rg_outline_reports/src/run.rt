@@ -250,6 +250,7 @@ fn push_bound(text: &mut Vec<u8>, bound: Option<Bound>) -> Result<(), AllocError
         None => b"",
         Some(Bound::Steps) => b"; the steps are used up, and --steps N makes up to N",
         Some(Bound::Bytes) => b"; the memory for states is used up, which no option raises",
+        Some(Bound::Seconds) => b"; the seconds are used up, and --seconds N allows up to N",
     };
     text.extend_from_slice(said)
 }

@@ -71,6 +71,7 @@ fn bound_word(bound: Option<Bound>) -> &'static [u8] {
         None => b"none",
         Some(Bound::Steps) => b"steps",
         Some(Bound::Bytes) => b"memory",
+        Some(Bound::Seconds) => b"seconds",
     }
 }
 

@@ -1,5 +1,7 @@
 //! A gate that lets another part go first, as a word says.
 
+ghost use Rattle.std.specs.Prelude.{◌≡◌, is_some};
+
 use crate::gate::Gate;
 use std::sync::atomic::{AtomicU64, Ordering};
 use std::thread::yield_now;
@@ -40,7 +42,12 @@ fn mixed(number: u64) -> u64 {
 
 impl Seeded {
     /// A gate for so many parts, and for an environment that has moves or not.
-    pub fn new(word: Option<&str>, parts: usize, has_moves: bool) -> Seeded {
+    pub fn new(word: Option<&str>, parts: usize, has_moves: bool) -> Seeded
+        // It lets one part after another go where there is a word, of so many.
+        ensures word { is_some result.seed ≡ is_some word.entry }
+        ensures parts { result.parts ≡ parts }
+        ensures moves { result.has_moves ≡ has_moves }
+    {
         Seeded {
             seed: word.map(|word| seed_of(word)),
             parts: parts as u64,

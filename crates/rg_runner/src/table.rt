@@ -40,7 +40,7 @@ pub(crate) struct Moved {
 }
 
 /// Ends the run, from any thread.
-pub fn stop<L: Round>(rt: &impl Wait, table: &Table<'_, L>) {
+pub(crate) fn stop<L: Round>(rt: &impl Wait, table: &Table<'_, L>) {
     table.floor.lock(rt).stop();
     table.changed.notify_all();
 }

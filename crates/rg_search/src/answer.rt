@@ -11,7 +11,7 @@ use rg_solver::log::Log;
 use rg_solver::search::{Goal, Outcome};
 use rg_solver::solver::{Solver, TRUE};
 use rg_solver::table::add;
-use rg_solver::watcher::Watcher;
+use rg_watch::Watcher;
 use std::alloc::{AllocError, Global};
 
 /// The most variables of a search: it takes about 500 bytes for each.

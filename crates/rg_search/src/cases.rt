@@ -6,7 +6,7 @@ use rg_solver::circuit::{Circuit, Operands};
 use rg_solver::code::{Code, code_for, negated, variable_of};
 use rg_solver::solver::{FALSE, OPEN, Solver};
 use rg_solver::table::{add, at, fill, increment, put};
-use rg_solver::watcher::Watcher;
+use rg_watch::Watcher;
 
 /// The most variables that are cases, each with both signs.
 const MOST_CASES: usize = 64;

@@ -9,7 +9,7 @@ use rg_solver::code::{Code, negated};
 use rg_solver::search::Outcome;
 use rg_solver::solver::Solver;
 use rg_solver::table::{add, at, put};
-use rg_solver::watcher::Watcher;
+use rg_watch::Watcher;
 use std::alloc::Global;
 
 /// The most conflicts of each clause.

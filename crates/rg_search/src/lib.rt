@@ -21,5 +21,4 @@ mod sweep;
 pub use answer::{Answer, solve};
 pub use plain::Twin;
 pub use rg_solver::given::Given;
-pub use rg_solver::watcher::{Unwatched, Watcher};
 pub use shortening::Refutation;

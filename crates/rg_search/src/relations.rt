@@ -8,7 +8,7 @@ use crate::links::{Links, NOBODY};
 use rg_solver::circuit::Operands;
 use rg_solver::code::{Code, negated, variable_of};
 use rg_solver::table::{add, at, put};
-use rg_solver::watcher::Watcher;
+use rg_watch::Watcher;
 use std::mem;
 
 /// How often all adders are looked at.

@@ -9,7 +9,7 @@ use rg_solver::code::{Code, code_for, variable_of};
 use rg_solver::search::Outcome;
 use rg_solver::solver::Solver;
 use rg_solver::table::{add, at, extend, fill, put};
-use rg_solver::watcher::Watcher;
+use rg_watch::Watcher;
 
 /// The most exclusive ors and operands that are looked at.
 const MOST_OPENED: usize = 64;

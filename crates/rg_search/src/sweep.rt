@@ -13,7 +13,7 @@ use rg_solver::code::{Code, code_for, negated, variable_of};
 use rg_solver::search::Outcome;
 use rg_solver::solver::{OPEN, Solver};
 use rg_solver::table::{add, at, fill, put};
-use rg_solver::watcher::Watcher;
+use rg_watch::Watcher;
 
 /// How often 64 random inputs are looked at.
 const ROUNDS: usize = 32;

@@ -18,4 +18,3 @@ pub mod reduction;
 pub mod search;
 pub mod solver;
 pub mod table;
-pub mod watcher;

@@ -6,7 +6,7 @@
 use crate::code::{Code, variable_of};
 use crate::solver::{FALSE, OPEN, Solver};
 use crate::table::{add, at, put};
-use crate::watcher::Watcher;
+use rg_watch::Watcher;
 
 /// The most conflicts that the long mean of the glue is taken of.
 const LONG_MEAN: u64 = 8192;
@@ -101,7 +101,9 @@ impl Solver {
             if let Some(outcome) = self.advance(goal) {
                 return outcome;
             }
-            watcher.searched(self.conflicts, self.kept.len());
+            if !watcher.searched(self.conflicts, self.kept.len()) {
+                self.is_ended = true;
+            }
         }
         Outcome::GaveUp
     }

@@ -47,6 +47,8 @@ pub struct Solver {
     pub circuit: Circuit,
     /// Whether memory was refused. What is found from then on is worth nothing.
     pub lacks_memory: bool,
+    /// Whether the watcher ended the search.
+    pub is_ended: bool,
     /// By literal.
     pub values: Vec<u8>,
     /// By variable: the level of its value, the clause that gave it, and the number of its unit clause where it is fixed.
@@ -104,6 +106,7 @@ impl Solver {
             alloc,
             circuit: Circuit::new(alloc),
             lacks_memory: false,
+            is_ended: false,
             values: Vec::new(alloc),
             levels: Vec::new(alloc),
             reasons: Vec::new(alloc),
@@ -214,7 +217,7 @@ impl Solver {
     /// Whether nothing more is to be done.
     #[inline]
     pub fn is_over(&self) -> bool {
-        self.log.is_refuted || self.lacks_memory || self.log.is_full()
+        self.log.is_refuted || self.lacks_memory || self.is_ended || self.log.is_full()
     }
 
     /// The value of a literal.

@@ -15,8 +15,9 @@ ghost use Rattle.rgc.specs.Chosen.{IsChosen, IsChoiceRefusal, IsChosenClausesRef
 
 use crate::pieces::derive_program;
 use rg_clauses::Clauses;
-use rg_find::{Judged, Watcher, judge};
+use rg_find::{Judged, judge};
 use rg_tree::condition::Condition;
+use rg_watch::Watcher;
 use rg_words::{Place, Refusal, RefusalNumber, SourceFile};
 use std::alloc::Global;
 

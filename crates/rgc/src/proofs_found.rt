@@ -19,10 +19,11 @@ ghost use Rattle.rg_accept.specs.Stages.{derived_program, derived_lines};
 
 use crate::failures::failure_text;
 use rg_accept::Derived;
-use rg_find::{Judged, Watcher, judge};
+use rg_find::{Judged, judge};
 use rg_hints::Lines;
 use rg_pool::{InThreads, deal, prove_pieces};
 use rg_tree::condition::Condition;
+use rg_watch::Watcher;
 use rg_words::limits::MOST_PROOF_BYTES;
 use rg_words::{Layout, Place, Refusal, RefusalNumber, SourceFile};
 use std::alloc::{AllocError, Global};

@@ -13,10 +13,11 @@ ghost use Rattle.rg_find.specs.Judged.{IsJudged, JudgedFits, JudgedInOrder};
 ghost use Rattle.rgc.specs.Valid.{clauses_shown, HasClauses, ShownHolds, IsShown, IsClausesRefusal, IsFindRefusal, IsProved, IsValidRefusal};
 
 use rg_clauses::Clauses;
-use rg_find::{Judged, Watcher, judge};
+use rg_find::{Judged, judge};
 use rg_hints::{Checker, Lines, OneThread};
 use rg_parse::{one_meaning, show};
 use rg_tree::condition::Condition;
+use rg_watch::Watcher;
 use rg_words::limits::MOST_PROOF_BYTES;
 use rg_words::{Place, Refusal, RefusalNumber, SourceFile};
 use std::alloc::Global;

@@ -31,7 +31,7 @@ pub fn reason(judged: &Judged) -> &'static str
     ensures { result.now ≡ reason_text judged.now }
 {
     match judged {
-        Judged::GaveUp => "no answer was found within the steps\n",
+        Judged::GaveUp => "no answer was found within the bounds of the search\n",
         Judged::TooLarge => "its proof is too large to be kept\n",
         _ => "",
     }

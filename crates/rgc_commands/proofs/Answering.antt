@@ -30,13 +30,13 @@ others (Run a b c d e f g) h0 h1 h2 h3 h4 h5 h6 h7 h8 h9 h10 = absurd (h10 a b c
 others (EmitOutline a) h0 h1 h2 h3 h4 h5 h6 h7 h8 h9 h10 = tt
 others (AccessesOutline a) h0 h1 h2 h3 h4 h5 h6 h7 h8 h9 h10 = tt
 others (RunOutline a b c d e) h0 h1 h2 h3 h4 h5 h6 h7 h8 h9 h10 = tt
-others (Outline a b c d e) h0 h1 h2 h3 h4 h5 h6 h7 h8 h9 h10 = tt
+others (Outline a b c d e f) h0 h1 h2 h3 h4 h5 h6 h7 h8 h9 h10 = tt
 others (Verify a b c d) h0 h1 h2 h3 h4 h5 h6 h7 h8 h9 h10 = tt
 others (Complete a b c d) h0 h1 h2 h3 h4 h5 h6 h7 h8 h9 h10 = tt
 others (Challenge a b) h0 h1 h2 h3 h4 h5 h6 h7 h8 h9 h10 = tt
 
 -- and the other way round
-pub no_others : (command : Command) → ((a : Bor (List ℕ)) → command ≡ EmitOutline a → ⊥) → ((a : Bor (List ℕ)) → command ≡ AccessesOutline a → ⊥) → ((a : Bor (List ℕ)) (b : Option (Bor (List ℕ))) (c : Option (Bor (List ℕ))) (d : ℕ) (e : Option (Bor (List ℕ))) → command ≡ RunOutline a b c d e → ⊥) → ((a : Bor (List ℕ)) (b : Option (Bor (List ℕ))) (c : Option (Bor (List ℕ))) (d : Option (Bor (List ℕ))) (e : Option (Bor (List ℕ))) → command ≡ Outline a b c d e → ⊥) → ((a : Outlines) (b : Option ℕ) (c : Bool) (d : Option (Bor (List ℕ))) → command ≡ Verify a b c d → ⊥) → ((a : Bor (List ℕ)) (b : Bool) → command ≡ Challenge a b → ⊥) → ((a : Bor (List ℕ)) (b : Option ℕ) (c : Bool) (d : Bool) → command ≡ Complete a b c d → ⊥) → IsOverOutline command → ⊥
+pub no_others : (command : Command) → ((a : Bor (List ℕ)) → command ≡ EmitOutline a → ⊥) → ((a : Bor (List ℕ)) → command ≡ AccessesOutline a → ⊥) → ((a : Bor (List ℕ)) (b : Option (Bor (List ℕ))) (c : Option (Bor (List ℕ))) (d : ℕ) (e : Option (Bor (List ℕ))) → command ≡ RunOutline a b c d e → ⊥) → ((a : Bor (List ℕ)) (b : Option ℕ) (c : Option (Bor (List ℕ))) (d : Option (Bor (List ℕ))) (e : Option (Bor (List ℕ))) (f : Option (Bor (List ℕ))) → command ≡ Outline a b c d e f → ⊥) → ((a : Outlines) (b : Option ℕ) (c : Bool) (d : Option (Bor (List ℕ))) → command ≡ Verify a b c d → ⊥) → ((a : Bor (List ℕ)) (b : Bool) → command ≡ Challenge a b → ⊥) → ((a : Bor (List ℕ)) (b : Option ℕ) (c : Bool) (d : Bool) → command ≡ Complete a b c d → ⊥) → IsOverOutline command → ⊥
 no_others (Number a) h0 h1 h2 h3 h4 h5 h6 over = over
 no_others (Check a b c) h0 h1 h2 h3 h4 h5 h6 over = over
 no_others (Conditions a b c) h0 h1 h2 h3 h4 h5 h6 over = over
@@ -51,7 +51,7 @@ no_others (Run a b c d e f g) h0 h1 h2 h3 h4 h5 h6 over = over
 no_others (EmitOutline a) h0 h1 h2 h3 h4 h5 h6 over = h0 a refl
 no_others (AccessesOutline a) h0 h1 h2 h3 h4 h5 h6 over = h1 a refl
 no_others (RunOutline a b c d e) h0 h1 h2 h3 h4 h5 h6 over = h2 a b c d e refl
-no_others (Outline a b c d e) h0 h1 h2 h3 h4 h5 h6 over = h3 a b c d e refl
+no_others (Outline a b c d e f) h0 h1 h2 h3 h4 h5 h6 over = h3 a b c d e f refl
 no_others (Verify a b c d) h0 h1 h2 h3 h4 h5 h6 over = h4 a b c d refl
 no_others (Complete a b c d) h0 h1 h2 h3 h4 h5 h6 over = h6 a b c d refl
 no_others (Challenge a b) h0 h1 h2 h3 h4 h5 h6 over = h5 a b refl
@@ -72,7 +72,7 @@ over_notes (Run a b c d e f g) notes over = absurd over
 over_notes (EmitOutline a) notes over = tt
 over_notes (AccessesOutline a) notes over = tt
 over_notes (RunOutline a b c d e) notes over = tt
-over_notes (Outline a b c d e) notes over = tt
+over_notes (Outline a b c d e f) notes over = tt
 over_notes (Verify a b c d) notes over = tt
 over_notes (Complete a b c d) notes over = tt
 over_notes (Challenge a b) notes over = tt

@@ -199,7 +199,7 @@ IsAnswer s (command.RunOutline _ start moves limit _) files (Run ready) = OfOutl
 IsAnswer s (command.Verify _ _ false _) files (Verified verified) = OfOutline files (λ outline. IsVerified verified.conditions outline × HasMore s outline verified.more.items)
 IsAnswer s (command.Verify _ _ true _) files (Walked is_broken text) = OfOutline files (λ outline. is_broken ≡ true → IsRefuted outline.text.items)
 IsAnswer s (command.Challenge _ _) files (Verified verified) = OfOutline files (IsVerified verified.conditions)
-IsAnswer s (command.Outline _ text _ _ _) files (Expanded printed) = OfOutline files (IsExpansion (is_some text) printed.items)
+IsAnswer s (command.Outline _ _ text _ _ _) files (Expanded printed) = OfOutline files (IsExpansion (is_some text) printed.items)
 IsAnswer s _ files _ = ⊥
 
 -- what is noted beside the answer of a command: nothing, unless it is about code or over an outline

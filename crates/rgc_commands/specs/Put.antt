@@ -22,7 +22,7 @@ AreProofs (Some name) outline pieces = (program : ProgramTree) × (lines : List 
 
 -- what a command over an outline names files for was put: the text and the derivation after what was there, and the pieces of the proofs
 abbrev pub ArePutOf : Command → Option OutlineFiles → List ℕ → List ℕ → List ℕ → List ℕ → List (List ℕ) → Type 0
-ArePutOf (Outline _ text derivation proofs _) (Some outline) old_text new_text old_derivation new_derivation pieces =
+ArePutOf (Outline _ _ text derivation proofs _) (Some outline) old_text new_text old_derivation new_derivation pieces =
     IsPut text outline.text.items old_text new_text × IsPut derivation outline.derivation.items old_derivation new_derivation × AreProofs proofs outline pieces
 ArePutOf (Verify _ _ _ text) (Some outline) old_text new_text old_derivation new_derivation pieces = IsPut text outline.text.items old_text new_text
 ArePutOf _ _ old_text new_text old_derivation new_derivation pieces = Unit {0}

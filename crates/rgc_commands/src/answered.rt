@@ -14,7 +14,7 @@ use crate::sides::Sides;
 use crate::smt::clauses_or_script;
 use crate::stops::Stop;
 use crate::texts::{check, conditions, explain, find_of, number, prove, valid};
-use rg_find::Watcher;
+use rg_watch::Watcher;
 use rgc_answers::Context;
 use rgc_line::{Command, Line, Settings};
 use std::sync::Wait;
@@ -116,6 +116,7 @@ fn answer_outline<'a, R: Threads + Wait + Sync, P: Watcher + Copy + Sync>(
             run_outline(context, settings, asked, files)
         }
         Command::Outline {
+            steps,
             text,
             derivation,
             proofs,
@@ -123,7 +124,7 @@ fn answer_outline<'a, R: Threads + Wait + Sync, P: Watcher + Copy + Sync>(
             ..
         } => {
             let written = Written::new(text, derivation, proofs, map);
-            expand(context, written, files, sides)
+            expand(context, written, steps, files, sides)
         }
         Command::Verify {
             outlines,

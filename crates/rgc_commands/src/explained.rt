@@ -113,7 +113,11 @@ fn is_of_outline(files: &Files<'_>, refusal: &Refusal) -> bool {
 }
 
 /// What stands below a refusal: the line that it names, and what explains it, or that a text is an outline.
-fn below(alloc: Global, files: &Files<'_>, refusal: &Refusal) -> Result<Vec<u8>, AllocError> {
+pub(crate) fn explained(
+    alloc: Global,
+    files: &Files<'_>,
+    refusal: &Refusal,
+) -> Result<Vec<u8>, AllocError> {
     let mut text = Vec::new(alloc);
     push_named(alloc, &mut text, files, refusal)?;
     if is_of_outline(files, refusal) {
@@ -122,9 +126,4 @@ fn below(alloc: Global, files: &Files<'_>, refusal: &Refusal) -> Result<Vec<u8>,
         push_entry(alloc, &mut text, refusal)?;
     }
     Ok(text)
-}
-
-/// What stands below a refusal, as `below`; nothing where memory is refused.
-pub(crate) fn explained(alloc: Global, files: &Files<'_>, refusal: &Refusal) -> Vec<u8> {
-    below(alloc, files, refusal).unwrap_or(Vec::new(alloc))
 }

@@ -19,8 +19,8 @@ use crate::coding::left_of_outline;
 use crate::files::{Expanded, Files};
 use crate::sides::Sides;
 use crate::stops::Stop;
-use rg_find::Watcher;
 use rg_outline_reports::{NoFiles, Outlined};
+use rg_watch::Watcher;
 use rgc::{Derived, Unproved};
 use rgc_answers::Context;
 use rgc_line::{Format, Outlines, Settings};
@@ -77,19 +77,30 @@ pub(crate) struct AskedWalk<'a> {
     most: Option<u64>,
 }
 
-/// What is printed of conditions of an outline that have no proof; and what a walk of its program finds, where there is one.
-fn unverified(
-    alloc: Global,
+/// Has a report printed before a walk, which may take long, and leaves nothing of it then.
+fn show<W: Watcher>(watcher: &mut W, report: &mut Vec<u8>) {
+    if watcher.found(report) {
+        report.clear();
+    }
+}
+
+/// What is printed of conditions of an outline that have no proof; and what a walk of its program finds, where there is one. What has no proof is left out
+/// where the watcher has printed it.
+fn unverified<R, P: Watcher + Copy>(
+    context: &Context<'_, R, P>,
     outlined: &Outlined<'_>,
     unproved: &[Unproved],
     walk: Option<AskedWalk<'_>>,
 ) -> Result<Vec<u8>, Stop>
     ensures { (steps : ℕ) → IfErr result (IsProofStop outlined.now.files steps NoFault) }
 {
+    let alloc = context.alloc;
+    let mut own = *context.watcher;
     let mut report = unproved_report(alloc, outlined, unproved)?;
     if let Some(walk) = walk {
         push_name(walk.form, &mut report)?;
-        let walked = walk_report(alloc, outlined, unproved, walk.most)?;
+        show(&mut own, &mut report);
+        let walked = walk_report(alloc, outlined, unproved, walk.most, &mut own)?;
         report.extend_from_slice(&walked.reported)?;
     }
     Ok(report)
@@ -109,7 +120,7 @@ pub(crate) fn prove<R: Threads + Wait + Sync, P: Watcher + Copy + Sync>(
     match prove_outline(context, outlined, steps)? {
         Ok(proved) => Ok(proved),
         Err(unproved) => {
-            let report = unverified(context.alloc, outlined, &unproved, walk)?;
+            let report = unverified(context, outlined, &unproved, walk)?;
             Err(Stop::Unverified(report))
         }
     }
@@ -218,14 +229,15 @@ fn verify_conditions<'a, R: Threads + Wait + Sync, P: Watcher + Copy + Sync>(
 {
     let alloc = context.alloc;
     let outlined = verified_outline(alloc, asked, files, sides)?;
-    let warnings = warnings_of(alloc, outlined)?;
+    let mut own = *context.watcher;
+    let warnings = warnings_of(alloc, outlined, &mut own)?;
     notes.extend_from_slice(&warnings)?;
     let form = form_of(settings.format, asked.outlines);
     let most = asked.steps;
     let walk = AskedWalk { form, most };
     let proved = prove(context, outlined, search_steps(most), Some(walk))?;
     let counts = proved.counts(alloc)?;
-    push_stuck_warning(alloc, outlined, counts.conditions, most, notes);
+    push_stuck_warning(alloc, outlined, counts.conditions, most, notes, &mut own)?;
     let more = more_of(context, settings, outlined, proved, notes)?;
     Ok(Answer::Verified(Verified {
         form,
@@ -236,8 +248,8 @@ fn verify_conditions<'a, R: Threads + Wait + Sync, P: Watcher + Copy + Sync>(
 }
 
 /// What is found of the runs of an outline's program alone. Where none breaks its specification, the warning of one that gets stuck is noted.
-fn walk<'a>(
-    alloc: Global,
+fn walk<'a, R, P: Watcher + Copy>(
+    context: &Context<'_, R, P>,
     settings: &Settings<'a>,
     asked: Verification<'a>,
     files: &Files<'a>,
@@ -248,8 +260,10 @@ fn walk<'a>(
     ensures put { OnOk result (ArePut (Verify asked.entry.outlines asked.entry.steps true asked.entry.text) files.now sides.old sides.new) }
     ensures stopped { IfErr result (IsStop settings.now (Verify asked.entry.outlines asked.entry.steps true asked.entry.text) files.now) }
 {
+    let alloc = context.alloc;
+    let mut own = *context.watcher;
     let outlined = verified_outline(alloc, asked, files, sides)?;
-    let runs = runs_only(alloc, outlined, asked.steps)?;
+    let runs = runs_only(alloc, outlined, asked.steps, &mut own)?;
     let mut text = Vec::new(alloc);
     push_name(form_of(settings.format, asked.outlines), &mut text)?;
     text.extend_from_slice(&runs.reported)?;
@@ -273,7 +287,7 @@ pub(crate) fn verify<'a, R: Threads + Wait + Sync, P: Watcher + Copy + Sync>(
     ensures stopped { IfErr result (IsStop settings.now (Verify asked.entry.outlines asked.entry.steps asked.entry.is_runs_only asked.entry.text) files.now) }
 {
     if asked.is_runs_only {
-        walk(context.alloc, settings, asked, files, notes, sides)
+        walk(context, settings, asked, files, notes, sides)
     } else {
         verify_conditions(context, settings, asked, files, notes, sides)
     }
@@ -296,7 +310,8 @@ pub(crate) fn challenge_outline<'a, R: Threads + Wait + Sync, P: Watcher + Copy 
         Format::Json => VerdictForm::Json(outlined.outline.name),
         Format::Plain => VerdictForm::Alone,
     };
-    *notes = warnings_of(alloc, outlined)?;
+    let mut own = *context.watcher;
+    *notes = warnings_of(alloc, outlined, &mut own)?;
     let walk = AskedWalk { form, most: None };
     let proved = prove(context, outlined, MOST_STEPS, Some(walk))?;
     notes.clear();
@@ -377,23 +392,25 @@ fn printed_text(
     Ok(Vec::new(alloc))
 }
 
-/// What an outline's files derive; the proofs of all conditions, where a file is named for them, are put beside the output.
+/// What an outline's files derive; the proofs of all conditions, where a file is named for them, are put beside the output. At most so many decisions are
+/// made for each, where a command says so.
 fn derive<R: Threads + Wait + Sync, P: Watcher + Copy + Sync>(
     context: &Context<'_, R, P>,
     outlined: &Outlined<'_>,
     written: Written<'_>,
+    steps: Option<u64>,
     sides: &mut Sides,
 ) -> Result<Derived, Stop>
     ensures derived { IfOk result (λ d. IsOfPieces outlined.now.files.text.items outlined.now.files.derivation.items (derived_program d) (derived_lines d)) }
     ensures proofs { OnOk result (AreProofs written.entry.proofs outlined.now.files (map string_bytes sides.new.proofs.items)) }
     ensures text { OnOk result (sides.new.text.items ≡ sides.old.text.items) }
     ensures derivation { OnOk result (sides.new.derivation.items ≡ sides.old.derivation.items) }
-    ensures stopped { IfErr result (IsExpandStop (is_some written.entry.proofs) outlined.now.files) }
+    ensures stopped { IfErr result (IsExpandStop (is_some written.entry.proofs) outlined.now.files (search_steps steps)) }
 {
     if written.proofs.is_none() {
         return Ok(derive_outline(context.alloc, &outlined.files)?);
     }
-    let Proved { derived, proofs } = prove(context, outlined, MOST_STEPS, None)?;
+    let Proved { derived, proofs } = prove(context, outlined, search_steps(steps), None)?;
     sides.proofs = proofs;
     Ok(derived)
 }
@@ -402,15 +419,16 @@ fn derive<R: Threads + Wait + Sync, P: Watcher + Copy + Sync>(
 pub(crate) fn expand<'a, R: Threads + Wait + Sync, P: Watcher + Copy + Sync>(
     context: &Context<'_, R, P>,
     written: Written<'a>,
+    steps: Option<u64>,
     files: &Files<'a>,
     sides: &mut Sides,
 ) -> Result<Answer<'a>, Stop>
-    ensures answer { (s : LineSettings) → (o : Bor (List ℕ)) → IfOk result (IsAnswer s (Outline o written.entry.text written.entry.derivation written.entry.proofs written.entry.map) files.now) }
-    ensures put { (o : Bor (List ℕ)) → OnOk result (ArePut (Outline o written.entry.text written.entry.derivation written.entry.proofs written.entry.map) files.now sides.old sides.new) }
-    ensures stopped { (s : LineSettings) → (o : Bor (List ℕ)) → IfErr result (IsStop s (Outline o written.entry.text written.entry.derivation written.entry.proofs written.entry.map) files.now) }
+    ensures answer { (s : LineSettings) → (o : Bor (List ℕ)) → IfOk result (IsAnswer s (Outline o steps written.entry.text written.entry.derivation written.entry.proofs written.entry.map) files.now) }
+    ensures put { (o : Bor (List ℕ)) → OnOk result (ArePut (Outline o steps written.entry.text written.entry.derivation written.entry.proofs written.entry.map) files.now sides.old sides.new) }
+    ensures stopped { (s : LineSettings) → (o : Bor (List ℕ)) → IfErr result (IsStop s (Outline o steps written.entry.text written.entry.derivation written.entry.proofs written.entry.map) files.now) }
 {
     let outlined = outlined_of(context.alloc, files)?;
-    let _ = derive(context, outlined, written, sides)?;
+    let _ = derive(context, outlined, written, steps, sides)?;
     put(outlined, written, sides)?;
     let text = printed_text(context.alloc, outlined, written, sides)?;
     Ok(Answer::Expanded(text))

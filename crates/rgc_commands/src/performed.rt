@@ -15,7 +15,7 @@ use crate::rendered::render;
 use crate::runs::print_ready;
 use crate::sides::Sides;
 use crate::{Files, Stop};
-use rg_find::Watcher;
+use rg_watch::Watcher;
 use rg_words::{Out, Refusal, RefusalNumber, write_all};
 use rgc_answers::{Context, reason, refusal_json};
 use rgc_line::{Format, Line, Settings};
@@ -90,13 +90,38 @@ fn tell_refusal<F: Out>(
 }
 
 /// What explains a refusal below its line.
-fn below_of(alloc: Global, line: &Line<'_>, files: &Files<'_>, refusal: Refusal) -> Vec<u8>
-    ensures { IsBelow line.now.settings result.items }
+fn below_of(
+    alloc: Global,
+    line: &Line<'_>,
+    files: &Files<'_>,
+    refusal: Refusal,
+) -> Result<Vec<u8>, AllocError>
+    ensures { IfOk result (λ below. IsBelow line.now.settings below.items) }
 {
     match line.settings.format {
-        Format::Plain if line.settings.is_explained => { explained(alloc, files, &refusal) }
-        _ => Vec::new(alloc),
+        Format::Plain if line.settings.is_explained => explained(alloc, files, &refusal),
+        _ => Ok(Vec::new(alloc)),
     }
+}
+
+/// Reports a refusal, and what explains it where that is asked; the status. Where there is no memory for that, it is reported.
+fn tell_explained<F: Out>(
+    alloc: Global,
+    line: &Line<'_>,
+    files: &Files<'_>,
+    refusal: Refusal,
+    faults: &mut F,
+) -> u8
+    requires { CanCount (F.failures faults.old) }
+    ensures low { 1 ≤ result }
+    ensures high { result ≤ 3 }
+    ensures reported { TellsRefusal line.now.settings refusal result (F.contents faults.old) (F.contents faults.new) (F.failures faults.old) (F.failures faults.new) }
+{
+    let Ok(below) = below_of(alloc, line, files, refusal) else {
+        tell_text(b"refused 99\n", faults);
+        return 3;
+    };
+    tell_refusal(alloc, &line.settings, refusal, &below, faults)
 }
 
 /// Prints an answer; the lines that report moves of a run that were passed over.
@@ -204,10 +229,7 @@ fn tell<W: Out, F: Out>(
             2
         }
         Stop::Unverified(report) => tell_unverified(&line.settings, report, notes, out, faults),
-        Stop::Refused(refusal) => {
-            let below = below_of(alloc, line, files, *refusal);
-            tell_refusal(alloc, &line.settings, *refusal, &below, faults)
-        }
+        Stop::Refused(refusal) => tell_explained(alloc, line, files, *refusal, faults),
     }
 }
 

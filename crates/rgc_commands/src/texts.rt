@@ -12,7 +12,7 @@ use crate::answers::{Answer, is_plain};
 use crate::entries::entry_of;
 use crate::files::{Files, derivation_of, joined, proofs_of, text_of, three_files, two_files};
 use crate::stops::Stop;
-use rg_find::Watcher;
+use rg_watch::Watcher;
 use rgc::{
     Derived, InThreads, Parsed, ProofsFound, SearchSettings, accept_in_pieces, clauses,
     condition_clauses, derive_program, find, find_condition, find_part, find_proofs, valid_by,

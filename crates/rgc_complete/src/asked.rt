@@ -7,7 +7,7 @@ ghost use Rattle.rg_tree.specs.Typing.{IsTyped};
 ghost use Rattle.rg_tree.specs.View.{formula as view};
 
 use crate::evaluate::after;
-use rg_find::{Judged, Unwatched, judge};
+use rg_find::{Judged, judge};
 use rg_outline_reports::values_of;
 use rg_parse::formula;
 use rg_tree::condition::{Condition, Second};
@@ -15,6 +15,7 @@ use rg_tree::copy::copy_formula;
 use rg_tree::rule_conditions::copy_assigns;
 use rg_tree::tree::Formula;
 use rg_tree::typing::typed_trees_fit;
+use rg_watch::Watcher;
 use rg_words::{Refusal, RefusalNumber, SourceFile, State};
 use std::alloc::{AllocError, Global};
 
@@ -150,10 +151,13 @@ fn said(alloc: Global, condition: &Condition, judged: Judged) -> Result<Outcome,
 }
 
 /// What a search says of a condition.
-fn outcome_of(alloc: Global, condition: &Condition) -> Result<Outcome, AllocError> {
-    let mut own = Unwatched;
+fn outcome_of<W: Watcher>(
+    alloc: Global,
+    condition: &Condition,
+    watcher: &mut W,
+) -> Result<Outcome, AllocError> {
     let file = SourceFile::Derivation;
-    match judge(alloc, condition, file, 1, MOST_STEPS, &mut own) {
+    match judge(alloc, condition, file, 1, MOST_STEPS, watcher) {
         Ok(judged) => said(alloc, condition, judged),
         Err(refusal) => unknown(refusal),
     }
@@ -168,11 +172,12 @@ fn unknown(refusal: Refusal) -> Result<Outcome, AllocError> {
 }
 
 /// What a search says of a condition with what this text gives as a hypothesis more; and with what the other says as its goal, if there is one.
-pub(crate) fn ask(
+pub(crate) fn ask<W: Watcher>(
     alloc: Global,
     base: &Condition,
     given: &[u8],
     goal: Option<&[u8]>,
+    watcher: &mut W,
 ) -> Result<Outcome, AllocError> {
     let given = match formula(alloc, &base.layout, given) {
         Ok(given) => given,
@@ -180,12 +185,12 @@ pub(crate) fn ask(
     };
     let Some(goal) = goal else {
         let condition = with_given(alloc, base, &given)?;
-        return outcome_of(alloc, &condition);
+        return outcome_of(alloc, &condition, watcher);
     };
     let goal = match formula(alloc, &base.layout, goal) {
         Ok(goal) => goal,
         Err(refusal) => return unknown(refusal),
     };
     let condition = with_goal(alloc, base, &given, &goal)?;
-    outcome_of(alloc, &condition)
+    outcome_of(alloc, &condition, watcher)
 }

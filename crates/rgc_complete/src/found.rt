@@ -1,16 +1,14 @@
 //! An outline with the assertions that it lacks.
 
-use crate::alive::{Alive, Bits};
-use crate::conditions::{Base, conditions_of, nameless, unless_refused};
-use crate::elaborated::{FamilyAtoms, Tried, tried_of};
-use crate::memory::Memory;
-use crate::reached::refute_reached;
-use crate::search::{Failure, Search};
+use crate::completion::{Completion, added_in};
+use crate::conditions::{nameless, unless_refused};
+use crate::search::Failure;
+use crate::subject::{Begun, Subject};
 use crate::unfound::unfound_report;
 use rg_complete::{Slot, fill};
-use rg_find::Watcher;
 use rg_outline_reports::{Demand, Outlined, read_outline};
 use rg_outline_syntax::Texts;
+use rg_watch::Watcher;
 use rg_words::Refusal;
 use rgc_answers::Context;
 use rgc_outlines::{Known, is_proved, prove_outline, runs_only};
@@ -27,10 +25,12 @@ const MOST_STEPS_OF_THINNING: u64 = 20_000;
 /// What was found.
 #[derive(Drop)]
 pub enum Completed {
-    /// An outline, how many assertions were added to it, and how many conjuncts to its invariant.
-    Found(Vec<u8>, usize, usize),
+    /// An outline with what it lacked.
+    Found(Completion),
     /// What is said where none are found; nothing where no assertions would help.
     Unfound(Vec<u8>),
+    /// The watcher ended the search.
+    GaveUp,
 }
 
 /// Whether an outline with these assertions is verified, as far as is known.
@@ -42,59 +42,26 @@ struct Thinning<'s> {
     steps: u64,
 }
 
-/// All candidates of a family.
-pub(crate) fn candidates_of(alloc: Global, family: &FamilyAtoms) -> Result<Alive, AllocError> {
-    let mut bits = Bits::new(alloc, family.atoms.atoms.len(), false)?;
-    for (place, atom) in family.atoms.atoms.iter().enumerate() {
-        bits.put(place, !atom.is_out);
-    }
-    Alive::new(alloc, family.premises.len().saturating_add(1), &bits)
-}
-
-/// A search in which nothing is refuted yet.
-pub(crate) fn search_of<'a>(
-    alloc: Global,
-    base: &'a Base,
-    tried: &'a Tried,
-) -> Result<Search<'a>, AllocError> {
-    let mut search = Search {
-        alloc,
-        base,
-        tried,
-        alive: Vec::new(alloc),
-        needed: Vec::new(alloc),
-        is_open: Vec::new(alloc),
-        is_loose: Vec::new(alloc),
-        memories: Vec::new(alloc),
-        questions: 0,
-        stuck_at: 0,
-    };
-    for slot in &base.slots {
-        match tried.families.get(slot.scope) {
-            Some(family) => search.alive.push(candidates_of(alloc, family)?)?,
-            None => search
-                .alive
-                .push(Alive::new(alloc, 0, &Bits::new(alloc, 0, false)?)?)?,
-        }
-        search.needed.push(Vec::new(alloc))?;
-    }
-    for duty in &base.duties {
-        search.memories.push(Memory::new(alloc, base, *duty)?)?;
-        search.is_open.push(true)?;
-        search.is_loose.push(true)?;
-    }
-    Ok(search)
-}
-
 impl Thinning<'_> {
     /// The outline.
     fn outline(&self, alloc: Global) -> Result<Vec<u8>, AllocError> {
+        let completion = self.completion(alloc)?;
+        Ok(completion.source)
+    }
+
+    /// The outline, and what was added to it.
+    fn completion(&self, alloc: Global) -> Result<Completion, AllocError> {
         let mut texts = Texts::new(alloc);
         for assertion in &self.assertions {
             texts.push(assertion)?;
         }
         let made = fill(alloc, self.source, self.slots, &texts)?;
-        Ok(made.source)
+        let assertions = added_in(alloc, &made, &texts)?;
+        Ok(Completion {
+            source: made.source,
+            assertions,
+            conjuncts: Vec::new(alloc),
+        })
     }
 
     /// Whether the outline is verified.
@@ -141,14 +108,6 @@ impl Thinning<'_> {
         }
         Ok(())
     }
-
-    /// How many assertions there are.
-    fn count(&self) -> usize {
-        self.assertions
-            .iter()
-            .filter(|assertion| !assertion.is_empty())
-            .count()
-    }
 }
 
 /// Leaves out what the outline is verified without; whether it is verified.
@@ -175,21 +134,23 @@ fn thinned<R: Threads + Wait + Sync, P: Watcher + Copy + Sync>(
 }
 
 /// What is said where a condition can't be made to hold: first a run of the program that breaks its specification, if a short walk finds one.
-fn unfound_of(
-    alloc: Global,
-    search: &Search<'_>,
+fn unfound_of<R, P: Watcher + Copy>(
+    context: &Context<'_, R, P>,
+    subject: &Subject,
     outlined: &Outlined<'_>,
     failure: &Failure,
 ) -> Result<Completed, Refusal> {
+    let alloc = context.alloc;
+    let mut own = *context.watcher;
     let mut report = Vec::new(alloc);
     if failure.duty.demand == Demand::Other {
         return Ok(Completed::Unfound(report));
     }
-    let runs = runs_only(alloc, outlined, Some(MOST_STEPS_OF_RUNS))?;
+    let runs = runs_only(alloc, outlined, Some(MOST_STEPS_OF_RUNS), &mut own)?;
     if runs.is_broken {
         report.extend_from_slice(&runs.reported)?;
     }
-    report.extend_from_slice(&unfound_report(search, outlined, failure)?)?;
+    report.extend_from_slice(&unfound_report(alloc, subject, outlined, failure)?)?;
     Ok(Completed::Unfound(report))
 }
 
@@ -206,28 +167,26 @@ pub fn complete<R: Threads + Wait + Sync, P: Watcher + Copy + Sync>(
     let alloc = context.alloc;
     let source = outlined.outline.source;
     let unfound = Completed::Unfound(Vec::new(alloc));
-    let Some(mut base) = conditions_of(alloc, source, outlined.read)? else {
+    let Some(subject) = Subject::of(alloc, source, outlined.read)? else {
         return Ok(unfound);
     };
-    let Some(first) = base.conditions.first() else {
-        return Ok(unfound);
-    };
-    let tried = tried_of(alloc, source, outlined.read, &first.layout, &base)?;
-    base.locate(alloc, &tried)?;
-    let mut search = search_of(alloc, &base, &tried)?;
-    refute_reached(alloc, &base, &tried, &mut search.alive)?;
-    if let Some(failure) = search.settle_all()? {
-        return unfound_of(alloc, &search, outlined, &failure);
+    let Begun { mut search, .. } = subject.begin(alloc, *context.watcher)?;
+    let failure = search.settle_all()?;
+    if search.is_ended {
+        return Ok(Completed::GaveUp);
+    }
+    if let Some(failure) = failure {
+        return unfound_of(context, &subject, outlined, &failure);
     }
     search.shorten()?;
     let mut thinning = Thinning {
         source,
-        slots: &base.slots,
+        slots: &subject.base.slots,
         assertions: search.assertions()?,
         steps,
     };
     if !thinned(context, &mut thinning)? {
         return Ok(unfound);
     }
-    Ok(Completed::Found(thinning.outline(alloc)?, thinning.count(), 0))
+    Ok(Completed::Found(thinning.completion(alloc)?))
 }

@@ -1,16 +1,17 @@
 //! The search for conjuncts of the invariant that an outline lacks.
 
 use crate::alive::{Alive, Bits, Candidate};
-use crate::conditions::{Base, conditions_of, nameless, unless_refused};
-use crate::elaborated::{FamilyAtoms, Tried, tried_of};
-use crate::found::{Completed, candidates_of, complete, search_of};
-use crate::reached::refute_reached;
+use crate::completion::{Completion, added_in};
+use crate::conditions::{nameless, unless_refused};
+use crate::elaborated::FamilyAtoms;
+use crate::found::{Completed, complete};
 use crate::search::{Chosen, Failure, cheapest};
+use crate::subject::{Begun, Subject, candidates_of};
 use crate::written::assertion;
 use rg_complete::{has_own_name, said_of_all, with_conjuncts};
-use rg_find::Watcher;
 use rg_outline_reports::{OutlineSource, Outlined, ReadOutline, read_outline};
 use rg_outline_syntax::Texts;
+use rg_watch::Watcher;
 use rg_words::Refusal;
 use rgc_answers::Context;
 use std::alloc::{AllocError, Global};
@@ -34,38 +35,42 @@ enum Attempt {
     Fails(Failure),
     /// The outline can't be worked out.
     Refused,
+    /// The watcher ended the search.
+    GaveUp,
 }
 
 /// An outline, and the conjuncts that are added to its invariant.
 #[derive(Drop)]
-struct Strengthening<'a> {
+struct Strengthening<'a, P> {
     alloc: Global,
+    watcher: P,
     source: &'a [u8],
     read: &'a ReadOutline,
-    base: &'a Base,
-    tried: &'a Tried,
+    subject: &'a Subject,
     /// What isn't refuted, of each scope.
     alive: Vec<Alive>,
     chosen: Vec<Conjunct>,
 }
 
 /// Searches for the assertions of an outline.
-fn attempted(alloc: Global, source: &[u8]) -> Result<Attempt, Refusal> {
+fn attempted<P: Watcher + Copy>(
+    alloc: Global,
+    source: &[u8],
+    watcher: P,
+) -> Result<Attempt, Refusal> {
     let outline = nameless(source);
     let Some(read) = unless_refused(read_outline(alloc, outline))? else {
         return Ok(Attempt::Refused);
     };
-    let Some(mut base) = conditions_of(alloc, source, &read)? else {
+    let Some(subject) = Subject::of(alloc, source, &read)? else {
         return Ok(Attempt::Refused);
     };
-    let Some(first) = base.conditions.first() else {
-        return Ok(Attempt::Refused);
-    };
-    let tried = tried_of(alloc, source, &read, &first.layout, &base)?;
-    base.locate(alloc, &tried)?;
-    let mut search = search_of(alloc, &base, &tried)?;
-    refute_reached(alloc, &base, &tried, &mut search.alive)?;
-    match search.settle_all()? {
+    let Begun { mut search, .. } = subject.begin(alloc, watcher)?;
+    let failure = search.settle_all()?;
+    if search.is_ended {
+        return Ok(Attempt::GaveUp);
+    }
+    match failure {
         Some(failure) => Ok(Attempt::Fails(failure)),
         None => Ok(Attempt::Holds),
     }
@@ -88,10 +93,16 @@ fn candidates_for(
     Ok(alive)
 }
 
-impl Strengthening<'_> {
+impl<P: Watcher + Copy> Strengthening<'_, P> {
     /// Takes the candidates of each part, but for those that are false in a state that was met.
     fn begin(&mut self, met: &[Vec<Bits>]) -> Result<(), AllocError> {
-        for (scope, family) in self.base.scopes.iter().zip(&self.tried.families) {
+        for (scope, family) in self
+            .subject
+            .base
+            .scopes
+            .iter()
+            .zip(&self.subject.tried.families)
+        {
             let is_whole = scope.round.is_none();
             self.alive.push(if is_whole {
                 candidates_for(self.alloc, self.source, self.read, scope.part, family)?
@@ -107,21 +118,34 @@ impl Strengthening<'_> {
 
     /// Takes away what is false in a state.
     fn keep_true(&mut self, truths: &[Bits]) {
-        for (place, (instance, truth)) in self.tried.instances.iter().zip(truths).enumerate() {
+        for (place, (instance, truth)) in self
+            .subject
+            .tried
+            .instances
+            .iter()
+            .zip(truths)
+            .enumerate()
+        {
             if let Some(alive) = self.alive.get_mut(instance.scope) {
-                alive.keep_true(truth, self.tried.premises_of(place));
+                alive.keep_true(truth, self.subject.tried.premises_of(place));
             }
         }
     }
 
     /// The outline with the conjuncts.
     fn outline(&self) -> Result<Vec<u8>, AllocError> {
-        let alloc = self.alloc;
+        let completion = self.completion()?;
+        Ok(completion.source)
+    }
+
+    /// The outline with the conjuncts, and these.
+    fn completion(&self) -> Result<Completion, AllocError> {
+        let (alloc, base) = (self.alloc, &self.subject.base);
         let mut texts = Texts::new(alloc);
         for conjunct in &self.chosen {
             if let (Some(family), Some(scope)) = (
-                self.tried.families.get(conjunct.scope),
-                self.base.scopes.get(conjunct.scope),
+                self.subject.tried.families.get(conjunct.scope),
+                base.scopes.get(conjunct.scope),
             ) {
                 let formula = assertion(alloc, family, &[conjunct.candidate])?;
                 let written = &self.read.written;
@@ -129,16 +153,22 @@ impl Strengthening<'_> {
                 texts.push(&text)?;
             }
         }
-        with_conjuncts(alloc, self.source, &self.read.written, &texts)
+        let made = with_conjuncts(alloc, self.source, &self.read.written, &texts)?;
+        let conjuncts = added_in(alloc, &made, &texts)?;
+        Ok(Completion {
+            source: made.source,
+            assertions: Vec::new(alloc),
+            conjuncts,
+        })
     }
 
     /// The cheapest candidate that is false in a state.
     fn choose(&self, state: &[u64]) -> Result<Option<Conjunct>, AllocError> {
         let mut best: Option<Chosen> = None;
-        for instance in &self.tried.instances {
+        for instance in &self.subject.tried.instances {
             if let (Some(alive), Some(family)) = (
                 self.alive.get(instance.scope),
-                self.tried.families.get(instance.scope),
+                self.subject.tried.families.get(instance.scope),
             ) {
                 let truth = instance.truth(self.alloc, state)?;
                 if let Some(chosen) = cheapest(alive, family, &truth, instance.scope)
@@ -157,7 +187,7 @@ impl Strengthening<'_> {
     /// Lets go of the conjuncts that are false in a state; whether there are such.
     fn drop_false(&mut self, state: &[u64]) -> Result<bool, AllocError> {
         let mut truths = Vec::new(self.alloc);
-        for instance in &self.tried.instances {
+        for instance in &self.subject.tried.instances {
             truths.push(instance.truth(self.alloc, state)?)?;
         }
         self.keep_true(&truths);
@@ -199,10 +229,11 @@ impl Strengthening<'_> {
     fn strengthen(&mut self) -> Result<bool, Refusal> {
         for _ in 0..MOST_TRIES {
             let source = self.outline()?;
-            let goes_on = match attempted(self.alloc, &source)? {
+            let goes_on = match attempted(self.alloc, &source, self.watcher)? {
                 Attempt::Holds => return Ok(true),
                 Attempt::Fails(failure) => self.go_on(&failure)?,
                 Attempt::Refused => self.drop_last(),
+                Attempt::GaveUp => false,
             };
             if !goes_on {
                 return Ok(false);
@@ -218,7 +249,10 @@ impl Strengthening<'_> {
             let before = Vec::from_slice(self.alloc, &self.chosen)?;
             self.chosen.retain(|one: &Conjunct| *one != *conjunct);
             let source = self.outline()?;
-            if !matches!(attempted(self.alloc, &source)?, Attempt::Holds) {
+            if !matches!(
+                attempted(self.alloc, &source, self.watcher)?,
+                Attempt::Holds
+            ) {
                 self.chosen = before;
             }
         }
@@ -226,28 +260,23 @@ impl Strengthening<'_> {
     }
 }
 
-/// The outline with conjuncts of its invariant, and how many; nothing where none make all conditions hold.
-fn strengthened(
+/// The outline with conjuncts of its invariant; nothing where none make all conditions hold.
+fn strengthened<P: Watcher + Copy>(
     alloc: Global,
     outlined: &Outlined<'_>,
-) -> Result<Option<(Vec<u8>, usize)>, Refusal> {
+    watcher: P,
+) -> Result<Option<Completion>, Refusal> {
     let source = outlined.outline.source;
-    let Some(mut base) = conditions_of(alloc, source, outlined.read)? else {
+    let Some(subject) = Subject::of(alloc, source, outlined.read)? else {
         return Ok(None);
     };
-    let Some(first) = base.conditions.first() else {
-        return Ok(None);
-    };
-    let tried = tried_of(alloc, source, outlined.read, &first.layout, &base)?;
-    base.locate(alloc, &tried)?;
-    let mut search = search_of(alloc, &base, &tried)?;
-    let met = refute_reached(alloc, &base, &tried, &mut search.alive)?;
+    let Begun { met, .. } = subject.begin(alloc, watcher)?;
     let mut strengthening = Strengthening {
         alloc,
+        watcher,
         source,
         read: outlined.read,
-        base: &base,
-        tried: &tried,
+        subject: &subject,
         alive: Vec::new(alloc),
         chosen: Vec::new(alloc),
     };
@@ -256,8 +285,7 @@ fn strengthened(
         return Ok(None);
     }
     strengthening.thin()?;
-    let count = strengthening.chosen.len();
-    Ok(Some((strengthening.outline()?, count)))
+    Ok(Some(strengthening.completion()?))
 }
 
 /// Searches for conjuncts of the invariant and for assertions that an outline lacks. Where none are found, what is reported is so of the outline as it stands.
@@ -271,9 +299,14 @@ pub fn complete_with_invariant<R: Threads + Wait + Sync, P: Watcher + Copy + Syn
     steps: u64,
 ) -> Result<Completed, Refusal> {
     let alloc = context.alloc;
-    let Some((source, count)) = strengthened(alloc, outlined)? else {
+    let Some(stronger) = strengthened(alloc, outlined, *context.watcher)? else {
         return complete(context, outlined, steps);
     };
+    let Completion {
+        source,
+        conjuncts,
+        ..
+    } = stronger;
     let outline = OutlineSource {
         source: &source,
         ..outlined.outline
@@ -285,7 +318,11 @@ pub fn complete_with_invariant<R: Threads + Wait + Sync, P: Watcher + Copy + Syn
         return complete(context, outlined, steps);
     };
     match complete(context, &made, steps)? {
-        Completed::Found(source, assertions, _) => Ok(Completed::Found(source, assertions, count)),
-        Completed::Unfound(_) => complete(context, outlined, steps),
+        Completed::Found(found) => Ok(Completed::Found(Completion {
+            source: found.source,
+            assertions: found.assertions,
+            conjuncts,
+        })),
+        _ => complete(context, outlined, steps),
     }
 }

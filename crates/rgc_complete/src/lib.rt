@@ -3,6 +3,7 @@
 
 mod alive;
 mod asked;
+mod completion;
 mod conditions;
 mod elaborated;
 mod evaluate;
@@ -14,8 +15,10 @@ mod reached;
 mod search;
 mod shorter;
 mod starts;
+mod subject;
 mod unfound;
 mod written;
 
+pub use completion::Completion;
 pub use found::{Completed, complete};
 pub use invariant::complete_with_invariant;

@@ -7,6 +7,7 @@ use crate::elaborated::{FamilyAtoms, Instance, Tried};
 use crate::evaluate::Moment;
 use crate::memory::{Asked, Looked, Memory};
 use rg_outline_reports::Demand;
+use rg_watch::Watcher;
 use std::alloc::{AllocError, Global};
 
 /// The most rounds over the conditions, the most answers to one condition in a round, and the most questions together.
@@ -32,8 +33,9 @@ pub(crate) struct Failure {
 
 /// A search.
 #[derive(Drop)]
-pub(crate) struct Search<'a> {
+pub(crate) struct Search<'a, P> {
     pub(crate) alloc: Global,
+    pub(crate) watcher: P,
     pub(crate) base: &'a Base,
     pub(crate) tried: &'a Tried,
     /// What isn't refuted, at each place.
@@ -46,6 +48,8 @@ pub(crate) struct Search<'a> {
     /// What is remembered of each condition.
     pub(crate) memories: Vec<Memory>,
     pub(crate) questions: usize,
+    /// Whether the watcher ended it.
+    pub(crate) is_ended: bool,
     /// Which of the states of a condition no candidate makes impossible.
     pub(crate) stuck_at: usize,
 }
@@ -197,7 +201,7 @@ pub(crate) fn cheapest(
     best
 }
 
-impl<'a> Search<'a> {
+impl<'a, P: Watcher + Copy> Search<'a, P> {
     /// Adds candidates, as the text of a part has them.
     fn push_all(
         &self,
@@ -405,10 +409,23 @@ impl<'a> Search<'a> {
             return Ok(Step::Done);
         };
         self.questions = self.questions.saturating_add(1);
+        if !self.watcher.asked(self.questions) {
+            self.is_ended = true;
+            return Ok(Step::Stuck);
+        }
         let given = self.given(index, &asked)?;
         let outcome = match &asked.due {
-            Some(due) => ask(self.alloc, condition, &given, Some(&self.goal(duty, due)?))?,
-            None => ask(self.alloc, condition, &given, None)?,
+            Some(due) => {
+                let goal = self.goal(duty, due)?;
+                ask(
+                    self.alloc,
+                    condition,
+                    &given,
+                    Some(&goal),
+                    &mut self.watcher,
+                )?
+            }
+            None => ask(self.alloc, condition, &given, None, &mut self.watcher)?,
         };
         self.go_on(index, duty, asked, outcome)
     }

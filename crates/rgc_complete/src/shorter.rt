@@ -3,6 +3,7 @@
 use crate::alive::{Alive, Bits, Candidate};
 use crate::elaborated::FamilyAtoms;
 use crate::search::{Search, cost_of};
+use rg_watch::Watcher;
 use std::alloc::{AllocError, Global};
 
 /// Copies of what is needed at each place.
@@ -14,7 +15,7 @@ fn copies(alloc: Global, needed: &[Vec<Candidate>]) -> Result<Vec<Vec<Candidate>
     Ok(copies)
 }
 
-impl<'a> Search<'a> {
+impl<'a, P: Watcher + Copy> Search<'a, P> {
     /// The formulas of the scope of a place.
     pub(crate) fn family_at(&self, place: usize) -> Option<&'a FamilyAtoms> {
         let slot = self.base.slots.get(place)?;

@@ -1,6 +1,7 @@
 //! What is said where no assertions are found.
 
-use crate::search::{Failure, Search};
+use crate::search::Failure;
+use crate::subject::Subject;
 use rg_complete::Slot;
 use rg_outline_reports::{Demand, Format, Outlined};
 use rg_outline_syntax::{ItemKind, Span, push_count};
@@ -55,8 +56,8 @@ struct Unfound {
 }
 
 /// The place at which a condition fails.
-fn place_of(search: &Search<'_>, failure: &Failure) -> Option<usize> {
-    let first = search.base.ends.first().copied();
+fn place_of(subject: &Subject, failure: &Failure) -> Option<usize> {
+    let first = subject.base.ends.first().copied();
     let stand = failure.duty.given.or(failure.duty.due).or(first)?;
     Some(stand.place)
 }
@@ -74,8 +75,8 @@ fn used_in(outlined: &Outlined<'_>, part: Span) -> Option<Span> {
 }
 
 /// How many formulas are tried at a place.
-fn tried_at(search: &Search<'_>, slot: Option<Slot>) -> usize {
-    let family = slot.and_then(|slot| search.tried.families.get(slot.scope));
+fn tried_at(subject: &Subject, slot: Option<Slot>) -> usize {
+    let family = slot.and_then(|slot| subject.tried.families.get(slot.scope));
     family.map_or(0, |family| family.atoms.count())
 }
 
@@ -85,13 +86,13 @@ fn line_of(source: &[u8], start: usize) -> u64 {
 }
 
 /// The line of what a step or a test is to lead to, where that is written.
-fn due_of(search: &Search<'_>, source: &[u8], failure: &Failure) -> Option<u64> {
+fn due_of(subject: &Subject, source: &[u8], failure: &Failure) -> Option<u64> {
     if failure.duty.demand != Demand::Leads {
         return None;
     }
     let place = failure.duty.due?.place;
-    let near = search.base.nears.get(place).copied()?;
-    if place < search.base.slots.len() {
+    let near = subject.base.nears.get(place).copied()?;
+    if place < subject.base.slots.len() {
         return None;
     }
     Some(line_of(source, near))
@@ -99,32 +100,33 @@ fn due_of(search: &Search<'_>, source: &[u8], failure: &Failure) -> Option<u64> 
 
 /// What is reported of a condition that no candidate makes hold.
 fn unfound_of(
-    search: &Search<'_>,
+    alloc: Global,
+    subject: &Subject,
     outlined: &Outlined<'_>,
     failure: &Failure,
 ) -> Result<Unfound, AllocError> {
     let source = outlined.outline.source;
-    let place = place_of(search, failure);
-    let slot = place.and_then(|place| search.base.slots.get(place).copied());
-    let near = place.and_then(|place| search.base.nears.get(place).copied());
-    let member = search.base.members.get(failure.duty.part);
+    let place = place_of(subject, failure);
+    let slot = place.and_then(|place| subject.base.slots.get(place).copied());
+    let near = place.and_then(|place| subject.base.nears.get(place).copied());
+    let member = subject.base.members.get(failure.duty.part);
     let part = member.and_then(|member| outlined.read.written.parts.get(member.family));
     let name = part.map_or(Span::NOWHERE, |part| part.name);
     let whole = part.map_or(Span::NOWHERE, |part| part.span);
     let start = near.unwrap_or(name.start);
     let position = Span { start, end: start }.position(source);
     let places = outlined.places()?;
-    let mut state = Vec::new(search.alloc);
+    let mut state = Vec::new(alloc);
     push_state(&mut state, &places.words, &failure.state)?;
     Ok(Unfound {
         line: position.line as u64,
         column: position.column as u64,
-        part: Vec::from_slice(search.alloc, name.of(source))?,
+        part: Vec::from_slice(alloc, name.of(source))?,
         is_written: slot.is_none(),
         says: said(failure.duty.demand),
-        due: due_of(search, source, failure),
+        due: due_of(subject, source, failure),
         state,
-        tried: tried_at(search, slot) as u64,
+        tried: tried_at(subject, slot) as u64,
         used: used_in(outlined, whole).map(|used| line_of(source, used.start)),
     })
 }
@@ -162,16 +164,17 @@ fn json_line(alloc: Global, file: &str, unfound: &Unfound) -> Result<Vec<u8>, Al
 
 /// What is said of a condition that no candidate makes hold.
 pub(crate) fn unfound_report(
-    search: &Search<'_>,
+    alloc: Global,
+    subject: &Subject,
     outlined: &Outlined<'_>,
     failure: &Failure,
 ) -> Result<Vec<u8>, AllocError> {
-    let unfound = unfound_of(search, outlined, failure)?;
+    let unfound = unfound_of(alloc, subject, outlined, failure)?;
     let name = outlined.outline.name;
     if outlined.outline.format == Format::Json {
-        return json_line(search.alloc, name, &unfound);
+        return json_line(alloc, name, &unfound);
     }
-    let mut text = Vec::from_slice(search.alloc, name.as_bytes())?;
+    let mut text = Vec::from_slice(alloc, name.as_bytes())?;
     text.push(b':')?;
     push_count(&mut text, unfound.line)?;
     text.push(b':')?;

@@ -3,6 +3,7 @@
 use crate::alive::Candidate;
 use crate::elaborated::FamilyAtoms;
 use crate::search::{Search, cost_of};
+use rg_watch::Watcher;
 use std::alloc::{AllocError, Global};
 
 /// Adds a formula, in parentheses where it needs them.
@@ -82,7 +83,7 @@ pub(crate) fn assertion(
     Ok(text)
 }
 
-impl Search<'_> {
+impl<P: Watcher + Copy> Search<'_, P> {
     /// The assertion of each place.
     pub(crate) fn assertions(&self) -> Result<Vec<Vec<u8>>, AllocError> {
         let mut texts = Vec::new(self.alloc);

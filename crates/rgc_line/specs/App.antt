@@ -50,6 +50,10 @@ condition = field OptionalNumber "condition"
 abbrev pub threads : Rule
 threads = field OptionalNumber "threads"
 
+-- the seconds after which searches are given up
+abbrev pub seconds : Rule
+seconds = field OptionalNumber "seconds"
+
 -- a file for the output
 abbrev pub output : Rule
 output = field OptionalFile "output"
@@ -96,7 +100,7 @@ complete = field Flag "complete"
 
 -- the settings that are numbers
 abbrev pub number_settings : List Rule
-number_settings = threads ∷ []
+number_settings = threads ∷ seconds ∷ []
 
 -- a command with these arguments and no subcommands
 abbrev pub leaf : Text → List Rule → Shape
@@ -107,17 +111,17 @@ abbrev pub row_of : Kind → Shape
 row_of Number = leaf (codes "number") (field File "TEXT" ∷ format ∷ explained ∷ [])
 row_of Check = leaf (codes "check") (field File "TEXT" ∷ field File "DERIVATION" ∷ field Files "PROOFS" ∷ derivation_files ∷ threads ∷ format ∷ explained ∷ [])
 row_of Conditions = leaf (codes "conditions") (field File "TEXT" ∷ field File "DERIVATION" ∷ field Flag "formulas" ∷ derivation_files ∷ format ∷ explained ∷ [])
-row_of Prove = leaf (codes "prove") (field File "TEXT" ∷ field File "DERIVATION" ∷ field NumberOrMillion "steps" ∷ field OptionalText "conditions" ∷ derivation_files ∷ threads ∷ field RepeatedFile "output" ∷ format ∷ explained ∷ [])
+row_of Prove = leaf (codes "prove") (field File "TEXT" ∷ field File "DERIVATION" ∷ field NumberOrMillion "steps" ∷ field OptionalText "conditions" ∷ derivation_files ∷ threads ∷ seconds ∷ field RepeatedFile "output" ∷ format ∷ explained ∷ [])
 row_of Emit = leaf (codes "emit") (field OptionalFile "outline" ∷ field Place "TEXT" ∷ field Place "DERIVATION" ∷ field Places "PROOFS" ∷ derivation_files ∷ threads ∷ output ∷ explained ∷ erase ∷ keep_aux ∷ format ∷ prefix ∷ trace ∷ [])
 row_of Accesses = leaf (codes "accesses") (field OptionalFile "outline" ∷ field Place "TEXT" ∷ field Place "DERIVATION" ∷ field Places "PROOFS" ∷ derivation_files ∷ threads ∷ output ∷ explained ∷ erase ∷ keep_aux ∷ [])
 row_of Run = leaf (codes "run") (field OptionalFile "start" ∷ field OptionalFile "moves" ∷ field NumberOrMillion "limit" ∷ field OptionalFile "draw" ∷ field OptionalFile "outline" ∷ field Place "TEXT" ∷ field Place "DERIVATION" ∷ field Places "PROOFS" ∷ derivation_files ∷ threads ∷ format ∷ explained ∷ seed ∷ erase ∷ [])
 row_of Valid = leaf (codes "valid") (field File "TEXT" ∷ field File "PROOFS" ∷ threads ∷ explained ∷ [])
 row_of Clauses = leaf (codes "clauses") (field File "TEXT" ∷ derivation_files ∷ condition ∷ output ∷ format ∷ explained ∷ [])
-row_of Find = leaf (codes "find") (field File "TEXT" ∷ derivation_files ∷ condition ∷ field NumberOrMillion "steps" ∷ output ∷ explained ∷ [])
-row_of Outline = leaf (codes "outline") (field File "OUTLINE" ∷ field OptionalFile "text" ∷ derivation_files ∷ field RepeatedFile "proofs" ∷ field OptionalFile "map" ∷ threads ∷ [])
-row_of Verify = leaf (codes "verify") (field Files "OUTLINE" ∷ field OptionalNumber "steps" ∷ field Flag "runs-only" ∷ field OptionalFile "text" ∷ threads ∷ format ∷ warnings ∷ accesses ∷ complete ∷ [])
-row_of Complete = leaf (codes "complete") (field File "OUTLINE" ∷ field OptionalNumber "steps" ∷ field Flag "invariant" ∷ field Flag "in-place" ∷ threads ∷ format ∷ warnings ∷ [])
-row_of Challenge = leaf (codes "challenge") (field File "OUTLINE" ∷ field Flag "refused" ∷ threads ∷ format ∷ [])
+row_of Find = leaf (codes "find") (field File "TEXT" ∷ derivation_files ∷ condition ∷ field NumberOrMillion "steps" ∷ seconds ∷ output ∷ explained ∷ [])
+row_of Outline = leaf (codes "outline") (field File "OUTLINE" ∷ field OptionalNumber "steps" ∷ field OptionalFile "text" ∷ derivation_files ∷ field RepeatedFile "proofs" ∷ field OptionalFile "map" ∷ threads ∷ seconds ∷ [])
+row_of Verify = leaf (codes "verify") (field Files "OUTLINE" ∷ field OptionalNumber "steps" ∷ field Flag "runs-only" ∷ field OptionalFile "text" ∷ threads ∷ seconds ∷ format ∷ warnings ∷ accesses ∷ complete ∷ [])
+row_of Complete = leaf (codes "complete") (field File "OUTLINE" ∷ field OptionalNumber "steps" ∷ field Flag "invariant" ∷ field Flag "in-place" ∷ threads ∷ seconds ∷ format ∷ warnings ∷ [])
+row_of Challenge = leaf (codes "challenge") (field File "OUTLINE" ∷ field Flag "refused" ∷ threads ∷ seconds ∷ format ∷ [])
 row_of Explain = leaf (codes "explain") (field NeededNumber "NUMBER" ∷ [])
 
 -- the commands in the order in which the help lists them
@@ -164,7 +168,7 @@ pub record HasSettings (rows : List Row) (settings : Settings) : Type 0 where
   pub output : HasValue rows output.id (optional file settings.output)
   pub format : HasFormat rows settings.format
   pub explained : HasValue rows explained.id (flag settings.is_explained)
-  pub numbers : HasValues rows number_settings (optional number settings.threads ∷ [])
+  pub numbers : HasValues rows number_settings (optional number settings.threads ∷ optional number settings.seconds ∷ [])
   pub warnings : HasValue rows warnings.id (optional file settings.warnings)
   pub seed : HasValue rows seed.id (optional file settings.seed)
   pub erase : HasValue rows erase.id (optional file settings.erase)

@@ -27,6 +27,6 @@ named (AccessesOutline outline) = files (Some outline) None None
 named (RunOutline outline start moves _ _) = record (files (Some outline) None None) { start = start; moves = moves }
 named (Complete outline _ _ _) = files (Some outline) None None
 named (Challenge outline _) = files (Some outline) None None
-named (Outline outline _ _ _ _) = files (Some outline) None None
+named (Outline outline _ _ _ _ _) = files (Some outline) None None
 named (Verify outlines _ _ _) = files (Some outlines.outline) None None
 named (Explain _) = files None None None

@@ -8,8 +8,8 @@ ghost use Rattle.rgc_line.specs.Named.{named};
 ghost use Rattle.rgc_line.specs.declared.fields.FieldFault.TheVariants.{UnknownFormat};
 
 use crate::commands::{
-    COMPLETED, ERASE, EXPLAINED, FORMAT, KEEP_AUX, OUTPUT, PREFIX, SEED, SHOWN_ACCESSES, THREADS,
-    TRACED, WARNINGS,
+    COMPLETED, ERASE, EXPLAINED, FORMAT, KEEP_AUX, OUTPUT, PREFIX, SECONDS, SEED, SHOWN_ACCESSES,
+    THREADS, TRACED, WARNINGS,
 };
 use crate::fields::{FieldFault, is_given, number_or_none, option};
 use clap::ArgMatches;
@@ -54,6 +54,8 @@ pub struct Settings<'a> {
     pub is_explained: bool,
     /// The most threads; one for each processor where it isn't given.
     pub threads: Option<u64>,
+    /// After how many seconds searches are given up.
+    pub seconds: Option<u64>,
     /// Which warnings are given, by the word for it.
     pub warnings: Option<&'a str>,
     /// The word by which one part of a run after another is let go.
@@ -82,6 +84,7 @@ pub const PLAIN: Settings<'static> = Settings {
     format: Format::Plain,
     is_explained: false,
     threads: None,
+    seconds: None,
     warnings: None,
     seed: None,
     erase: None,
@@ -142,6 +145,7 @@ pub fn settings_of<'a>(matches: &ArgMatches<'a>) -> Result<Settings<'a>, FieldFa
         format: format_of(matches)?,
         is_explained: is_given(matches, EXPLAINED.id),
         threads: number_or_none(matches, THREADS.id),
+        seconds: number_or_none(matches, SECONDS.id),
         warnings: option(matches, WARNINGS.id),
         seed: option(matches, SEED.id),
         erase: option(matches, ERASE.id),
@@ -242,6 +246,7 @@ pub enum Command<'a> {
     /// which is written and not read, and the text to the output where none is named for it.
     Outline {
         outline: &'a str,
+        steps: Option<u64>,
         text: Option<&'a str>,
         derivation: Option<&'a str>,
         proofs: Option<&'a str>,

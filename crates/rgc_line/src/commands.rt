@@ -134,6 +134,8 @@ pub const REFUSAL: Field = field!(NeededNumber "NUMBER");
 // Settings, and the files of an output in pieces.
 pub const THREADS: Field = field!(OptionalNumber "threads");
 
+pub const SECONDS: Field = field!(OptionalNumber "seconds");
+
 pub const OUTPUT: Field = field!(OptionalFile "output");
 
 pub const OUTPUTS: Field = field!(RepeatedFile "output");
@@ -200,6 +202,7 @@ pub static COMMANDS: [Row; 15] = [
             CONDITIONS,
             DERIVATION_FILES,
             THREADS,
+            SECONDS,
             OUTPUTS,
             FORMAT,
             EXPLAINED,
@@ -273,18 +276,28 @@ pub static COMMANDS: [Row; 15] = [
     Row {
         kind: Kind::Find,
         name: "find",
-        fields: &[TEXT, DERIVATION_FILES, CONDITION, STEPS, OUTPUT, EXPLAINED],
+        fields: &[
+            TEXT,
+            DERIVATION_FILES,
+            CONDITION,
+            STEPS,
+            SECONDS,
+            OUTPUT,
+            EXPLAINED,
+        ],
     },
     Row {
         kind: Kind::Outline,
         name: "outline",
         fields: &[
             OUTLINE,
+            VERIFY_STEPS,
             WRITTEN_TEXT,
             DERIVATION_FILES,
             WRITTEN_PROOFS,
             MAP,
             THREADS,
+            SECONDS,
         ],
     },
     Row {
@@ -296,6 +309,7 @@ pub static COMMANDS: [Row; 15] = [
             RUNS_ONLY,
             WRITTEN_TEXT,
             THREADS,
+            SECONDS,
             FORMAT,
             WARNINGS,
             SHOWN_ACCESSES,
@@ -311,6 +325,7 @@ pub static COMMANDS: [Row; 15] = [
             INVARIANT,
             IN_PLACE,
             THREADS,
+            SECONDS,
             FORMAT,
             WARNINGS,
         ],
@@ -318,7 +333,7 @@ pub static COMMANDS: [Row; 15] = [
     Row {
         kind: Kind::Challenge,
         name: "challenge",
-        fields: &[OUTLINE, REFUSED, THREADS, FORMAT],
+        fields: &[OUTLINE, REFUSED, THREADS, SECONDS, FORMAT],
     },
     Row {
         kind: Kind::Explain,

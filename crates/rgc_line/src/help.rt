@@ -91,7 +91,7 @@ can't be read or written, or memory is refused. A file named `-` is standard inp
 `rgc help NAME` and `rgc NAME --help` say more of a command.";
 
 /// What is said of a file or an option wherever its command says nothing else.
-static SHARED: [(&str, &str); 17] = [
+static SHARED: [(&str, &str); 18] = [
     (
         "TEXT",
         "the program: its words, its specification and its parts",
@@ -129,6 +129,10 @@ static SHARED: [(&str, &str); 17] = [
         "threads",
         "the most threads, at most 256; without it one for each processor, and\n\
          one for small files. What is printed is the same for any number",
+    ),
+    (
+        "seconds",
+        "the most seconds of all searches: what has no answer then is given up",
     ),
     (
         "output",

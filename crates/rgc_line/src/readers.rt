@@ -140,6 +140,7 @@ fn outline<'a>(matches: &ArgMatches<'a>) -> Command<'a>
 {
     Command::Outline {
         outline: file(matches, OUTLINE.id),
+        steps: number_or_none(matches, VERIFY_STEPS.id),
         text: option(matches, WRITTEN_TEXT.id),
         derivation: option(matches, DERIVATION_FILES.id),
         proofs: option(matches, WRITTEN_PROOFS.id),

@@ -2,12 +2,12 @@
 
 use crate::memory::Memory;
 use crate::replace::{Output, write_outputs};
+use crate::terminal::Terminal;
 use crate::{Means, done_with, is_strict, performed, reported, shown, tell};
-use rg_find::Unwatched;
 use rg_outline_reports::{OutlineSource, Outlined, read_outline};
 use rg_words::{Refusal, RefusalNumber};
 use rgc_commands::{Context, Expanded, Files, Sides};
-use rgc_complete::{Completed, complete, complete_with_invariant};
+use rgc_complete::{Completed, Completion, complete, complete_with_invariant};
 use rgc_line::{Command, Format, Line, Outlines};
 use std::alloc::AllocError;
 use std::sync::Wait;
@@ -56,47 +56,23 @@ pub fn verifying<'a>(line: &Line<'a>) -> Line<'a> {
     }
 }
 
-/// What is said of how many assertions, and conjuncts of the invariant, were found.
-fn count_line(rt: &HostRuntime, line: &Line<'_>, found: Found<'_>) -> Result<String, AllocError> {
-    let alloc = rt.alloc();
-    let (count, conjuncts) = (found.count, found.conjuncts);
-    if line.settings.format == Format::Json {
-        return format!(in alloc;
-            "{{\"conjuncts\":{conjuncts},\"found\":{count},\"kind\":\"completed\"}}\n"
-        );
+/// What is said of the assertions, and of the conjuncts of the invariant, that were found.
+fn said_of(rt: &HostRuntime, line: &Line<'_>, found: &Completion) -> Result<Vec<u8>, AllocError> {
+    match line.settings.format {
+        Format::Plain => found.lines(rt.alloc()),
+        Format::Json => found.json_line(rt.alloc()),
     }
-    let mut said = match count {
-        1 => String::from_str(alloc, "1 assertion was found\n")?,
-        _ => format!(in alloc; "{count} assertions were found\n")?,
-    };
-    match conjuncts {
-        0 => {}
-        1 => said.push_str("1 conjunct of the invariant was found: read what it says\n")?,
-        _ => said.push_str(&format!(in alloc;
-            "{conjuncts} conjuncts of the invariant were found: read what they say\n"
-        )?)?,
-    }
-    Ok(said)
-}
-
-/// An outline that was found.
-#[derive(Clone, Copy)]
-struct Found<'s> {
-    source: &'s [u8],
-    /// How many assertions were added, and how many conjuncts to the invariant.
-    count: usize,
-    conjuncts: usize,
 }
 
 /// Prints an outline that was verified, or puts it into its file, with what is said of it; the status.
 fn delivered<R: Threads + Wait + Sync>(
     means: &Means<'_, '_, '_, R>,
     line: &Line<'_>,
-    found: Found<'_>,
+    found: &Completion,
     verdict: &[u8],
 ) -> Result<u8, AllocError> {
     let (rt, format) = (means.rt, line.settings.format);
-    let said = count_line(rt, line, found)?;
+    let said = said_of(rt, line, found)?;
     match line.command {
         Command::Complete {
             outline,
@@ -105,7 +81,7 @@ fn delivered<R: Threads + Wait + Sync>(
         } => {
             let output = Output {
                 name: outline,
-                bytes: found.source,
+                bytes: &found.source,
                 what: "outline",
             };
             let status = write_outputs(rt, &[output])?;
@@ -113,12 +89,12 @@ fn delivered<R: Threads + Wait + Sync>(
                 return Ok(status);
             }
             let status = shown(rt, format, verdict, 0);
-            Ok(shown(rt, format, said.as_bytes(), status))
+            Ok(shown(rt, format, &said, status))
         }
         _ => {
-            let status = shown(rt, format, found.source, 0);
+            let status = shown(rt, format, &found.source, 0);
             reported(rt, verdict);
-            reported(rt, said.as_bytes());
+            reported(rt, &said);
             Ok(status)
         }
     }
@@ -129,7 +105,7 @@ fn printed<R: Threads + Wait + Sync>(
     means: &Means<'_, '_, '_, R>,
     line: &Line<'_>,
     files: &Files<'_>,
-    found: Found<'_>,
+    found: &Completion,
 ) -> Result<u8, AllocError> {
     let rt = means.rt;
     let mut out = Memory::new(rt.alloc());
@@ -157,7 +133,7 @@ fn done_over_found<'a, R: Threads + Wait + Sync>(
     means: &Means<'_, '_, '_, R>,
     line: &Line<'_>,
     files: Files<'a>,
-    found: Found<'a>,
+    found: &'a Completion,
     expanded: &'a Expanded<'a>,
 ) -> Result<u8, AllocError> {
     if let Command::Complete { .. } = line.command {
@@ -169,8 +145,8 @@ fn done_over_found<'a, R: Threads + Wait + Sync>(
     }
     let status = done_with(means, line, files, expanded)?;
     if status == 0 {
-        let said = count_line(means.rt, line, found)?;
-        return Ok(shown(means.rt, line.settings.format, said.as_bytes(), status));
+        let said = said_of(means.rt, line, found)?;
+        return Ok(shown(means.rt, line.settings.format, &said, status));
     }
     Ok(status)
 }
@@ -181,15 +157,15 @@ fn done_again<R: Threads + Wait + Sync>(
     line: &Line<'_>,
     files: Files<'_>,
     outline: OutlineSource<'_>,
-    found: Found<'_>,
+    found: &Completion,
 ) -> Result<u8, AllocError> {
     let alloc = means.rt.alloc();
     let outline = OutlineSource {
-        source: found.source,
+        source: &found.source,
         ..outline
     };
     let files = Files {
-        text: Some(found.source),
+        text: Some(&found.source),
         ..files
     };
     match read_outline(alloc, outline) {
@@ -217,11 +193,12 @@ fn searched<R: Threads + Wait + Sync>(
     line: &Line<'_>,
     outlined: &Outlined<'_>,
 ) -> Result<Completed, Refusal> {
+    let watcher = Terminal::new(means.rt, means.time, false);
     let context = Context {
         rt: means.threads,
         alloc: means.rt.alloc(),
         threads: means.most,
-        watcher: &Unwatched,
+        watcher: &watcher,
     };
     match line.command {
         Command::Complete {
@@ -241,13 +218,8 @@ pub fn done_completed<R: Threads + Wait + Sync>(
     outlined: &Outlined<'_>,
 ) -> Result<Option<u8>, AllocError> {
     match searched(means, line, outlined) {
-        Ok(Completed::Found(source, count, conjuncts)) => {
-            let found = Found {
-                source: &source,
-                count,
-                conjuncts,
-            };
-            let status = done_again(means, line, files, outlined.outline, found)?;
+        Ok(Completed::Found(found)) => {
+            let status = done_again(means, line, files, outlined.outline, &found)?;
             Ok(Some(status))
         }
         Ok(Completed::Unfound(report)) if report.is_empty() => Ok(None),
@@ -255,6 +227,7 @@ pub fn done_completed<R: Threads + Wait + Sync>(
             reported(means.rt, &report);
             Ok(Some(1))
         }
+        Ok(Completed::GaveUp) => Ok(Some(1)),
         Err(refusal) => Ok(Some(refused(means.rt, refusal)?)),
     }
 }

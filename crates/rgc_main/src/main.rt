@@ -12,6 +12,7 @@ mod place;
 mod replace;
 mod sides;
 mod stack;
+mod terminal;
 mod version;
 
 ghost use Rattle.std.specs.Prelude.{◌≡◌};
@@ -26,7 +27,6 @@ use mentions::clash_of;
 use paint::painted;
 use pieces::{PieceNames, cut_proofs};
 use replace::{Output, write_outputs};
-use rg_find::Watcher;
 use rg_outline_reports::{
     Format as OutlineFormat, Input, Inputs, NoFiles, OutlineSource, Outlined, read_outline,
 };
@@ -42,6 +42,7 @@ use std::process::ExitCode;
 use std::sync::Wait;
 use std::thread::{Builder, Threads, available_parallelism};
 use std::{env, io, thread};
+use terminal::{Terminal, Time, report_over};
 use version::proved_at;
 
 /// Prints what is wrong with the words, or the help that they ask for; the status.
@@ -85,28 +86,6 @@ fn tell_cut_off(rt: &HostRuntime, format: Format) -> u8 {
     }
 }
 
-/// The conflicts between two lines that tell of a search.
-const CONFLICTS_REPORTED: u64 = 1_000;
-
-/// Standard error, where a long search is reported of if it is a terminal.
-#[derive(Clone, Copy)]
-struct Terminal<'a> {
-    rt: &'a HostRuntime,
-    is_terminal: bool,
-    /// The conflicts from which on it is reported of again.
-    next: u64,
-}
-
-impl Watcher for Terminal<'_> {
-    fn searched(&mut self, conflicts: u64, learned: usize) {
-        if !self.is_terminal || conflicts < self.next {
-            return;
-        }
-        self.next = conflicts.saturating_add(CONFLICTS_REPORTED);
-        let _ = eprintln!(self.rt; "{conflicts} conflicts, {learned} learned clauses");
-    }
-}
-
 /// What a command is done with.
 #[derive(Drop)]
 struct Means<'m, 't, 'n, R> {
@@ -114,6 +93,10 @@ struct Means<'m, 't, 'n, R> {
     threads: &'t R,
     /// The most threads for one command.
     most: usize,
+    /// The time of the call.
+    time: &'t Time,
+    /// Whether what is found is printed before a walk.
+    shows: bool,
     /// The files that its output goes to, where it is proofs.
     outputs: &'n [&'n str],
     /// The files that the derivation and the proofs of an outline go to.
@@ -192,11 +175,7 @@ fn performed<R: Threads + Wait + Sync, W: Out, F: Out>(
     ensures { result ≡ 0 → W.failures out.new ≡ W.failures out.old }
 {
     let rt = means.rt;
-    let watcher = Terminal {
-        rt,
-        is_terminal: rt.stderr().is_terminal(),
-        next: CONFLICTS_REPORTED,
-    };
+    let watcher = Terminal::new(rt, means.time, means.shows);
     let context = Context {
         rt: means.threads,
         alloc: rt.alloc(),
@@ -614,6 +593,14 @@ fn misfit_of(line: &Line<'_>, names: &PieceNames<'_>) -> Option<&'static str> {
     }
 }
 
+/// Whether of what is verified the conditions without a proof are printed before runs are followed, which may take long.
+fn shows_early(line: &Line<'_>) -> bool {
+    match line.command {
+        Command::Verify { .. } => line.settings.format == Format::Plain,
+        _ => false,
+    }
+}
+
 /// How a command over a file has ended.
 #[derive(Clone, Copy)]
 struct Ended {
@@ -634,6 +621,7 @@ impl Ended {
 fn run<R: Threads + Wait + Sync>(
     rt: &HostRuntime,
     threads: &R,
+    time: &Time,
     line: &Line<'_>,
     names: &PieceNames<'_>,
 ) -> Result<Ended, AllocError> {
@@ -660,6 +648,8 @@ fn run<R: Threads + Wait + Sync>(
         rt,
         threads,
         most: most_threads(rt, threads, line, &files),
+        time,
+        shows: shows_early(line),
         outputs: &names.outputs,
         derivation: &names.derivation,
         proofs: &names.proofs,
@@ -694,7 +684,8 @@ fn run_words<R: Threads + Wait + Sync>(
         Err(fault) => return Ok(usage(rt, &fault)),
     };
     let names = PieceNames::of(rt.alloc(), words, &first.command)?;
-    let mut ended = run(rt, threads, &first, &names)?;
+    let time = Time::begin(rt, first.settings.seconds);
+    let mut ended = run(rt, threads, &time, &first, &names)?;
     let mut worst = ended.status;
     for place in 1..files_of(&first.command) {
         if ended.is_last {
@@ -704,9 +695,10 @@ fn run_words<R: Threads + Wait + Sync>(
             Ok(line) => line,
             Err(fault) => return Ok(worst.max(usage(rt, &fault))),
         };
-        ended = run(rt, threads, &line, &names)?;
+        ended = run(rt, threads, &time, &line, &names)?;
         worst = worst.max(ended.status);
     }
+    report_over(rt, &time);
     Ok(worst)
 }
 

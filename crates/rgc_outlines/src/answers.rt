@@ -8,11 +8,11 @@ use crate::asked::is_proved;
 use crate::candidates::{Candidate, files_with, nameless, unless_refused};
 use crate::known::Known;
 use crate::walk_text;
-use rg_find::Watcher;
 use rg_outline_challenge::{Between, Change, changed_outline};
 use rg_outline_reports::{Format, OutlineFiles, Outlined, read_outline};
 use rg_pool::deal;
 use rg_walk::{Bounds, BreakingRun, Walked};
+use rg_watch::Watcher;
 use rg_words::Refusal;
 use rgc_answers::Context;
 use std::alloc::{AllocError, Global};
@@ -118,17 +118,19 @@ fn run_lines(
 }
 
 /// A change that isn't proved, with what a walk finds of it.
-fn walked(
-    alloc: Global,
+fn walked<R, P: Watcher + Copy>(
+    context: &Context<'_, R, P>,
     source: &[u8],
     format: Format,
     candidate: &Candidate,
 ) -> Result<Answered, Refusal>
     ensures { IfOk result IsAnswered }
 {
+    let alloc = context.alloc;
+    let mut own = *context.watcher;
     let change = candidate.change;
     let text = Vec::from_slice(alloc, &candidate.text)?;
-    match walk_text(alloc, &text, &[], BOUNDS)? {
+    match walk_text(alloc, &text, &[], BOUNDS, &mut own)? {
         Walked::Breaks(run) => {
             let changed = changed_outline(alloc, source, &change, candidate.between)?;
             let reported = run_lines(alloc, &changed, format, &run)?;
@@ -158,7 +160,7 @@ fn answer_of<R: Threads + Wait + Sync, P: Watcher + Copy>(
 {
     match proved(context, subject, &candidate.change)? {
         Some(answered) => Ok(answered),
-        None => walked(context.alloc, subject.source, subject.format, candidate),
+        None => walked(context, subject.source, subject.format, candidate),
     }
 }
 

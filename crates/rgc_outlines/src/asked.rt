@@ -13,9 +13,10 @@ ghost use Rattle.rgc_outlines.specs.Inner.Proved.{HasProofs};
 
 use crate::derive_outline;
 use crate::known::Known;
-use rg_find::{Judged, Watcher, judge};
+use rg_find::{Judged, judge};
 use rg_outline_reports::OutlineFiles;
 use rg_tree::condition::Condition;
+use rg_watch::Watcher;
 use rg_words::limits::MOST_PROOF_BYTES;
 use rg_words::{Refusal, RefusalNumber, SourceFile};
 use rgc::{Derived, InThreads};

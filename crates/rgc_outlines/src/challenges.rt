@@ -8,12 +8,12 @@ use crate::candidates::{Original, candidates_of};
 use crate::challenge_json::json_lines_of;
 use crate::known::Known;
 use crate::proved::Proved;
-use rg_find::Watcher;
 use rg_outline_challenge::{
     Change, Counts, changes_of, push_change, push_counts, push_survivors, push_unspoken,
 };
 use rg_outline_reports::{Format, OutlineSource, Outlined};
 use rg_outline_syntax::Span;
+use rg_watch::Watcher;
 use rg_words::Refusal;
 use rgc_answers::Context;
 use std::alloc::{AllocError, Global};

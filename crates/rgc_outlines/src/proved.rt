@@ -12,8 +12,8 @@ ghost use Rattle.rgc_outlines.specs.Refused.{IsVerifyRefusal};
 ghost use Rattle.rgc_outlines.specs.Unproved.{AreUnprovedOf};
 
 use crate::derive_outline;
-use rg_find::Watcher;
 use rg_outline_reports::Outlined;
+use rg_watch::Watcher;
 use rg_words::Refusal;
 use rgc::{Derived, Emitted, InThreads, ProofsFound, Unproved, bytes_of_pieces, find_proofs};
 use rgc_answers::Context;

@@ -10,7 +10,8 @@ use rg_find::Judged;
 use rg_outline_reports::{Failed, Failing, Failures, Outlined, values_of};
 use rg_parse::program;
 use rg_walk::Bounds;
-use rg_words::Refusal;
+use rg_watch::Watcher;
+use rg_words::{Refusal, RefusalNumber};
 use rgc::Unproved;
 use std::alloc::{AllocError, Global};
 
@@ -49,6 +50,7 @@ fn lines_if_so(
 ) -> Result<Option<Vec<u8>>, AllocError> {
     match program(alloc, text) {
         Ok(program) => confirmed(alloc, &program.layout, failures),
+        Err(refusal) if refusal.number == RefusalNumber::Memory => Err(AllocError),
         Err(_) => Ok(None),
     }
 }
@@ -86,11 +88,12 @@ fn states_of(alloc: Global, unproved: &[Unproved]) -> Result<Vec<Vec<u64>>, Allo
 /// # Errors
 ///
 /// As `crate::walk_text`.
-pub fn walk_report(
+pub fn walk_report<W: Watcher>(
     alloc: Global,
     outlined: &Outlined<'_>,
     unproved: &[Unproved],
     steps: Option<u64>,
+    watcher: &mut W,
 ) -> Result<WalkedRuns, Refusal>
     // A run is reported only where the program that the outline's text spells doesn't satisfy its specification.
     ensures broken { IfOk result (λ runs. IsTrue runs.is_broken → IsRefuted outlined.now.files.text.items) }
@@ -101,5 +104,5 @@ pub fn walk_report(
         steps: steps.unwrap_or(BOUNDS.steps),
         ..BOUNDS
     };
-    runs_within(alloc, outlined, &states, bounds)
+    runs_within(alloc, outlined, &states, bounds, watcher)
 }

@@ -8,7 +8,8 @@ ghost use Rattle.rgc_outlines.specs.WalkedRefuted.{IsRefuted};
 use rg_outline_reports::{Format, Outlined};
 use rg_parse::program;
 use rg_walk::{Bounds, Walked, walk};
-use rg_words::Refusal;
+use rg_watch::Watcher;
+use rg_words::{Refusal, RefusalNumber};
 use std::alloc::{AllocError, Global};
 
 /// How far a walk goes where conditions have no proof: about five seconds.
@@ -42,16 +43,18 @@ pub struct WalkedRuns {
     pub warnings: Vec<u8>,
 }
 
-/// Walks the program that a text spells, as `rg_walk::walk` does: from these states, too, and no further than these bounds.
+/// Walks the program that a text spells, as `rg_walk::walk` does: from these states, too, no further than these bounds, and as long as the watcher lets
+/// it.
 ///
 /// # Errors
 ///
 /// As `rg_parse::program`; `Memory` where memory is refused.
-pub fn walk_text(
+pub fn walk_text<W: Watcher>(
     alloc: Global,
     text: &[u8],
     given: &[Vec<u64>],
     bounds: Bounds,
+    watcher: &mut W,
 ) -> Result<Walked, Refusal>
     // A run is given only where the text's program doesn't satisfy its specification.
     ensures breaks { IfOk result (λ walked. OnBreaks walked (IsRefuted text.now)) }
@@ -61,7 +64,7 @@ pub fn walk_text(
         Ok(program) => program,
         Err(refusal) => return Err(refusal),
     };
-    let walked = walk(alloc, &program, given, bounds)?;
+    let walked = walk(alloc, &program, given, bounds, watcher)?;
     Ok(walked)
 }
 
@@ -94,20 +97,24 @@ fn bounds_for_stuck(conditions: usize, most: Option<u64>) -> Bounds {
 }
 
 /// Follows runs of an outline's program, of which so many conditions were proved, for a short time, with at most so many steps where a command names them;
-/// and adds a warning to those that there are where one gets stuck. Where warnings are off, or memory is refused, it adds none.
-pub fn push_stuck_warning(
+/// and adds a warning to those that there are where one gets stuck. Where warnings are off it adds none.
+/// An error comes only where memory is refused.
+pub fn push_stuck_warning<W: Watcher>(
     alloc: Global,
     outlined: &Outlined<'_>,
     conditions: usize,
     most: Option<u64>,
     warnings: &mut Vec<u8>,
-) {
+    watcher: &mut W,
+) -> Result<(), AllocError> {
     if !outlined.outline.has_warnings {
-        return;
+        return Ok(());
     }
     let bounds = bounds_for_stuck(conditions, most);
-    if let Ok(walked) = walk_text(alloc, &outlined.files.text, &[], bounds) {
-        let _ = push_stuck(outlined, &walked, warnings);
+    match walk_text(alloc, &outlined.files.text, &[], bounds, watcher) {
+        Ok(walked) => push_stuck(outlined, &walked, warnings),
+        Err(refusal) if refusal.number == RefusalNumber::Memory => Err(AllocError),
+        Err(_) => Ok(()),
     }
 }
 
@@ -116,16 +123,17 @@ pub fn push_stuck_warning(
 /// # Errors
 ///
 /// As `walk_text`.
-pub(crate) fn runs_within(
+pub(crate) fn runs_within<W: Watcher>(
     alloc: Global,
     outlined: &Outlined<'_>,
     given: &[Vec<u64>],
     bounds: Bounds,
+    watcher: &mut W,
 ) -> Result<WalkedRuns, Refusal>
     ensures broken { IfOk result (λ runs. IsTrue runs.is_broken → IsRefuted outlined.now.files.text.items) }
     ensures refused { IfErr result (IsProgramRefusal outlined.now.files.text.items) }
 {
-    let walked = match walk_text(alloc, &outlined.files.text, given, bounds) {
+    let walked = match walk_text(alloc, &outlined.files.text, given, bounds, watcher) {
         Ok(walked) => walked,
         Err(refusal) => return Err(refusal),
     };
@@ -145,10 +153,11 @@ pub(crate) fn runs_within(
 /// # Errors
 ///
 /// Where the outline's text is refused, as any text is. `Memory` where memory is refused.
-pub fn runs_only(
+pub fn runs_only<W: Watcher>(
     alloc: Global,
     outlined: &Outlined<'_>,
     steps: Option<u64>,
+    watcher: &mut W,
 ) -> Result<WalkedRuns, Refusal>
     // A run is reported only where the program that the outline's text spells doesn't satisfy its specification.
     ensures broken { IfOk result (λ runs. IsTrue runs.is_broken → IsRefuted outlined.now.files.text.items) }
@@ -159,5 +168,5 @@ pub fn runs_only(
         with_parts: false,
         ..BOUNDS
     };
-    runs_within(alloc, outlined, &[], bounds)
+    runs_within(alloc, outlined, &[], bounds, watcher)
 }

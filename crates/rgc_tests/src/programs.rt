@@ -7,11 +7,11 @@ ghost use Rattle.rg_tree.specs.ProgramView.{specification};
 
 use crate::program::{DERIVATION, PROOFS, TEXT};
 use rg_code::checked::Checked;
-use rg_find::Unwatched;
 use rg_tree::part::{Part, Spec};
 use rg_tree::program::Program;
 use rg_tree::statement::Stmt;
 use rg_tree::tree::Formula;
+use rg_watch::Unwatched;
 use rg_words::{Layout, Place, Refusal, RefusalNumber, SourceFile};
 use rgc::{
     Derived, Parsed, ProofsFound, accept_program, build_program, failures_text, find_proofs,

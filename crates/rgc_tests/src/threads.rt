@@ -1,7 +1,7 @@
 //! Proofs that are accepted, refused or found by any count of threads, and found range by range: the same answers.
 
 use crate::program::{DERIVATION, LATE_FAULT, PROOFS, TEXT, TWO_FAULTS};
-use rg_find::Unwatched;
+use rg_watch::Unwatched;
 use rg_words::{Place, Refusal, RefusalNumber, SourceFile};
 use rgc::{
     Derived, InThreads, ProofsFound, SearchSettings, accept, accept_all, build_by, derive_program,

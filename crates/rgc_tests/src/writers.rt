@@ -3,7 +3,7 @@
 ghost use Rattle.rg_words.specs.Written.{CanCount};
 
 use crate::commands::{COMMANDS, Printed, Texts};
-use rg_find::Unwatched;
+use rg_watch::Unwatched;
 use rg_words::{Fuse, Out, Taker};
 use rgc_commands::{Context, Sides, perform};
 use rgc_line::{Command, Line, PLAIN};

@@ -26,7 +26,7 @@ abbrev pub IsOverOutline : Command → Type 0
 IsOverOutline (EmitOutline _) = Unit {0}
 IsOverOutline (AccessesOutline _) = Unit {0}
 IsOverOutline (RunOutline _ _ _ _ _) = Unit {0}
-IsOverOutline (Outline _ _ _ _ _) = Unit {0}
+IsOverOutline (Outline _ _ _ _ _ _) = Unit {0}
 IsOverOutline (Verify _ _ _ _) = Unit {0}
 IsOverOutline (Complete _ _ _ _) = Unit {0}
 IsOverOutline (Challenge _ _) = Unit {0}
@@ -86,7 +86,7 @@ IsVerifiedStop outlines (Some text) files (Usage line) = outlines.count ≡ 1 �
 IsVerifiedStop outlines text files _ = ⊥
 
 -- an outline's files aren't derived, or have no proofs where these are wanted
-abbrev pub IsExpandStop : Bool → OutlineFiles → Stop → Type 0
-IsExpandStop has_proofs outline (Refused e) = IsExpandRefusal has_proofs outline MOST_STEPS e
-IsExpandStop has_proofs outline (Unverified report) = (has_proofs ≡ true) × LacksOutlineProofs outline
-IsExpandStop has_proofs outline _ = ⊥
+abbrev pub IsExpandStop : Bool → OutlineFiles → ℕ → Stop → Type 0
+IsExpandStop has_proofs outline steps (Refused e) = IsExpandRefusal has_proofs outline steps e
+IsExpandStop has_proofs outline steps (Unverified report) = (has_proofs ≡ true) × LacksOutlineProofs outline
+IsExpandStop has_proofs outline steps _ = ⊥

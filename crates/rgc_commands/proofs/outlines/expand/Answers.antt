@@ -8,4 +8,4 @@ pub returns-in_err-outlined-clause-stopped : goal.returns-in_err-outlined-clause
 returns-in_err-outlined-clause-stopped g c = λ s o.
     let p = err_from_is_err_and c.from_residual.result c.from_residual.ensures.1 in
     let w = c.args.written in
-    rw (p.1, p.2) (no_outline_stop s (Outline o w.text w.derivation w.proofs w.map) c.args.files.now _ refl (λ lines h. h) c.in_err-outlined.ensures.none)
+    rw (p.1, p.2) (no_outline_stop s (Outline o c.args.steps w.text w.derivation w.proofs w.map) c.args.files.now _ refl (λ lines h. h) c.in_err-outlined.ensures.none)
