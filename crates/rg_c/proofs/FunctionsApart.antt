@@ -46,18 +46,18 @@ Plain t = (stands_in (codes "_run") t ≡ false) × (stands_in (codes "_round") 
 
 plain_rest : (c : ℕ) (t : List ℕ) → Plain (c ∷ t) → Plain t
 plain_rest c t h =
-    ((or_parts (starts_with nat_eq (c ∷ t) (codes "_run")) (stands_in (codes "_run") t) h.0).1, (or_parts (starts_with nat_eq (c ∷ t) (codes "_round")) (stands_in (codes "_round") t) h.1).1)
+    ((or_parts _ _ h.0).1, (or_parts _ _ h.1).1)
 
 -- a text without `_` has no such end
 no_end : (u : List ℕ) (g : Function) (l : List ℕ) → l ≡ u ++ role g → list_any (λ k. nat_eq 95 k) l ≡ false → ⊥
 no_end [] g [] h e = never_empty g h
 no_end [] g (k ∷ l) h e =
-    let other = eqb-false 95 k (or_parts (nat_eq 95 k) (list_any (λ j. nat_eq 95 j) l) e).0 in
+    let other = eqb-false _ _ (or_parts _ _ e).0 in
     other (sym (begins g k l (sym h)))
 no_end (c ∷ u) g [] h e = absurd (cc)
 no_end (c ∷ u) g (k ∷ l) h e =
     let rest : l ≡ u ++ role g = cc in
-    no_end u g l rest (or_parts (nat_eq 95 k) (list_any (λ j. nat_eq 95 j) l) e).1
+    no_end u g l rest (or_parts _ _ e).1
 
 run_found : (u : List ℕ) → stands_in (codes "_run") (95 ∷ 114 ∷ 117 ∷ 110 ∷ u) ≡ true
 run_found u = refl
@@ -114,4 +114,4 @@ apart (c ∷ t) (d ∷ u) f g a b h =
 
 pub functions_stay_apart : FunctionsStayApart
 functions_stay_apart t u f g a b h =
-    apart t u f g (or_parts (stands_in (codes "_run") t) (stands_in (codes "_round") t) a) (or_parts (stands_in (codes "_run") u) (stands_in (codes "_round") u) b) h
+    apart t u f g (or_parts _ _ a) (or_parts _ _ b) h

@@ -1,8 +1,11 @@
 pub mod Locals
 pub mod Targets
+pub mod Givens
+pub mod TogetherRight
+pub mod Merged
+pub mod Assigning
 pub mod StepsRight
 pub mod TextParts
-pub mod Fields
 pub mod Starts
 pub mod Places
 pub mod Fits
@@ -10,4 +13,3 @@ pub mod MovingFits
 pub mod FunctionsApart
 pub mod NamesIn
 pub mod TogetherParts
-pub mod TogetherRight

@@ -26,7 +26,7 @@ or_within w (Some n) p h i = h
 
 if_within : (widths : List ℕ) (k j w n : ℕ) (b : Bool) → nat_eq k j ≡ b → slice_index widths j ≡ w → n < 2 ^ w → Within (slice_index widths k) (if b then Some n else None)
 if_within widths k j w n false e f h = pow_pos (slice_index widths k)
-if_within widths k j w n true e f h = let same : k ≡ j = eqb-true k j e in rw (same, f) h
+if_within widths k j w n true e f h = let same : k ≡ j = eqb-true _ _ e in rw (same, f) h
 
 option_within : (widths : List ℕ) (k : ℕ) (f : Proposition) → IsTyped widths f → Within (slice_index widths k) (given k f)
 option_within widths k (connected And f g) h = or_within (slice_index widths k) (given k f) (given k g) (option_within widths k f h.0) (option_within widths k g h.1)

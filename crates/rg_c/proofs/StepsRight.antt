@@ -1,266 +1,391 @@
--- Done at once, the steps of C make the steps of the program.
-use Rattle.std.proofs.Common.{◌≡◌, ◌≢◌, ℕ, suc, Bool, true, false, not, ◌&&◌, nat_eq, List, [], ◌∷◌, ◌++◌, length, map, get_or, Option, Some, None, refl, ap, sym, subst, ◌∙◌}
-use Rattle.std.specs.Prelude.{slice_index, slice_set, if◌then◌else◌}
+-- Done at once, the statements of a step make the step of the program, and those of a test answer its question.
+use Rattle.std.proofs.Common.{◌≡◌, ◌≢◌, ℕ, zero, suc, ◌+◌, ◌<◌, Bool, true, false, not, ◌&&◌, ◌||◌, nat_eq, List, [], ◌∷◌, ◌++◌, length, map, Option, Some, None, refl, ap, sym, subst, ◌∙◌, arith}
+use Rattle.std.specs.Prelude.{slice_index, slice_set, replicate, codes, if◌then◌else◌}
+use Rattle.std.specs.List.{list_any, range_with_len}
 use Rattle.std.specs.Option.{option_map_or}
-use Rattle.std.proofs.lemmas.List.{get_or-set_other}
-use Rattle.std.proofs.lemmas.Bool.{or_parts, or_right}
+use Rattle.std.proofs.lemmas.Bool.{or_right, eqb-true, eq-eqb}
+use Rattle.std.proofs.lemmas.List.{length-map, length-set}
+use Rattle.std.proofs.lemmas.List.FromFn.{length-map-range_with_len}
 use Rattle.rg_words.specs.Layout.{Word, widths_of, IsLayout}
 use Rattle.rg_words.specs.States.{IsState}
-use Rattle.rg_tree.specs.Trees.{Expression, Proposition, Assignment, number, word, next_word, inverse, binary, shifted, choice}
-use Rattle.rg_tree.specs.Typing.{HasWidth, IsTyped}
-use Rattle.rg_tree.specs.Meaning.{value_of, holds}
+use Rattle.rg_words.proofs.Values.{length-AreValues}
+use Rattle.rg_tree.specs.Trees.{Proposition, Assignment}
 use Rattle.rg_tree.specs.ConditionTrees.{assigned, AssignmentsTyped}
-use Rattle.rg_tree.specs.Traces.{State}
-use Rattle.rg_tree.proofs.Steps.{set_values}
-use Rattle.rg_tree.proofs.Widths.{values_within}
-use Rattle.rg_c_values.specs.CTrees.{CValue, CTest}
+use Rattle.rg_tree.specs.Traces.{State, holds_at}
+use Rattle.rg_c_values.specs.declared.print.Read.{Read}
+use Rattle.rg_c_values.specs.declared.print.Read.TheVariants.{Plain, Load as Loaded, Local}
+use Rattle.rg_c_values.specs.CTrees.{CTest, c_truth, c_not, c_joined, c_compared}
 use Rattle.rg_c_values.specs.Translation.{test_in_c}
-use Rattle.rg_c_values.specs.Arithmetic.{c_value, c_holds}
-use Rattle.rg_c_values.proofs.Right.{stores_are_right, tests_are_right}
+use Rattle.rg_c_values.specs.Arithmetic.{c_holds}
+use Rattle.rg_c_values.proofs.Right.{tests_are_right as tests_right}
 use Rattle.rg_c_plan.specs.declared.kind.Kind.{Kind}
 use Rattle.rg_c_plan.specs.declared.way.Way.{Way}
 use Rattle.rg_c_plan.specs.declared.way.Way.TheVariants.{Direct, Load, Store, Exchange, Select, Section}
-use Rattle.rg_c_plan.specs.Changes.{ChangeTree, is_word, moving, change_by, change_of}
-use Rattle.rg_c_plan.specs.Accesses.{reads, writes}
-use Rattle.rg_c_plan.specs.Ways.{kind_at, is_atomic, has_atomic_accesses, times_assigned, way_at, exposes_another, first_exposed, in_section, way_from, way_of}
-use Rattle.rg_c.specs.Actions.{Action, loads, begins, copies, changes, writes as writing, stores, exchanges, returns, when, Machine, sees, local_set, word_set, acted, all_acted, begun, done}
-use Rattle.rg_c.specs.declared.actions.Target.{Target}
-use Rattle.rg_c.specs.declared.actions.Target.TheVariants.{Word as ToWord, Local as ToLocal}
-use Rattle.rg_c.specs.Steps.{is_in, targets_beside, value_for, tested, given, assigned_to, step_by, test_of}
-use Rattle.rg_c.specs.Laws.{is_open, IsTypedGuard, StepsAreRight}
-use Rattle.rg_c.proofs.Locals.{seen_none, seen_set, seen_back, seen_written, no_locals, no_local, set_same, length_set}
-use Rattle.rg_c.proofs.Targets.{eq_self, itself, AgreeBeside, agree_taken, agree_all, not_assigned, untouched, moving_assigned, moving_typed}
+use Rattle.rg_c_plan.specs.Changes.{moving}
+use Rattle.rg_c_plan.specs.Accesses.{reads, writes, places}
+use Rattle.rg_c_plan.specs.Ways.{kind_at, is_atomic, has_atomic_accesses, times_assigned, way_at, exposes_another, first_exposed, in_section, way_from, way_of, met_words}
+use Rattle.rg_c.specs.declared.tree.Target.TheVariants.{Word as ToWord, Local as ToLocal}
+use Rattle.rg_c.specs.declared.tree.Flag.TheVariants.{Done, Go}
+use Rattle.rg_c.specs.CStatements.{asks, flag, CStatement, nothing, ◌⨾◌, reading, remark, hook, loads, discards, begins, copies, exchanges, returns, declares, decides, breaks, block, forever, when, either, each}
+use Rattle.rg_c_report.specs.Counts.{is_section}
+use Rattle.rg_c.specs.Assigned.{GivenTree, given_of, assigned_to, is_in, targets_beside}
+use Rattle.rg_c.specs.Reads.{is_one_load, load_reads, kind_read, kind_reads, with_locals, local_reads}
+use Rattle.rg_c.specs.Together.{all_given, is_local, has_local}
+use Rattle.rg_c.specs.Used.{is_used, test_reads}
+use Rattle.rg_c.specs.Meaning.{Machine, begun, sees, local_set, word_set, flag_set, Outcome, on, leaves, waits, next, around, exchanged, run, Step, made, none, ended, done}
+use Rattle.rg_c.specs.Steps.{is_true, marked, waiting, awaits, entered, left, held_reads, if_done, held, held_step, loaded, changed, tested, attempted, exchanging, bare, step_by, test_of, names_text, section_note, step_of}
+use Rattle.rg_c.specs.Questions.{is_bare, reads_loaded, loaded_reads, before, question}
+use Rattle.rg_c.specs.Laws.{is_open, IsTypedGuard, StepsAreRight, TestsAreRight, questioned}
+use Rattle.rg_c.proofs.Locals.{seen_plain, copied, copies_seen, length_copied, returned, returned_seen, no_locals}
+use Rattle.rg_c.proofs.Targets.{Covered, covered, local_in, none_local, beside_local, moving_assigned, moving_typed}
+use Rattle.rg_c.proofs.Givens.{then_on}
+use Rattle.rg_c.proofs.Assigning.{Written, words_right, written_right, Stands, Kept, locals_right}
 
-acted_both : (as_ bs : List Action) (m : Machine) → all_acted (as_ ++ bs) m ≡ all_acted bs (all_acted as_ m)
-acted_both [] bs m = refl
-acted_both (a ∷ as_) bs m = acted_both as_ bs (acted a m)
-
--- the words are s, and t is seen
-record Stands (s t : State) (m : Machine) : Type 0 where
-  memory : m.memory ≡ s
-  sight : sees m ≡ t
-  count : length m.locals ≡ length s
-
--- a local that gets a value is seen
-local_stands : (s t : State) (m : Machine) (k x : ℕ) → Stands s t m → Stands s (slice_set t k x) (local_set m k x)
-local_stands s t m k x h = record {
-  memory = h.memory;
-  sight = seen_set m.memory m.locals k x (h.count ∙ sym (ap length h.memory)) ∙ ap (λ u. slice_set u k x) h.sight;
-  count = length_set m.locals k (Some x) ∙ h.count;
-}
-
--- a local that gets its word's value makes no difference
-copy_stands : (s : State) (m : Machine) (k : ℕ) → Stands s s m → Stands s s (local_set m k (slice_index m.memory k))
-copy_stands s m k h =
-    subst (λ u. Stands s u (local_set m k (slice_index m.memory k)))
-    (ap (λ u. slice_set s k (slice_index u k)) h.memory ∙ set_same s k)
-    (local_stands s s m k (slice_index m.memory k) h)
-
-copies_stand : (s : State) (ks : List ℕ) (m : Machine) → Stands s s m → Stands s s (all_acted (map copies ks) m)
-copies_stand s [] m h = h
-copies_stand s (k ∷ ks) m h = copies_stand s ks (local_set m k (slice_index m.memory k)) (copy_stands s m k h)
-
-made : (t : CTest) (holding : Bool) (u : State) (r v : State) → c_holds t u ≡ holding → r ≡ v → (if c_holds t u then Some r else None) ≡ (if holding then Some v else None)
-made t holding u r v e f = rw (e, f) refl
-
-length_assigned : (act : List Assignment) (s : State) → length (assigned act s) ≡ length s
-length_assigned [] s = refl
-length_assigned (a ∷ act) s = length_assigned act (slice_set s a.target (value_of a.value s s)) ∙ length_set s a.target (value_of a.value s s)
-
-begun_stands : (s : State) → Stands s s (begun s)
-begun_stands s = record { memory = refl; sight = seen_none s; count = count s }
+-- no word is read from its local
+one_load : (n k : ℕ) → list_any is_local (slice_set (replicate n Plain) k Loaded) ≡ false
+one_load zero zero = refl
+one_load zero (suc k) = refl
+one_load (suc n) zero = none n
   where
-    count : (s : State) → length (no_locals s) ≡ length s
-    count [] = refl
-    count (x ∷ s) = ap suc (count s)
+    none : (n : ℕ) → list_any is_local (replicate n Plain) ≡ false
+    none zero = refl
+    none (suc n) = none n
+one_load (suc n) (suc k) = one_load n k
 
--- a test is typed, if there is one, and a change has this width
-abbrev TestTyped : List ℕ → Option Proposition → Type 0
-TestTyped widths None = Unit {0}
-TestTyped widths (Some f) = IsTyped widths f
-
-abbrev ChangeTyped : List ℕ → ChangeTree → ℕ → Type 0
-ChangeTyped widths c w = TestTyped widths c.test × HasWidth widths c.value w
-
-typed_by : (widths : List ℕ) (k : ℕ) (e : Expression) (w : ℕ) → HasWidth widths e w → ChangeTyped widths (change_by k e) w
-typed_by widths k (number v n) w h = (tt, h)
-typed_by widths k (word j) w h = (tt, h)
-typed_by widths k (next_word j) w h = (tt, h)
-typed_by widths k (inverse v a) w h = (tt, h)
-typed_by widths k (binary o v a b) w h = (tt, h)
-typed_by widths k (shifted d v a n) w h = (tt, h)
-typed_by widths k (choice f a b) w h = by (is_word k b)
+by_kinds : (kinds : List Kind) (ks : List ℕ) → list_any is_local (map (kind_read kinds) ks) ≡ false
+by_kinds kinds [] = refl
+by_kinds kinds (k ∷ ks) = rw (one (has_atomic_accesses (kind_at kinds k))) (by_kinds kinds ks)
   where
-    by : (t : Bool) → ChangeTyped widths (if t then record { test = Some f; value = a } else record { test = None; value = choice f a b }) w
-    by true = (h.0, h.1)
-    by false = (tt, h)
+    one : (b : Bool) → is_local (if b then Loaded else Plain) ≡ false
+    one true = refl
+    one false = refl
 
--- where its test holds, a word is changed to the value; else it is left alone
-record Changed (s : State) (k : ℕ) (e : Expression) (c : ChangeTree) : Type 0 where
-  made : is_open c.test s ≡ true → value_of c.value s s ≡ value_of e s s
-  left : is_open c.test s ≡ false → slice_index s k ≡ value_of e s s
+-- a test that is always true is so
+always : (t : CTest) (s : State) → is_true t ≡ true → c_holds t s ≡ true
+always (c_truth b) s h = h
+always (c_not t) s h = cc h
+always (c_joined j t u) s h = cc h
+always (c_compared c a b) s h = cc h
 
-changed_by : (s : State) (k : ℕ) (e : Expression) → Changed s k e (change_by k e)
-changed_by s k (number v n) = record { made = λ h. refl; left = λ h. cc h }
-changed_by s k (word j) = record { made = λ h. refl; left = λ h. cc h }
-changed_by s k (next_word j) = record { made = λ h. refl; left = λ h. cc h }
-changed_by s k (inverse v a) = record { made = λ h. refl; left = λ h. cc h }
-changed_by s k (binary o v a b) = record { made = λ h. refl; left = λ h. cc h }
-changed_by s k (shifted d v a n) = record { made = λ h. refl; left = λ h. cc h }
-changed_by s k (choice f a b) = by (is_word k b) refl
-  where
-    taken : (t : Bool) → t ≡ true → value_of a s s ≡ (if t then value_of a s s else value_of b s s)
-    taken true h = refl
-    taken false h = cc h
-
-    kept : (t : Bool) → t ≡ false → slice_index s k ≡ value_of b s s → slice_index s k ≡ (if t then value_of a s s else value_of b s s)
-    kept true h e = cc h
-    kept false h e = e
-
-    by : (t : Bool) → is_word k b ≡ t → Changed s k (choice f a b) (if t then record { test = Some f; value = a } else record { test = None; value = choice f a b })
-    by true e = record { made = λ h. taken (holds f s s) h; left = λ h. kept (holds f s s) h (sym (itself k b s e)) }
-    by false e = record { made = λ h. refl; left = λ h. cc h }
-
-module _ (words : List Word) (layout : IsLayout words) (kinds : List Kind) where
-  -- what C gives a word for an assignment
-  value_right : (a : Assignment) (s : State) → IsState words s → HasWidth (widths_of words) a.value (slice_index (widths_of words) a.target) → c_value (value_for (widths_of words) a) s ≡ value_of (change_of a).value s s
-  value_right a s st h = (stores_are_right words s layout st (change_of a).value (slice_index (widths_of words) a.target) (typed_by (widths_of words) a.target a.value (slice_index (widths_of words) a.target) h).1).0
-
-  -- an action with a test is done where that holds
-  tested_right : (test : Option Proposition) (action : Action) (t : State) (m : Machine) → IsState words t → TestTyped (widths_of words) test → sees m ≡ t →
-      acted (tested (widths_of words) test action) m ≡ (if is_open test t then acted action m else m)
-  tested_right None action t m st h e = refl
-  tested_right (Some f) action t m st h e =
-      ap (λ b. if b then acted action m else m) (ap (c_holds (test_in_c (widths_of words) f)) e ∙ tests_are_right words t layout st f h)
-
-  next_state : (a : Assignment) (act : List Assignment) (s : State) → IsState words s → AssignmentsTyped (widths_of words) (a ∷ act) → IsState words (slice_set s a.target (value_of a.value s s))
-  next_state a act s st h =
-      set_values (widths_of words) s a.target (value_of a.value s s) st h.0
-      (values_within (widths_of words) s s a.value (slice_index (widths_of words) a.target) h.1 st st)
-
-  -- a word gets a value, by a store or plainly
-  word_given : (k : ℕ) (v : CValue) (m : Machine) → acted (given kinds ToWord k v) m ≡ word_set m k (c_value v (sees m))
-  word_given k v m = by (has_atomic_accesses (kind_at kinds k))
+module _ (words : List Word) (reads : List Read) where
+  mark_on : (mark : List ℕ) (m : Machine) → run words reads (marked mark) m ≡ on m
+  mark_on mark m = by (nat_eq (length mark) 0)
     where
-      by : (b : Bool) → acted (if b then stores k v else writing k v) m ≡ word_set m k (c_value v (sees m))
+      by : (b : Bool) → run words reads (if b then nothing else hook mark) m ≡ on m
       by true = refl
       by false = refl
 
-  -- an assignment to a word sets it
-  word_assigned : (a : Assignment) (t : State) (m : Machine) → IsState words t → HasWidth (widths_of words) a.value (slice_index (widths_of words) a.target) → m.memory ≡ t → sees m ≡ t →
-      acted (assigned_to (widths_of words) kinds ToWord a) m ≡ word_set m a.target (value_of a.value t t)
-  word_assigned a t m st h memory sight =
-      tested_right (change_of a).test (given kinds ToWord a.target v) t m st (typed_by (widths_of words) a.target a.value (slice_index (widths_of words) a.target) h).0 sight
-      ∙ by (is_open (change_of a).test t) refl
+  -- copies, and what is returned
+  copies_run : (ks : List ℕ) (m : Machine) → run words reads (each copies ks) m ≡ on (record m { locals = copied ks m.memory m.locals })
+  copies_run [] m = refl
+  copies_run (k ∷ ks) m = copies_run ks (local_set m k (slice_index m.memory k))
+
+  returns_run : (ks : List ℕ) (m : Machine) → run words reads (each returns ks) m ≡ on (record m { memory = returned ks m.memory m.locals })
+  returns_run [] m = refl
+  returns_run (k ∷ ks) m = returns_run ks (word_set m k (slice_index m.locals k))
+
+  -- waiting for a test
+  awaits_run : (mark : List ℕ) (t : CTest) (m : Machine) (b : Bool) → c_holds t (sees reads m) ≡ b → run words reads (awaits (marked mark) t) m ≡ (if b then on m else waits m)
+  awaits_run mark t m b e = by (is_true t) refl
     where
-      v : CValue
-      v = value_for (widths_of words) a
+      after : (b : Bool) → around (next (if b then leaves m else on m) (run words reads waiting)) ≡ (if b then on m else waits m)
+      after true = refl
+      after false = refl
 
-      change : Changed t a.target a.value (change_of a)
-      change = changed_by t a.target a.value
+      by : (c : Bool) → is_true t ≡ c → run words reads (if c then marked mark else forever (marked mark ⨾ when (asks t) breaks ⨾ waiting)) m ≡ (if b then on m else waits m)
+      by true f = mark_on mark m ∙ ap (λ p. if p then on m else waits m) (sym (always t (sees reads m) f) ∙ e)
+      by false f = ap around (then_on _ (mark_on mark m)) ∙ ap (λ p. around (next (if p then leaves m else on m) (run words reads waiting))) e ∙ after b
 
-      by : (b : Bool) → is_open (change_of a).test t ≡ b → (if b then acted (given kinds ToWord a.target v) m else m) ≡ word_set m a.target (value_of a.value t t)
-      by true e = word_given a.target v m ∙ ap (word_set m a.target) (ap (c_value v) sight ∙ value_right a t st h ∙ change.made e)
-      by false e =
-          ap (λ u. let n : Machine = record { memory = u; locals = m.locals } in n) (sym (ap (λ x. slice_set m.memory a.target x) (sym (change.left e) ∙ ap (λ u. slice_index u a.target) (sym memory)) ∙ set_same m.memory a.target))
+  -- what is done where the step is made
+  if_done_made : (empty : Bool) (c : CStatement) (m : Machine) → m.is_done ≡ true → (empty ≡ true → run words reads c m ≡ on m) → run words reads (if_done empty c) m ≡ run words reads c m
+  if_done_made true c m h e = sym (e refl)
+  if_done_made false c m h e = ap (λ p. if p then run words reads c m else on m) h
 
-  -- an assignment to a local changes what is seen
-  local_assigned : (a : Assignment) (s t : State) (m : Machine) → IsState words t → HasWidth (widths_of words) a.value (slice_index (widths_of words) a.target) → Stands s t m →
-      Stands s (slice_set t a.target (value_of a.value t t)) (acted (assigned_to (widths_of words) kinds ToLocal a) m)
-  local_assigned a s t m st h stands =
-      subst (Stands s (slice_set t a.target (value_of a.value t t))) (sym done_so) (by (is_open (change_of a).test t) refl)
-    where
-      v : CValue
-      v = value_for (widths_of words) a
+  if_done_none : (empty : Bool) (c : CStatement) (m : Machine) → m.is_done ≡ false → run words reads (if_done empty c) m ≡ on m
+  if_done_none true c m h = refl
+  if_done_none false c m h = ap (λ p. if p then run words reads c m else on m) h
 
-      change : Changed t a.target a.value (change_of a)
-      change = changed_by t a.target a.value
+module _ (words : List Word) (layout : IsLayout words) (kinds : List Kind) (s : State) (st : IsState words s) where
+  abbrev kinds_read : List Read
+  kinds_read = kind_reads words kinds
 
-      done_so : acted (assigned_to (widths_of words) kinds ToLocal a) m ≡ (if is_open (change_of a).test t then acted (given kinds ToLocal a.target v) m else m)
-      done_so = tested_right (change_of a).test (given kinds ToLocal a.target v) t m st (typed_by (widths_of words) a.target a.value (slice_index (widths_of words) a.target) h).0 stands.sight
+  -- a step of the program, or none
+  abbrev stepped : List Assignment → Bool → Step
+  stepped act b = if b then made (assigned act s) else none s
 
-      by : (b : Bool) → is_open (change_of a).test t ≡ b → Stands s (slice_set t a.target (value_of a.value t t)) (if b then acted (given kinds ToLocal a.target v) m else m)
-      by true e =
-          let same : c_value v (sees m) ≡ value_of a.value t t = ap (c_value v) stands.sight ∙ value_right a t st h ∙ change.made e in
-          subst (λ x. Stands s (slice_set t a.target x) (acted (changes a.target v) m)) same (local_stands s t m a.target (c_value v (sees m)) stands)
-      by false e = subst (λ u. Stands s u m) (sym (ap (slice_set t a.target) (sym (change.left e)) ∙ set_same t a.target)) stands
+  plain : list_any is_local kinds_read ≡ false
+  plain = by_kinds kinds (places words)
 
-  changes_stand : (act : List Assignment) (s t : State) (m : Machine) → IsState words t → AssignmentsTyped (widths_of words) act → Stands s t m → Stands s (assigned act t) (all_acted (map (assigned_to (widths_of words) kinds ToLocal) act) m)
-  changes_stand [] s t m st h stands = stands
-  changes_stand (a ∷ act) s t m st h stands =
-      changes_stand act s (slice_set t a.target (value_of a.value t t)) (acted (assigned_to (widths_of words) kinds ToLocal a) m) (next_state a act t st h) h.2 (local_assigned a s t m st h.1 stands)
+  sizes : length kinds_read ≡ length s
+  sizes = length-map-range_with_len (kind_read kinds) 0 (length words) ∙ sym (length-map words _) ∙ length-AreValues (widths_of words) s st
 
-  -- words without locals are written in their order
-  writes_right : (act : List Assignment) (t : State) (m : Machine) → IsState words t → AssignmentsTyped (widths_of words) act → m.memory ≡ t → sees m ≡ t →
-      ((k : ℕ) → writes k act ≡ true → get_or m.locals k None ≡ None) → (all_acted (map (assigned_to (widths_of words) kinds ToWord) act) m).memory ≡ assigned act t
-  writes_right [] t m st h memory sight free = memory
-  writes_right (a ∷ act) t m st h memory sight free =
-      let x = value_of a.value t t in
-      ap (λ u. (all_acted (map (assigned_to (widths_of words) kinds ToWord) act) u).memory) (word_assigned a t m st h.1 memory sight)
-      ∙ writes_right act (slice_set t a.target x) (word_set m a.target x) (next_state a act t st h) h.2
-      (ap (λ u. slice_set u a.target x) memory)
-      (seen_written m.memory m.locals a.target x (free a.target (own a)) ∙ ap (λ u. slice_set u a.target x) sight)
-      (λ k w. free k (later k w))
-    where
-      own : (a : Assignment) → writes a.target (a ∷ act) ≡ true
-      own a = rw (eq_self a.target) refl
+  sees_plain : sees kinds_read (begun s) ≡ s
+  sees_plain = seen_plain kinds_read s (no_locals s) plain
 
-      later : (k : ℕ) → writes k act ≡ true → writes k (a ∷ act) ≡ true
-      later k w = or_right (nat_eq k a.target) (writes k act) w
+  -- how a step begins, that leaves the words alone, and after which they are seen
+  record Entry (reads : List Read) (enter : CStatement) (m : Machine) : Type 0 where
+    to : Machine
+    run_is : run words reads enter m ≡ on to
+    memory : to.memory ≡ s
+    sight : sees reads to ≡ s
 
-  -- what a step makes of a state in which its test is holding
-  module _ (s : State) (st : IsState words s) where
-    plain_right : (act : List Assignment) → AssignmentsTyped (widths_of words) act → (all_acted (map (assigned_to (widths_of words) kinds ToWord) act) (begun s)).memory ≡ assigned act s
-    plain_right act h =
-        let b = begun_stands s in
-        writes_right act s (begun s) st h b.memory b.sight (λ k w. no_local s k)
+  -- a load into a local, or one that isn't read
+  entry_of : (x : ℕ) (used : Bool) (goes : ℕ → Bool) → Entry (held_reads words kinds (Load x) used) (entered (Load x) used) (record (begun s) { goes = goes })
+  entry_of x true goes = record {
+    to = local_set (record (begun s) { goes = goes }) x (slice_index s x);
+    run_is = refl;
+    memory = refl;
+    sight = copies_seen (x ∷ []) kinds_read s (no_locals s) sizes (length-map s _) sees_plain;
+  }
+  entry_of x false goes = record { to = record (begun s) { goes = goes }; run_is = refl; memory = refl; sight = sees_plain }
 
-    loaded_right : (x : ℕ) (act : List Assignment) → writes x act ≡ false → AssignmentsTyped (widths_of words) act → (all_acted (map (assigned_to (widths_of words) kinds ToWord) act) (acted (loads x) (begun s))).memory ≡ assigned act s
-    loaded_right x act e h =
-        let l = copy_stands s (begun s) x (begun_stands s) in
-        writes_right act s (acted (loads x) (begun s)) st h l.memory l.sight free
+  module _ (mark : List ℕ) (t : CTest) (b : Bool) (e : c_holds t s ≡ b) where
+    always_so : is_true t ≡ true → true ≡ b
+    always_so f = sym (always t s f) ∙ e
+
+    module _ (act : List Assignment) (h : AssignmentsTyped (widths_of words) act) where
+      abbrev gs : List GivenTree
+      gs = map (given_of (widths_of words)) act
+
+      abbrev all : CStatement
+      all = all_given words kinds 0 gs
+
+      -- a step without locals
+      bare_right : done words (bare words kinds (marked mark) t gs) s ≡ stepped act b
+      bare_right = ap (λ o. ended (next o (run words kinds_read all))) (awaits_run words kinds_read mark t (begun s) b (ap (c_holds t) sees_plain ∙ e)) ∙ after b
+        where
+          local : has_local kinds_read gs ≡ false
+          local = none_local kinds_read gs plain
+
+          w : Written words layout kinds kinds_read act s (begun s)
+          w = words_right words layout kinds kinds_read act s (begun s) st h refl sees_plain local
+
+          after : (b : Bool) → ended (next (if b then on (begun s) else waits (begun s)) (run words kinds_read all)) ≡ stepped act b
+          after true = ap ended (written_right words layout kinds kinds_read act s (begun s) w local) ∙ ap made w.memory
+          after false = refl
+
+      -- a step from this beginning to this end
+      held_right : (reads : List Read) (enter leave : CStatement) → has_local reads gs ≡ false → Entry reads enter (begun s) → ((m : Machine) → run words reads leave m ≡ on m) →
+          ended (run words reads (held (marked mark) enter leave t (nat_eq (length gs) 0) all) (begun s)) ≡ stepped act b
+      held_right reads enter leave local entry leaving = by (is_true t) refl
+        where
+          empty : Bool
+          empty = nat_eq (length gs) 0
+
+          ending : CStatement
+          ending = if_done empty all ⨾ leave ⨾ when (flag Done) breaks ⨾ waiting
+
+          tested : Bool → Machine
+          tested p = flag_set entry.to Done p
+
+          written : (m : Machine) → m.memory ≡ s → sees reads m ≡ s → Written words layout kinds reads act s m
+          written m memory sight = words_right words layout kinds reads act s m st h memory sight local
+
+          none_given : (act : List Assignment) (m : Machine) → let gs = map (given_of (widths_of words)) act in nat_eq (length gs) 0 ≡ true → run words reads (all_given words kinds 0 gs) m ≡ on m
+          none_given [] m q = refl
+          none_given (a ∷ act) m q = absurd (omega (arith, eqb-true _ 0 q))
+
+          after : (b : Bool) → ended (around (run words reads ending (tested b))) ≡ stepped act b
+          after true =
+              let w = written (tested true) entry.memory entry.sight in
+              ap (λ o. ended (around o)) (
+              then_on _ (if_done_made words reads empty all (tested true) refl (none_given act (tested true)) ∙ written_right words layout kinds reads act s (tested true) w local)
+              ∙ then_on _ (leaving w.to)
+              ∙ ap (λ p. next (if p then leaves w.to else on w.to) (run words reads waiting)) w.done
+              )
+              ∙ ap made w.memory
+          after false = ap (λ o. ended (around o)) (then_on _ (if_done_none words reads empty all (tested false) refl) ∙ then_on _ (leaving (tested false))) ∙ ap none entry.memory
+
+          by : (p : Bool) → is_true t ≡ p → ended (run words reads (if p then block (marked mark ⨾ enter ⨾ all ⨾ leave) else forever (declares Done ⨾ marked mark ⨾ enter ⨾ decides Done t ⨾ ending)) (begun s)) ≡ stepped act b
+          by true f =
+              let w = written entry.to entry.memory entry.sight in
+              ap ended (then_on _ (mark_on words reads mark (begun s)) ∙ then_on _ entry.run_is ∙ then_on _ (written_right words layout kinds reads act s entry.to w local) ∙ leaving w.to)
+              ∙ ap made w.memory
+              ∙ ap (stepped act) (always_so f)
+          by false f =
+              ap (λ o. ended (around o)) (then_on _ (mark_on words reads mark (begun s)) ∙ then_on _ entry.run_is ∙ ap (λ p. run words reads ending (tested p)) (ap (c_holds t) entry.sight ∙ e))
+              ∙ after b
+
+      section_right : done words (held_step words kinds (marked mark) Section true t gs) s ≡ stepped act b
+      section_right =
+          held_right kinds_read (entered Section true) (left Section) (none_local kinds_read gs plain) (record { to = begun s; run_is = refl; memory = refl; sight = sees_plain }) (λ m. refl)
+
+      loaded_right : (x : ℕ) → writes x act ≡ false → done words (loaded words kinds (marked mark) x t gs) s ≡ stepped act b
+      loaded_right x free = by (nat_eq (length gs) 0) (is_one_load x t) refl
+        where
+          local : (used : Bool) → has_local (held_reads words kinds (Load x) used) gs ≡ false
+          local true = beside_local kinds_read (widths_of words) x act plain free
+          local false = none_local kinds_read gs plain
+
+          used : Bool
+          used = is_used x t gs
+
+          held_so : done words (held_step words kinds (marked mark) (Load x) used t gs) s ≡ stepped act b
+          held_so = held_right (held_reads words kinds (Load x) used) (entered (Load x) used) nothing (local used) (entry_of x used (λ place. false)) (λ m. refl)
+
+          -- a test that loads a word once
+          sight : sees (load_reads words x) (begun s) ≡ s
+          sight = seen_plain (load_reads words x) s (no_locals s) (one_load (length words) x)
+
+          after : (b : Bool) (act : List Assignment) → nat_eq (length (map (given_of (widths_of words)) act)) 0 ≡ true → ended (if b then on (begun s) else waits (begun s)) ≡ stepped act b
+          after true [] q = refl
+          after true (a ∷ act) q = absurd (omega (arith, eqb-true _ 0 q))
+          after false act q = refl
+
+          by : (p o : Bool) → nat_eq (length gs) 0 ≡ p → done words (if p && o then reading (load_reads words x) (awaits (marked mark) t) else held_step words kinds (marked mark) (Load x) used t gs) s ≡ stepped act b
+          by true true q = ap ended (awaits_run words (load_reads words x) mark t (begun s) b (ap (c_holds t) sight ∙ e)) ∙ after b act q
+          by true false q = held_so
+          by false o q = held_so
+
+      exchange_right : (x : ℕ) → done words (exchanging words kinds (marked mark) x t gs) s ≡ stepped act b
+      exchange_right x =
+          ap (λ o. ended (around o)) (then_on _ (mark_on words reads mark (begun s)) ∙ then_on _ (copies_run words reads ks (local_set (record (begun s) { old = slice_index s x }) x (slice_index s x))))
+          ∙ after (is_true t) b refl e
+        where
+          ks : List ℕ
+          ks = targets_beside (x ∷ []) gs
+
+          reads : List Read
+          reads = local_reads words kinds (x ∷ ks)
+
+          copies_made : Machine
+          copies_made = record (begun s) { locals = copied (x ∷ ks) s (no_locals s); old = slice_index s x }
+
+          c : CStatement
+          c = changed kinds x ks gs
+
+          empty : Bool
+          empty = nat_eq (length ks) 0
+
+          leaving : Machine → Outcome
+          leaving = run words reads (when (flag Done) breaks)
+
+          sight : sees reads copies_made ≡ s
+          sight = copies_seen (x ∷ ks) kinds_read s (no_locals s) sizes (length-map s _) sees_plain
+
+          size : length reads ≡ length s
+          size = all_length (x ∷ ks) kinds_read ∙ sizes
+            where
+              all_length : (ks : List ℕ) (reads : List Read) → length (with_locals reads ks) ≡ length reads
+              all_length [] reads = refl
+              all_length (k ∷ ks) reads = all_length ks (slice_set reads k Local) ∙ length-set reads k Local
+
+          all_covered : Covered reads gs
+          all_covered =
+              covered reads (x ∷ []) gs (λ k less m. local_in (x ∷ ks) kinds_read k (below less) (first k m)) (λ k less m. local_in (x ∷ ks) kinds_read k (below less) (or_right (nat_eq k x) (is_in k ks) m))
+            where
+              below : {k : ℕ} → k < length reads → k < length kinds_read
+              below less = omega (arith, less, size, sizes)
+
+              first : (k : ℕ) → is_in k (x ∷ []) ≡ true → is_in k (x ∷ ks) ≡ true
+              first k m = by (nat_eq k x) m
+                where
+                  by : (p : Bool) → (p || false) ≡ true → (p || is_in k ks) ≡ true
+                  by true q = refl
+                  by false q = cc q
+
+          kept : Kept words layout kinds reads act s s copies_made
+          kept =
+              locals_right words layout kinds reads act s s copies_made (size ∙ sym (length-AreValues (widths_of words) s st)) st h
+              (record { memory = refl; sight = sight; count = length_copied (x ∷ ks) s (no_locals s) ∙ length-map s _ }) all_covered
+
+          -- the exchange is made, as nothing came between
+          exchange_made : Machine
+          exchange_made = flag_set (word_set kept.to x (slice_index kept.to.locals x)) Done true
+
+          exchange_is : exchanged x kept.to ≡ exchange_made
+          exchange_is =
+              let same : nat_eq (slice_index kept.to.memory x) kept.to.old ≡ true =
+              ap (λ u. nat_eq (slice_index u x) kept.to.old) kept.stands.memory ∙ ap (nat_eq (slice_index s x)) kept.old ∙ eq-eqb (slice_index s x) (slice_index s x) refl in
+              ap (λ p. if p then exchange_made else flag_set kept.to Done false) same
+
+          all_made : Machine
+          all_made = record exchange_made { memory = returned ks exchange_made.memory exchange_made.locals }
+
+          made_run : run words reads c copies_made ≡ on all_made
+          made_run =
+              then_on (run words reads (exchanges x ⨾ if_done empty (each returns ks))) kept.run_is
+              ∙ then_on (run words reads (if_done empty (each returns ks))) (ap on exchange_is)
+              ∙ if_done_made words reads empty (each returns ks) exchange_made refl (none_returned ks)
+              ∙ returns_run words reads ks exchange_made
+            where
+              none_returned : (ks : List ℕ) → nat_eq (length ks) 0 ≡ true → run words reads (each returns ks) exchange_made ≡ on exchange_made
+              none_returned [] q = refl
+              none_returned (k ∷ ks) q = absurd (omega (arith, eqb-true _ 0 q))
+
+          memory : all_made.memory ≡ assigned act s
+          memory =
+              ap (λ u. returned ks (slice_set u x (slice_index kept.to.locals x)) kept.to.locals) kept.stands.memory
+              ∙ returned_seen (x ∷ ks) kinds_read s kept.to.locals sizes kept.stands.count plain
+              ∙ ap (λ u. sees reads (record kept.to { memory = u })) (sym kept.stands.memory)
+              ∙ kept.stands.sight
+
+          ending : run words reads c copies_made ≡ on all_made → ended (around (next (run words reads c copies_made) leaving)) ≡ made (assigned act s)
+          ending q = ap (λ o. ended (around (next o leaving))) q ∙ ap made memory
+
+          after : (p b : Bool) → is_true t ≡ p → c_holds t s ≡ b → ended (around (next (run words reads (if p then c else either (asks t) c waiting) copies_made) leaving)) ≡ stepped act b
+          after true true f e = ending made_run
+          after true false f e = let no = always t s f in cc
+          after false true f e = ap (λ p. ended (around (next (if p then run words reads c copies_made else on copies_made) leaving))) (ap (c_holds t) sight ∙ e) ∙ ending made_run
+          after false false f e = ap (λ p. ended (around (next (if p then run words reads c copies_made else on copies_made) leaving))) (ap (c_holds t) sight ∙ e)
+
+      -- each way does the same, where a word that is loaded isn't written
+      way_right : (way : Way) → ((x : ℕ) → way ≡ Load x → writes x act ≡ false) → done words (step_by words kinds (marked mark) way t gs) s ≡ stepped act b
+      way_right Direct free = bare_right
+      way_right Select free = bare_right
+      way_right (Store x) free = bare_right
+      way_right Section free = section_right
+      way_right (Load x) free = loaded_right x (free x refl)
+      way_right (Exchange x) free = exchange_right x
+
+    -- a question that stands in the `if` itself
+    bare_question : (reads : List Read) → sees reads (begun s) ≡ s → ended (run words reads (marked mark ⨾ either (asks t) nothing breaks) (begun s)) ≡ stepped [] b
+    bare_question reads sight =
+        ap ended (then_on _ (mark_on words reads mark (begun s)) ∙ ap (λ p. if p then on (begun s) else leaves (begun s)) (ap (c_holds t) sight ∙ e)) ∙ after b
       where
-        free : (k : ℕ) → writes k act ≡ true → get_or (slice_set (no_locals s) x (Some (slice_index s x))) k None ≡ None
-        free k w = get_or-set_other (no_locals s) x k (Some (slice_index s x)) None (apart k w) ∙ no_local s k
-          where
-            apart : (k : ℕ) → writes k act ≡ true → k ≢ x
-            apart k w same = let f : writes k act ≡ false = rw same e in cc
+        after : (b : Bool) → ended (if b then on (begun s) else leaves (begun s)) ≡ stepped [] b
+        after true = refl
+        after false = refl
 
-    -- locals go back to their words, one by one
-    returns_right : (ks : List ℕ) (t : State) (m : Machine) → length m.memory ≡ length t → sees m ≡ t → AgreeBeside ks m.memory t → (all_acted (map returns ks) m).memory ≡ t
-    returns_right [] t m e sight agree = agree_all m.memory t e agree
-    returns_right (k ∷ ks) t m e sight agree =
-        let back : slice_set m.memory k (slice_index (sees m) k) ≡ slice_set m.memory k (slice_index t k) = ap (λ u. slice_set m.memory k (slice_index u k)) sight in
-        returns_right ks t (acted (returns k) m)
-        (length_set m.memory k (slice_index (sees m) k) ∙ e)
-        (seen_back m.memory m.locals k ∙ sight)
-        (subst (λ u. AgreeBeside ks u t) (sym back) (agree_taken ks m.memory t k e agree))
+    -- one that is worked out before
+    worked_question : (reads : List Read) (enter leave : CStatement) (place : ℕ) → Entry reads enter (flag_set (begun s) (Go place) false) → ((m : Machine) → run words reads leave m ≡ on m) →
+        ended (run words reads ((declares (Go place) ⨾ block (marked mark ⨾ enter ⨾ decides (Go place) t ⨾ leave)) ⨾ either (flag (Go place)) nothing breaks) (begun s)) ≡ stepped [] b
+    worked_question reads enter leave place entry leaving =
+        ap ended (
+        then_on _ (then_on _ (mark_on words reads mark begins) ∙ then_on _ entry.run_is ∙ then_on (run words reads leave) (ap (λ p. on (flag_set entry.to (Go place) p)) (ap (c_holds t) entry.sight ∙ e)) ∙ leaving decided)
+        ∙ ap (λ p. if p then on decided else leaves decided) (ap (λ p. if p then b else entry.to.goes place) (eq-eqb place place refl))
+        )
+        ∙ after b
+      where
+        begins : Machine
+        begins = flag_set (begun s) (Go place) false
 
-    exchanged_right : (x : ℕ) (act : List Assignment) (m : Machine) → AssignmentsTyped (widths_of words) act → Stands s s m →
-        (all_acted (map returns (targets_beside (x ∷ []) act)) (all_acted (map (assigned_to (widths_of words) kinds ToLocal) act ++ exchanges x ∷ []) m)).memory ≡ assigned act s
-    exchanged_right x act m h stands =
-        let ks = targets_beside (x ∷ []) act in
-        let t = assigned act s in
-        let n = all_acted (map (assigned_to (widths_of words) kinds ToLocal) act) m in
-        let c : Stands s t n = changes_stand act s s m st h stands in
-        let all : length n.memory ≡ length t = ap length c.memory ∙ sym (length_assigned act s) in
-        let agree : AgreeBeside (x ∷ ks) n.memory t = λ j out. let d = or_parts (nat_eq j x) (is_in j ks) out in ap (λ u. get_or u j 0) c.memory ∙ sym (untouched act s j (not_assigned (x ∷ []) act j (rw d.0 refl) d.1)) in
-        ap (λ u. (all_acted (map returns ks) u).memory) (acted_both (map (assigned_to (widths_of words) kinds ToLocal) act) (exchanges x ∷ []) m)
-        ∙ returns_right (x ∷ ks) t n all c.sight agree
+        decided : Machine
+        decided = flag_set entry.to (Go place) b
 
-    -- each way does the same, where a word that is loaded isn't written
-    way_right : (way : Way) (t : CTest) (act : List Assignment) (holding : Bool) → c_holds t s ≡ holding → ((x : ℕ) → way ≡ Load x → writes x act ≡ false) → AssignmentsTyped (widths_of words) act →
-        done (step_by (widths_of words) kinds way t act) s ≡ (if holding then Some (assigned act s) else None)
-    way_right Direct t act holding e fits h = made t holding _ _ _ (ap (c_holds t) (seen_none s) ∙ e) (plain_right act h)
-    way_right Section t act holding e fits h = made t holding _ _ _ (ap (c_holds t) (seen_none s) ∙ e) (plain_right act h)
-    way_right Select t act holding e fits h = made t holding _ _ _ (ap (c_holds t) (seen_none s) ∙ e) (plain_right act h)
-    way_right (Store x) t act holding e fits h = made t holding _ _ _ (ap (c_holds t) (seen_none s) ∙ e) (plain_right act h)
-    way_right (Load x) t act holding e fits h =
-        let l = copy_stands s (begun s) x (begun_stands s) in
-        made t holding _ _ _ (ap (c_holds t) l.sight ∙ e) (loaded_right x act (fits x refl) h)
-    way_right (Exchange x) t act holding e fits h =
-        let l = copies_stand s (targets_beside (x ∷ []) act) (acted (begins x) (begun s)) (copy_stands s (begun s) x (begun_stands s)) in
-        made t holding _ _ _ (ap (c_holds t) l.sight ∙ e) (exchanged_right x act (all_acted (map copies (targets_beside (x ∷ []) act)) (acted (begins x) (begun s))) h l)
+        after : (b : Bool) → ended (if b then on decided else leaves decided) ≡ stepped [] b
+        after true = ap made entry.memory
+        after false = ap none entry.memory
+
+    question_right : (way : Way) (place : ℕ) → done words (reading (loaded_reads words kinds way t) (before (marked mark) place way t ⨾ either (question place way t) nothing breaks)) s ≡ stepped [] b
+    question_right Direct place = bare_question kinds_read sees_plain
+    question_right Select place = bare_question kinds_read sees_plain
+    question_right (Store x) place = worked_question kinds_read nothing nothing place (record { to = flag_set (begun s) (Go place) false; run_is = refl; memory = refl; sight = sees_plain }) (λ m. refl)
+    question_right (Exchange x) place = worked_question kinds_read nothing nothing place (record { to = flag_set (begun s) (Go place) false; run_is = refl; memory = refl; sight = sees_plain }) (λ m. refl)
+    question_right Section place =
+        worked_question kinds_read (entered Section true) (left Section) place (record { to = flag_set (begun s) (Go place) false; run_is = refl; memory = refl; sight = sees_plain }) (λ m. refl)
+    question_right (Load x) place = by (is_one_load x t)
+      where
+        used : Bool
+        used = test_reads x t
+
+        go : CStatement
+        go = declares (Go place) ⨾ block (marked mark ⨾ entered (Load x) used ⨾ decides (Go place) t ⨾ nothing)
+
+        by : (p : Bool) →
+            done words (reading (if p then load_reads words x else held_reads words kinds (Load x) used) ((if p then marked mark else go) ⨾ either (if p then asks t else flag (Go place)) nothing breaks)) s ≡ stepped [] b
+        by true = bare_question (load_reads words x) (seen_plain (load_reads words x) s (no_locals s) (one_load (length words) x))
+        by false = worked_question (held_reads words kinds (Load x) used) (entered (Load x) used) nothing place (entry_of x used (λ j. if nat_eq j place then false else false)) (λ m. refl)
 
 -- a word that a step loads isn't written
 loaded_free : (kinds : List Kind) (guard : Option Proposition) (act : List Assignment) (x : ℕ) → way_of kinds guard act ≡ Load x → writes x act ≡ false
@@ -285,11 +410,24 @@ loaded_free kinds guard act x e = by_section (in_section kinds guard act) (first
 
 guard_right : (words : List Word) (guard : Option Proposition) (s : State) → IsLayout words → IsState words s → IsTypedGuard words guard → c_holds (test_of (widths_of words) guard) s ≡ is_open guard s
 guard_right words None s layout st h = refl
-guard_right words (Some f) s layout st h = tests_are_right words s layout st f h.0
+guard_right words (Some f) s layout st h = tests_right words s layout st f h.0
+
+note_on : (words : List Word) (kinds : List Kind) (guard : Option Proposition) (act : List Assignment) (m : Machine) → run words [] (section_note words kinds guard act) m ≡ on m
+unfolding section_note
+note_on words kinds guard act m = by (is_section (way_of kinds guard act))
+  where
+    by : (b : Bool) → run words [] (if b then remark (codes "a critical section, for " ++ names_text words (met_words kinds guard act)) else nothing) m ≡ on m
+    by true = refl
+    by false = refl
 
 pub steps_are_right : StepsAreRight
-steps_are_right words kinds guard act s layout st g h =
+unfolding step_of
+steps_are_right words kinds mark guard act s layout st g h =
     let moves = moving act in
-    way_right words layout kinds s st (way_of kinds guard moves) (test_of (widths_of words) guard) moves (is_open guard s) (guard_right words guard s layout st g)
-    (loaded_free kinds guard moves) (moving_typed (widths_of words) act h)
-    ∙ ap (λ t. if is_open guard s then Some t else None) (moving_assigned act s)
+    ap ended (then_on _ (note_on words kinds guard moves (begun s)))
+    ∙ way_right words layout kinds s st mark (test_of (widths_of words) guard) (is_open guard s) (guard_right words guard s layout st g) moves (moving_typed (widths_of words) act h) (way_of kinds guard moves) (loaded_free kinds guard moves)
+    ∙ ap (λ t. if is_open guard s then made t else none s) (moving_assigned act s)
+
+pub tests_are_right : TestsAreRight
+tests_are_right words kinds mark place f s layout st h =
+    question_right words layout kinds s st mark (test_in_c (widths_of words) f) (holds_at f s) (tests_right words s layout st f h.0) (way_of kinds (Some f) []) place

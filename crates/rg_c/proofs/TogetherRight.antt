@@ -1,215 +1,183 @@
--- Actions that are written as one store do what it does.
+-- Assignments that are together one store to an item of an array do what it does.
 use Rattle.std.proofs.Common.{◌≡◌, ◌∙◌, ℕ, zero, suc, ◌+◌, ◌-◌, ◌%◌, ◌^◌, ◌<◌, ◌≤◌, Bool, true, false, not, ◌&&◌, ◌||◌, cond, nat_eq, List, [], ◌∷◌, length, take, Option, Some, None, inl, inr, refl, ap, sym, subst, arith}
 use Rattle.std.specs.Prelude.{nat_lt, slice_index, slice_set, if◌then◌else◌}
 use Rattle.std.specs.Option.{option_map_or}
-use Rattle.std.proofs.lemmas.Bool.{and_parts, or_parts, eqb-true, eqb-false, cases_eq, cases_lt}
-use Rattle.std.proofs.lemmas.Bool.Decides.{nat_tests}
+use Rattle.std.proofs.lemmas.Bool.{not-true, and_parts, or_parts, eqb-true, eqb-false, eq-eqb, ne_eqb, lt-ltb, cases_eq, cases_lt}
+use Rattle.std.proofs.lemmas.List.{get_or-set_other}
 use Rattle.rg_words.specs.Layout.{Word}
 use Rattle.rg_words.specs.States.{IsState}
 use Rattle.rg_tree.specs.Traces.{State}
+use Rattle.rg_c_plan.specs.declared.kind.Kind.{Kind}
+use Rattle.rg_c_values.specs.declared.print.Read.{Read}
 use Rattle.rg_c_values.specs.CTrees.{CValue, CTest, c_literal, c_word, c_cast, c_inverse, c_binary, c_rest, c_shifted, c_choice, c_truth, c_not, c_joined, c_compared}
 use Rattle.rg_c_values.specs.Arithmetic.{c_value, c_holds, c_operated, c_moved, c_is_so, c_joins}
 use Rattle.rg_c_values.specs.Arrays.{array_length}
-use Rattle.rg_c_values.specs.Items.{is_value, is_at, is_below}
+use Rattle.rg_c_values.specs.Items.{is_value, is_at, is_below, read_of}
 use Rattle.rg_c_values.proofs.ItemsRight.{same_value, at_is, below, all_at, lt_from}
-use Rattle.rg_c.specs.Actions.{Action, loads, begins, copies, changes, writes, stores, exchanges, returns, when, Machine, seen, sees, word_set, acted, all_acted}
+use Rattle.rg_c.specs.declared.tree.Target.TheVariants.{Word as ToWord}
+use Rattle.rg_c.specs.CStatements.{asks, item, CStatement, ◌⨾◌, nothing, writes, stores, when, each}
+use Rattle.rg_c.specs.Assigned.{GivenTree, is_stored, given, assigned_to}
 use Rattle.rg_c.specs.Used.{value_reads, test_reads}
-use Rattle.rg_c.specs.Together.{ItemTree, item_of, gives, gives_at, gives_from, is_apart, is_together, together, StoresAreTogether}
+use Rattle.rg_c.specs.Together.{ItemTree, item_given, item_of, gives_at, gives_from, is_apart, is_together, together, is_local, has_local, StoresAreTogether}
+use Rattle.rg_c.specs.Meaning.{Machine, seen, sees, word_set, Outcome, on, waits, next, run}
+use Rattle.rg_c.proofs.Locals.{seen_written}
+use Rattle.rg_c.proofs.Givens.{word_kept, given_right, then_on}
 
-suc_apart : (k j : ℕ) → (suc k ≡ suc j → ⊥) → k ≡ j → ⊥
-suc_apart k j ne e = ne (ap suc e)
-
-index_apart : (s : State) (k j x : ℕ) → (k ≡ j → ⊥) → slice_index (slice_set s k x) j ≡ slice_index s j
-index_apart [] zero j x ne = refl
-index_apart [] (suc k) j x ne = refl
-index_apart (y ∷ s) zero zero x ne = absurd (ne refl)
-index_apart (y ∷ s) zero (suc j) x ne = refl
-index_apart (y ∷ s) (suc k) zero x ne = refl
-index_apart (y ∷ s) (suc k) (suc j) x ne = index_apart s k j x (suc_apart k j ne)
-
--- another word is seen as before
-seen_apart : (s : State) (ls : List (Option ℕ)) (k j x : ℕ) → (k ≡ j → ⊥) → slice_index (seen (slice_set s k x) ls) j ≡ slice_index (seen s ls) j
-seen_apart [] ls zero j x ne = refl
-seen_apart [] ls (suc k) j x ne = refl
-seen_apart (y ∷ s) [] zero zero x ne = absurd (ne refl)
-seen_apart (y ∷ s) [] zero (suc j) x ne = refl
-seen_apart (y ∷ s) [] (suc k) zero x ne = refl
-seen_apart (y ∷ s) [] (suc k) (suc j) x ne = index_apart s k j x (suc_apart k j ne)
-seen_apart (y ∷ s) (None ∷ ls) zero zero x ne = absurd (ne refl)
-seen_apart (y ∷ s) (None ∷ ls) zero (suc j) x ne = refl
-seen_apart (y ∷ s) (None ∷ ls) (suc k) zero x ne = refl
-seen_apart (y ∷ s) (None ∷ ls) (suc k) (suc j) x ne = seen_apart s ls k j x (suc_apart k j ne)
-seen_apart (y ∷ s) (Some z ∷ ls) zero zero x ne = absurd (ne refl)
-seen_apart (y ∷ s) (Some z ∷ ls) zero (suc j) x ne = refl
-seen_apart (y ∷ s) (Some z ∷ ls) (suc k) zero x ne = refl
-seen_apart (y ∷ s) (Some z ∷ ls) (suc k) (suc j) x ne = seen_apart s ls k j x (suc_apart k j ne)
-
-module _ (s : State) (ls : List (Option ℕ)) (k x : ℕ) where
+module _ (s : State) (k x : ℕ) where
   abbrev after : State
-  after = seen (slice_set s k x) ls
-
-  abbrev before : State
-  before = seen s ls
+  after = slice_set s k x
 
   mutual
     -- a value that doesn't read a word is the same after the word was changed
-    value_stays : (v : CValue) → value_reads k v ≡ false → c_value v after ≡ c_value v before
+    value_stays : (v : CValue) → value_reads k v ≡ false → c_value v after ≡ c_value v s
     value_stays (c_literal n) h = refl
-    value_stays (c_word c j) h = seen_apart s ls k j x (eqb-false k j h)
+    value_stays (c_word c j) h = get_or-set_other s k j x 0 (λ e. eqb-false _ _ h (sym e))
     value_stays (c_cast n v) h = ap (λ y. y % 2 ^ n) (value_stays v h)
     value_stays (c_inverse g v) h = ap (λ y. 2 ^ g - 1 - y) (value_stays v h)
     value_stays (c_binary o g a b) h =
-        let parts = or_parts (value_reads k a) (value_reads k b) h in
-        ap (λ y. c_operated o g y (c_value b after)) (value_stays a parts.0) ∙ ap (c_operated o g (c_value a before)) (value_stays b parts.1)
+        let parts = or_parts _ _ h in
+        ap (λ y. c_operated o g y (c_value b after)) (value_stays a parts.0) ∙ ap (c_operated o g (c_value a s)) (value_stays b parts.1)
     value_stays (c_rest g v n) h = ap (λ y. y % n) (value_stays v h)
     value_stays (c_shifted d g v j) h = ap (λ y. c_moved d g y j) (value_stays v h)
     value_stays (c_choice t a b) h =
-        let parts = or_parts (test_reads k t) (value_reads k a || value_reads k b) h in
-        let sides = or_parts (value_reads k a) (value_reads k b) parts.1 in
+        let parts = or_parts _ _ h in
+        let sides = or_parts _ _ parts.1 in
         ap (λ p. cond p (c_value a after) (c_value b after)) (test_stays t parts.0)
-        ∙ ap (λ y. cond (c_holds t before) y (c_value b after)) (value_stays a sides.0)
-        ∙ ap (cond (c_holds t before) (c_value a before)) (value_stays b sides.1)
+        ∙ ap (λ y. cond (c_holds t s) y (c_value b after)) (value_stays a sides.0)
+        ∙ ap (cond (c_holds t s) (c_value a s)) (value_stays b sides.1)
 
-    test_stays : (t : CTest) → test_reads k t ≡ false → c_holds t after ≡ c_holds t before
+    test_stays : (t : CTest) → test_reads k t ≡ false → c_holds t after ≡ c_holds t s
     test_stays (c_truth b) h = refl
     test_stays (c_not t) h = ap not (test_stays t h)
     test_stays (c_joined j t u) h =
-        let parts = or_parts (test_reads k t) (test_reads k u) h in
-        ap (λ p. c_joins j p (c_holds u after)) (test_stays t parts.0) ∙ ap (c_joins j (c_holds t before)) (test_stays u parts.1)
+        let parts = or_parts _ _ h in
+        ap (λ p. c_joins j p (c_holds u after)) (test_stays t parts.0) ∙ ap (c_joins j (c_holds t s)) (test_stays u parts.1)
     test_stays (c_compared c a b) h =
-        let parts = or_parts (value_reads k a) (value_reads k b) h in
-        ap (λ y. c_is_so c y (c_value b after)) (value_stays a parts.0) ∙ ap (c_is_so c (c_value a before)) (value_stays b parts.1)
-
-not_true : (b : Bool) → not b ≡ true → b ≡ false
-not_true true h = cc h
-not_true false h = refl
+        let parts = or_parts _ _ h in
+        ap (λ y. c_is_so c y (c_value b after)) (value_stays a parts.0) ∙ ap (c_is_so c (c_value a s)) (value_stays b parts.1)
 
 or_second : (b c : Bool) → (b || c) ≡ true → b ≡ false → c ≡ true
 or_second true c h e = cc e
 or_second false c h e = h
 
-differ : (x i : ℕ) → (x ≡ i → ⊥) → nat_eq x i ≡ false
-differ x i ne = grind (arith, nat_tests, ne)
+module _ (words : List Word) (kinds : List Kind) (reads : List Read) (it : ItemTree) where
+  abbrev index : Machine → ℕ
+  index m = c_value it.index (sees reads m)
 
-same : (x i : ℕ) → x ≡ i → nat_eq x i ≡ true
-same x i e = grind (arith, nat_tests, e)
+  abbrev value : Machine → ℕ
+  value m = c_value it.value (sees reads m)
 
--- an action that gives a word the value does that
-gives_is : (it : ItemTree) (k : ℕ) (a : Action) (m : Machine) → gives it k a ≡ true → acted a m ≡ word_set m k (c_value it.value (sees m))
-gives_is it k (stores j v) m q =
-    let parts = and_parts (nat_eq j k) (is_value it.value v) (and_parts it.stored (nat_eq j k && is_value it.value v) q).1 in
-    ap (λ i. word_set m i (c_value v (sees m))) (eqb-true j k parts.0) ∙ ap (λ u. word_set m k (c_value u (sees m))) (sym (same_value it.value v parts.1))
-gives_is it k (writes j v) m q =
-    let parts = and_parts (nat_eq j k) (is_value it.value v) (and_parts (not it.stored) (nat_eq j k && is_value it.value v) q).1 in
-    ap (λ i. word_set m i (c_value v (sees m))) (eqb-true j k parts.0) ∙ ap (λ u. word_set m k (c_value u (sees m))) (sym (same_value it.value v parts.1))
-gives_is it k (loads j) m q = cc q
-gives_is it k (begins j) m q = cc q
-gives_is it k (copies j) m q = cc q
-gives_is it k (changes j v) m q = cc q
-gives_is it k (exchanges j) m q = cc q
-gives_is it k (returns j) m q = cc q
-gives_is it k (when t a) m q = cc q
+  -- an assignment of an item is done where the index is its number, and only there
+  at_test : (i : ℕ) (t : Option CTest) (c : CStatement) (m : Machine) → option_map_or (is_at it.index i) t false ≡ true →
+      run words reads (option_map_or (λ t. when (asks t) c) t c) m ≡ (if nat_eq (index m) i then run words reads c m else on m)
+  at_test i None c m q = cc q
+  at_test i (Some t) c m q = ap (λ b. if b then run words reads c m else on m) (at_is (sees reads m) it.index i t q)
 
--- one that does so where the index is i, does it there
-at_index : (it : ItemTree) (i : ℕ) (a : Action) (m : Machine) → gives_at it i a ≡ true → nat_eq (c_value it.index (sees m)) i ≡ true →
-    acted a m ≡ word_set m (it.first + i) (c_value it.value (sees m))
-at_index it i (when t a) m q e =
-    let parts = and_parts (is_at it.index i t) (gives it (it.first + i) a) q in
-    ap (λ b. if b then acted a m else m) (at_is (sees m) it.index i t parts.0 ∙ e) ∙ gives_is it (it.first + i) a m parts.1
-at_index it i (loads j) m q e = cc q
-at_index it i (begins j) m q e = cc q
-at_index it i (copies j) m q e = cc q
-at_index it i (changes j v) m q e = cc q
-at_index it i (writes j v) m q e = cc q
-at_index it i (stores j v) m q e = cc q
-at_index it i (exchanges j) m q e = cc q
-at_index it i (returns j) m q e = cc q
+  -- and gives the value
+  abbrev Gives : ℕ → GivenTree → Type 0
+  Gives i g = (g.word ≡ it.first + i) × (is_value it.value g.value ≡ true)
 
--- and elsewhere nothing
-beside_index : (it : ItemTree) (i : ℕ) (a : Action) (m : Machine) → gives_at it i a ≡ true → nat_eq (c_value it.index (sees m)) i ≡ false → acted a m ≡ m
-beside_index it i (when t a) m q e =
-    let parts = and_parts (is_at it.index i t) (gives it (it.first + i) a) q in
-    ap (λ b. if b then acted a m else m) (at_is (sees m) it.index i t parts.0 ∙ e)
-beside_index it i (loads j) m q e = cc q
-beside_index it i (begins j) m q e = cc q
-beside_index it i (copies j) m q e = cc q
-beside_index it i (changes j v) m q e = cc q
-beside_index it i (writes j v) m q e = cc q
-beside_index it i (stores j v) m q e = cc q
-beside_index it i (exchanges j) m q e = cc q
-beside_index it i (returns j) m q e = cc q
+  gives : (i : ℕ) (g : GivenTree) → gives_at kinds it i g ≡ true → Gives i g
+  gives i g q = let parts = and_parts _ _ (and_parts _ _ (and_parts _ _ q).1).1 in (eqb-true _ _ parts.0, parts.1)
 
--- the first of such actions, and those behind it
-first_gives : (it : ItemTree) (n i : ℕ) (a : Action) (actions : List Action) → i < n → gives_from it n i (a ∷ actions) ≡ true → (gives_at it i a ≡ true) × (gives_from it n (i + 1) actions ≡ true)
-first_gives it n i a actions less q =
-    let more : nat_eq i n ≡ false = differ i n (λ e. omega (arith, less, e)) in
-    and_parts (gives_at it i a) (gives_from it n (i + 1) actions) (or_second (nat_eq i n) (gives_at it i a && gives_from it n (i + 1) actions) q more)
+  gives_is : (i : ℕ) (g : GivenTree) (m : Machine) → Gives i g → is_local (read_of reads g.word) ≡ false → run words reads (given kinds ToWord g.word g.value) m ≡ on (word_set m (it.first + i) (value m))
+  gives_is i g m q local =
+      given_right words kinds reads ToWord g.word g.value m (word_kept reads m g.word local)
+      ∙ ap (λ k. on (word_set m k (c_value g.value (sees reads m)))) q.0
+      ∙ ap (λ v. on (word_set m (it.first + i) (c_value v (sees reads m)))) (sym (same_value it.value g.value q.1))
 
--- behind the index nothing is done
-passed : (it : ItemTree) (n r i x : ℕ) (actions : List Action) (m : Machine) → gives_from it n i actions ≡ true → i + r ≡ n → c_value it.index (sees m) ≡ x → x < i → all_acted (take r actions) m ≡ m
-passed it n zero i x actions m q size is less = refl
-passed it n (suc r) i x [] m q size is less = absurd (omega (arith, size, eqb-true i n q))
-passed it n (suc r) i x (a ∷ actions) m q size is less =
-    let parts = first_gives it n i a actions (omega (arith, size)) q in
-    let none = beside_index it i a m parts.0 (ap (λ y. nat_eq y i) is ∙ differ x i (λ e. omega (arith, less, e))) in
-    ap (all_acted (take r actions)) none ∙ passed it n r (i + 1) x actions m parts.1 (omega (arith, size)) is (omega (arith, less))
+  at_index : (i : ℕ) (g : GivenTree) (m : Machine) (b : Bool) → gives_at kinds it i g ≡ true → nat_eq (index m) i ≡ b →
+      run words reads (assigned_to kinds ToWord g) m ≡ (if b then run words reads (given kinds ToWord g.word g.value) m else on m)
+  at_index i g m b q e = at_test i g.test (given kinds ToWord g.word g.value) m (and_parts _ _ q).0 ∙ ap (λ p. if p then run words reads (given kinds ToWord g.word g.value) m else on m) e
 
--- and at it the value is given
-reached : (it : ItemTree) (n r i x : ℕ) (actions : List Action) (m : Machine) → gives_from it n i actions ≡ true → i + r ≡ n → c_value it.index (sees m) ≡ x → i ≤ x → x < n →
-    ((j : ℕ) → j < n → value_reads (it.first + j) it.index ≡ false) → all_acted (take r actions) m ≡ word_set m (it.first + x) (c_value it.value (sees m))
-reached it n zero i x actions m q size is from to apart = absurd (omega (arith, size, from, to))
-reached it n (suc r) i x [] m q size is from to apart = absurd (omega (arith, size, eqb-true i n q))
-reached it n (suc r) i x (a ∷ actions) m q size is from to apart =
-    let parts = first_gives it n i a actions (omega (arith, size)) q in
-    let value = c_value it.value (sees m) in
-    elim (cases_eq x i) [
-      | inl here ↦
-          let set = at_index it i a m parts.0 (ap (λ y. nat_eq y i) is ∙ same x i here) in
-          let next : Machine = word_set m (it.first + i) value in
-          let stays = value_stays m.memory m.locals (it.first + i) value it.index (apart i (omega (arith, size))) ∙ is in
-          ap (all_acted (take r actions)) set
-          ∙ passed it n r (i + 1) x actions next parts.1 (omega (arith, size)) stays (omega (arith, here))
-          ∙ ap (λ j. word_set m (it.first + j) value) (sym here)
-      | inr further ↦
-          let none = beside_index it i a m parts.0 (ap (λ y. nat_eq y i) is ∙ differ x i further) in
-          ap (all_acted (take r actions)) none
-          ∙ reached it n r (i + 1) x actions m parts.1 (omega (arith, size)) is (later further from) to apart
-    ]
-  where
-    later : (x ≡ i → ⊥) → i ≤ x → i + 1 ≤ x
-    later ne le = elim (cases_lt i x) [ inl l ↦ omega (arith, l) | inr g ↦ absurd (ne (omega (arith, g, le))) ]
+  -- the first of such assignments, and those behind it
+  first_gives : (n i : ℕ) (g : GivenTree) (gs : List GivenTree) → i < n → gives_from kinds it n i (g ∷ gs) ≡ true → (gives_at kinds it i g ≡ true) × (gives_from kinds it n (i + 1) gs ≡ true)
+  first_gives n i g gs less q = and_parts _ _ (or_second _ _ q (ne_eqb i n (λ e. omega (arith, less, e))))
+
+  -- behind the index nothing is done
+  passed : (n r i x : ℕ) (gs : List GivenTree) (m : Machine) → gives_from kinds it n i gs ≡ true → i + r ≡ n → index m ≡ x → x < i → run words reads (each (assigned_to kinds ToWord) (take r gs)) m ≡ on m
+  passed n zero i x gs m q size is less = refl
+  passed n (suc r) i x [] m q size is less = absurd (omega (arith, size, eqb-true _ _ q))
+  passed n (suc r) i x (g ∷ gs) m q size is less =
+      let parts = first_gives n i g gs (omega (arith, size)) q in
+      let none = at_index i g m false parts.0 (ap (λ y. nat_eq y i) is ∙ ne_eqb x i (λ e. omega (arith, less, e))) in
+      then_on _ none
+      ∙ passed n r (i + 1) x gs m parts.1 (omega (arith, size)) is (omega (arith, less))
+
+  -- and at it the value is given
+  reached : (n r i x : ℕ) (gs : List GivenTree) (m : Machine) → gives_from kinds it n i gs ≡ true → i + r ≡ n → index m ≡ x → i ≤ x → x < n →
+      ((j : ℕ) → j < n → value_reads (it.first + j) it.index ≡ false) → has_local reads (take r gs) ≡ false →
+      run words reads (each (assigned_to kinds ToWord) (take r gs)) m ≡ on (word_set m (it.first + x) (value m))
+  reached n zero i x gs m q size is from to apart locals = absurd (omega (arith, size, from, to))
+  reached n (suc r) i x [] m q size is from to apart locals = absurd (omega (arith, size, eqb-true _ _ q))
+  reached n (suc r) i x (g ∷ gs) m q size is from to apart locals =
+      let parts = first_gives n i g gs (omega (arith, size)) q in
+      let plain = or_parts _ _ locals in
+      let rest = each (assigned_to kinds ToWord) (take r gs) in
+      elim (cases_eq x i) [
+        | inl here ↦
+            let is_given = gives i g parts.0 in
+            let set = at_index i g m true parts.0 (ap (λ y. nat_eq y i) is ∙ eq-eqb x i here) ∙ gives_is i g m is_given plain.0 in
+            let there : Machine = word_set m (it.first + i) (value m) in
+            let seen_so = seen_written reads m.memory m.locals (it.first + i) (value m) (subst (λ k. is_local (read_of reads k) ≡ false) is_given.0 plain.0) in
+            let stays = ap (c_value it.index) seen_so ∙ value_stays (sees reads m) (it.first + i) (value m) it.index (apart i (omega (arith, size))) ∙ is in
+            then_on _ set
+            ∙ passed n r (i + 1) x gs there parts.1 (omega (arith, size)) stays (omega (arith, here))
+            ∙ ap (λ j. on (word_set m (it.first + j) (value m))) (sym here)
+        | inr further ↦
+            let none = at_index i g m false parts.0 (ap (λ y. nat_eq y i) is ∙ ne_eqb x i further) in
+            then_on _ none
+            ∙ reached n r (i + 1) x gs m parts.1 (omega (arith, size)) is (later further from) to apart plain.1
+      ]
+    where
+      later : (x ≡ i → ⊥) → i ≤ x → i + 1 ≤ x
+      later ne le = elim (cases_lt i x) [ inl l ↦ omega (arith, l) | inr g ↦ absurd (ne (omega (arith, g, le))) ]
+
+  -- the store does the same, within the array
+  item_is : (m : Machine) → nat_lt (index m) (array_length words it.first) ≡ true → run words reads (item_given kinds it) m ≡ on (word_set m (it.first + index m) (value m))
+  item_is m less = by (is_stored kinds it.first)
+    where
+      within : (if nat_lt (index m) (array_length words it.first) then on (word_set m (it.first + index m) (value m)) else waits m) ≡ on (word_set m (it.first + index m) (value m))
+      within = ap (λ b. if b then on (word_set m (it.first + index m) (value m)) else waits m) less
+
+      by : (b : Bool) → run words reads (if b then stores (item it.first it.index) it.value else writes (item it.first it.index) it.value) m ≡ on (word_set m (it.first + index m) (value m))
+      by true = within
+      by false = within
 
 where_true : (b : Bool) (j k : ItemTree) → (if b then Some j else None) ≡ Some k → (b ≡ true) × (j ≡ k)
 where_true true j k h = (refl, ap (λ o. option_map_or (λ i. i) o j) h)
 where_true false j k h = cc h
 
--- a store that actions are
-store_is : (words : List Word) (m : Machine) → IsState words (sees m) → (actions : List Action) (it : ItemTree) → is_together words actions it ≡ true →
-    (c_value it.index (sees m) < array_length words it.first)
-    × (all_acted (take (array_length words it.first) actions) m ≡ word_set m (it.first + c_value it.index (sees m)) (c_value it.value (sees m)))
-store_is words m state actions it q =
+-- a store that assignments are
+store_is : (words : List Word) (kinds : List Kind) (reads : List Read) (m : Machine) → IsState words (sees reads m) → (gs : List GivenTree) (it : ItemTree) → is_together words kinds gs it ≡ true →
+    has_local reads (take (array_length words it.first) gs) ≡ false →
+    (c_value it.index (sees reads m) < array_length words it.first)
+    × (run words reads (item_given kinds it) m ≡ run words reads (each (assigned_to kinds ToWord) (take (array_length words it.first) gs)) m)
+store_is words kinds reads m state gs it q locals =
     let n = array_length words it.first in
-    let parts = and_parts (nat_lt 1 n && is_below words n it.index) (is_apart it n && gives_from it n 0 actions) q in
-    let heads = and_parts (nat_lt 1 n) (is_below words n it.index) parts.0 in
-    let tails = and_parts (is_apart it n) (gives_from it n 0 actions) parts.1 in
-    let within = below words (sees m) state n it.index heads.1 in
+    let i = c_value it.index (sees reads m) in
+    let parts = and_parts _ _ q in
+    let heads = and_parts _ _ parts.0 in
+    let tails = and_parts _ _ parts.1 in
+    let within = below words (sees reads m) state n it.index heads.1 in
     let unread = λ (j : ℕ) (less : j < n). all_at (λ i. not (value_reads (it.first + i) it.index)) 0 n tails.0 j (omega arith) (omega (arith, less)) in
     let apart : (j : ℕ) → j < n → value_reads (it.first + j) it.index ≡ false =
-    λ j less. not_true (value_reads (it.first + j) it.index) (unread j less) in
-    (within, reached it n n 0 (c_value it.index (sees m)) actions m tails.1 (omega arith) refl (omega arith) within apart)
+    λ j less. not-true (value_reads (it.first + j) it.index) (unread j less) in
+    (within, item_is words kinds reads it m (lt-ltb i n within) ∙ sym (reached words kinds reads it n n 0 i gs m tails.1 (omega arith) refl (omega arith) within apart locals))
 
-pub stores_are_together : StoresAreTogether
-stores_are_together words m state [] it h = cc h
-stores_are_together words m state (a ∷ actions) it h = by (item_of a) h
+-- assignments that are together are so as the first of them tells
+pub together_is : (words : List Word) (kinds : List Kind) (gs : List GivenTree) (it : ItemTree) → together words kinds gs ≡ Some it → is_together words kinds gs it ≡ true
+together_is words kinds [] it h = cc h
+together_is words kinds (g ∷ gs) it h = by (item_of g) h
   where
     test : ItemTree → Bool
-    test j = nat_lt j.first (length words) && is_together words (a ∷ actions) j
+    test j = nat_lt j.first (length words) && is_together words kinds (g ∷ gs) j
 
-    by : (o : Option ItemTree) → option_map_or (λ j. if test j then Some j else None) o None ≡ Some it →
-        (c_value it.index (sees m) < array_length words it.first)
-        × (all_acted (take (array_length words it.first) (a ∷ actions)) m ≡ word_set m (it.first + c_value it.index (sees m)) (c_value it.value (sees m)))
+    by : (o : Option ItemTree) → option_map_or (λ j. if test j then Some j else None) o None ≡ Some it → is_together words kinds (g ∷ gs) it ≡ true
     by None q = cc q
     by (Some j) q =
         let found = where_true (test j) j it q in
-        let is = (and_parts (nat_lt j.first (length words)) (is_together words (a ∷ actions) j) found.0).1 in
-        store_is words m state (a ∷ actions) it (subst (λ i. is_together words (a ∷ actions) i ≡ true) found.1 is)
+        subst (λ i. is_together words kinds (g ∷ gs) i ≡ true) found.1 (and_parts _ _ found.0).1
+
+pub stores_are_together : StoresAreTogether
+stores_are_together words kinds reads m state gs it h locals = store_is words kinds reads m state gs it (together_is words kinds gs it h) locals

@@ -1,4 +1,4 @@
--- The text of the body of a part.
+-- The statements of C for the body of a part.
 use Rattle.std.specs.Prelude.{ℕ, ◌+◌, Bool, List, [], ◌∷◌, ◌++◌, codes, if◌then◌else◌, Option, Some, None}
 use Rattle.std.specs.Option.{option_map_or}
 use Rattle.std.specs.Fmt.{decimal}
@@ -8,18 +8,12 @@ use Rattle.rg_tree.specs.Printed.{formula_text}
 use Rattle.rg_tree.specs.Statements.{Statement, skip, assign, await, sequence, branch, loop, Items, one, more}
 use Rattle.rg_code.specs.Code.{count_of}
 use Rattle.rg_c_plan.specs.declared.kind.Kind.{Kind}
-use Rattle.rg_c_plan.specs.declared.way.Way.{Way}
-use Rattle.rg_c_plan.specs.declared.way.Way.TheVariants.{Direct, Load, Store, Exchange, Select, Section}
 use Rattle.rg_c_plan.specs.Ways.{way_of}
-use Rattle.rg_c_values.specs.declared.print.Read.{Read}
-use Rattle.rg_c_values.specs.CTrees.{CTest}
 use Rattle.rg_c_values.specs.Translation.{test_in_c}
-use Rattle.rg_c_values.specs.Printed.{test_text}
-use Rattle.rg_c.specs.Lines.{inner, mark_call, comment_line, skip_line, wait_line, if_open, else_line, block_close, loop_open, leave_unless, go_open, go_line, go_leave, go_if}
+use Rattle.rg_c.specs.CStatements.{CStatement, ◌⨾◌, reading, remark, hook, forever, either}
 use Rattle.rg_c.specs.Source.{assignment_source, assignments_source}
-use Rattle.rg_c.specs.Reads.{is_one_load, load_reads, kind_reads, local_reads}
-use Rattle.rg_c.specs.Used.{is_used}
-use Rattle.rg_c.specs.StepTexts.{is_true, marked, enter_text, leave_text, section_note, step_text}
+use Rattle.rg_c.specs.Steps.{marked, waiting, section_note, step_of}
+use Rattle.rg_c.specs.Questions.{loaded_reads, before, question, stops_unless}
 
 -- what the text of a part depends on: the words and their kinds as the part sees them, the part's place, from 0, and whether steps are marked
 pub record PageTree : Type 0 where
@@ -28,107 +22,56 @@ pub record PageTree : Type 0 where
   pub part : ℕ
   pub traced : Bool
 
--- the mark of the step at this place in the listing of the code
+-- the mark of the step at this place in the listing of the code; an empty text where steps aren't marked
 unfoldable pub mark_of : PageTree → ℕ → List ℕ
-mark_of p place = if p.traced then mark_call (decimal p.part) (decimal place) else []
+mark_of p place = if p.traced then codes "RGC_AT(" ++ (decimal p.part ++ (codes ", " ++ (decimal place ++ codes ")"))) else []
 
--- how words are read by a test that can stand in an `if` or a `while`; nothing where it has to be worked out before
-abbrev pub bare_reads : PageTree → Way → CTest → Option (List Read)
-bare_reads p Direct t = Some (kind_reads p.kinds)
-bare_reads p Select t = Some (kind_reads p.kinds)
-bare_reads p (Load x) t = if is_one_load x t then Some (load_reads p.words x) else None
-bare_reads p (Store x) t = None
-bare_reads p (Exchange x) t = None
-bare_reads p Section t = None
-
--- and where it is worked out before
-abbrev pub go_reads : List Kind → Way → List Read
-go_reads kinds Direct = kind_reads kinds
-go_reads kinds Select = kind_reads kinds
-go_reads kinds (Load x) = local_reads kinds (x ∷ [])
-go_reads kinds (Store x) = kind_reads kinds
-go_reads kinds (Exchange x) = kind_reads kinds
-go_reads kinds Section = kind_reads kinds
-
--- a test that is worked out before, in a block of its own
-unfoldable pub go_text : PageTree → List ℕ → ℕ → Way → CTest → List ℕ
-go_text p i place way t =
-    go_open i (decimal place) ++ (marked (inner i) (mark_of p place) ++ (enter_text p.words (inner i) (is_used way t []) way
-    ++ (go_line (inner i) (decimal place) (test_text p.words (go_reads p.kinds way) t) ++ (leave_text (inner i) way ++ block_close i))))
-
--- how an `if` begins, and a loop
-unfoldable pub if_begins : PageTree → List ℕ → ℕ → Way → CTest → List ℕ
-if_begins p i place way t =
-    option_map_or (λ reads. marked i (mark_of p place) ++ if_open i (test_text p.words reads t)) (bare_reads p way t)
-    (go_text p i place way t ++ go_if i (decimal place))
-
-unfoldable pub bare_loop : PageTree → List ℕ → ℕ → List Read → CTest → List ℕ
-bare_loop p i place reads t =
-    loop_open i ++ (marked (inner i) (mark_of p place) ++ (if is_true t then [] else leave_unless (inner i) (test_text p.words reads t)))
-
-unfoldable pub loop_begins : PageTree → List ℕ → ℕ → Way → CTest → List ℕ
-loop_begins p i place way t =
-    option_map_or (λ reads. bare_loop p i place reads t) (bare_reads p way t)
-    (loop_open i ++ (go_text p (inner i) place way t ++ go_leave (inner i) (decimal place)))
-
--- a formula in the program's own words, after a text
-abbrev pub asked : List Word → List ℕ → Proposition → List ℕ
-asked words before f = before ++ formula_text words f []
+-- a line of the program, in its own words
+abbrev pub sourced : ℕ → List ℕ → CStatement
+sourced row text = remark (decimal row ++ (codes ": " ++ text))
 
 -- an await in the program's own words
 abbrev pub await_source : List Word → Proposition → List Assignment → List ℕ
 await_source words f act = codes "await " ++ (formula_text words f [] ++ (codes " do " ++ (assignments_source words act ++ codes " end")))
 
--- a `skip`, and one that is the whole body of a loop
-unfoldable pub skip_text : PageTree → List ℕ → ℕ → ℕ → List ℕ
-skip_text p i place row = comment_line i (decimal row) (codes "skip") ++ (marked i (mark_of p place) ++ skip_line i (decimal row))
+-- a `skip`, and what stands for it
+abbrev pub skipped : PageTree → ℕ → ℕ → CStatement → CStatement
+skipped p place row c = sourced row (codes "skip") ⨾ marked (mark_of p place) ⨾ c
 
-unfoldable pub idle_text : PageTree → List ℕ → ℕ → ℕ → List ℕ
-idle_text p i place row = comment_line i (decimal row) (codes "skip") ++ (marked i (mark_of p place) ++ wait_line i)
+-- the line of an `if` or a `while`, under its comment, and of its section
+abbrev pub asked : PageTree → ℕ → List ℕ → Proposition → CStatement
+asked p row what f = sourced row (what ++ formula_text p.words f []) ⨾ section_note p.words p.kinds (Some f) []
 
--- an assignment and an await, under their comments
-unfoldable pub assign_text : PageTree → List ℕ → ℕ → ℕ → Assignment → List ℕ
-assign_text p i place row a =
-    comment_line i (decimal row) (assignment_source p.words a) ++ step_text p.words p.kinds i (mark_of p place) None (a ∷ [])
+-- an `if` over these two, which read words in their own ways, and a loop of this
+abbrev pub chosen : PageTree → ℕ → ℕ → Proposition → CStatement → CStatement → CStatement
+chosen p place row f a b =
+    let way = way_of p.kinds (Some f) [] in
+    let t = test_in_c (widths_of p.words) f in
+    asked p row (codes "if ") f ⨾ reading (loaded_reads p.words p.kinds way t) (before (marked (mark_of p place)) place way t ⨾ either (question place way t) (reading [] a) (reading [] b))
 
-unfoldable pub await_text : PageTree → List ℕ → ℕ → ℕ → Proposition → List Assignment → List ℕ
-await_text p i place row f act =
-    comment_line i (decimal row) (await_source p.words f act) ++ step_text p.words p.kinds i (mark_of p place) (Some f) act
-
--- the head of an `if` and of a loop, under its comment
-unfoldable pub if_text : PageTree → List ℕ → ℕ → ℕ → Proposition → List ℕ
-if_text p i place row f =
-    comment_line i (decimal row) (asked p.words (codes "if ") f) ++ (section_note p.words p.kinds i (Some f) []
-    ++ if_begins p i place (way_of p.kinds (Some f) []) (test_in_c (widths_of p.words) f))
-
-unfoldable pub loop_text : PageTree → List ℕ → ℕ → ℕ → Proposition → List ℕ
-loop_text p i place row f =
-    comment_line i (decimal row) (asked p.words (codes "while ") f) ++ (section_note p.words p.kinds i (Some f) []
-    ++ loop_begins p i place (way_of p.kinds (Some f) []) (test_in_c (widths_of p.words) f))
+abbrev pub looped : PageTree → ℕ → ℕ → Proposition → CStatement → CStatement
+looped p place row f c =
+    let way = way_of p.kinds (Some f) [] in
+    let t = test_in_c (widths_of p.words) f in
+    asked p row (codes "while ") f
+    ⨾ forever (reading (loaded_reads p.words p.kinds way t) (before (marked (mark_of p place)) place way t ⨾ stops_unless (question place way t)) ⨾ c)
 
 -- the line of a `skip`; nothing for another statement
 abbrev pub idle_line : Statement → Option ℕ
 idle_line (skip row) = Some row
-idle_line (assign row a) = None
-idle_line (await row f act) = None
-idle_line (sequence row s items) = None
-idle_line (branch row f s t) = None
-idle_line (loop row f s) = None
+idle_line s = None
 
 abbrev mutual
   -- a statement, whose first step stands at this place in the listing of the code
-  pub statement_text : PageTree → List ℕ → ℕ → Statement → List ℕ
-  statement_text p i place (skip row) = skip_text p i place row
-  statement_text p i place (assign row a) = assign_text p i place row a
-  statement_text p i place (await row f act) = await_text p i place row f act
-  statement_text p i place (sequence row s items) = statement_text p i place s ++ items_text p i (place + count_of s) items
-  statement_text p i place (branch row f s t) =
-      if_text p i place row f ++ (statement_text p (inner i) (place + 1) s ++ (else_line i ++ (statement_text p (inner i) (place + 1 + count_of s) t ++ block_close i)))
-  statement_text p i place (loop row f s) =
-      loop_text p i place row f
-      ++ (option_map_or (λ idle. idle_text p (inner i) (place + 1) idle) (idle_line s) (statement_text p (inner i) (place + 1) s) ++ block_close i)
+  pub in_c : PageTree → ℕ → Statement → CStatement
+  in_c p place (skip row) = skipped p place row (hook (codes "RGC_SKIP(" ++ (decimal row ++ codes ")")))
+  in_c p place (assign row a) = sourced row (assignment_source p.words a) ⨾ step_of p.words p.kinds (mark_of p place) None (a ∷ [])
+  in_c p place (await row f act) = sourced row (await_source p.words f act) ⨾ step_of p.words p.kinds (mark_of p place) (Some f) act
+  in_c p place (sequence row s items) = in_c p place s ⨾ items_in_c p (place + count_of s) items
+  in_c p place (branch row f s t) = chosen p place row f (in_c p (place + 1) s) (in_c p (place + 1 + count_of s) t)
+  in_c p place (loop row f s) = looped p place row f (option_map_or (λ line. skipped p (place + 1) line waiting) (idle_line s) (in_c p (place + 1) s))
 
   -- the items of a sequence
-  pub items_text : PageTree → List ℕ → ℕ → Items → List ℕ
-  items_text p i place (one s) = statement_text p i place s
-  items_text p i place (more s items) = statement_text p i place s ++ items_text p i (place + count_of s) items
+  pub items_in_c : PageTree → ℕ → Items → CStatement
+  items_in_c p place (one s) = in_c p place s
+  items_in_c p place (more s items) = in_c p place s ⨾ items_in_c p (place + count_of s) items

@@ -1,6 +1,6 @@
 -- The text of a header.
 use Rattle.std.specs.Prelude.{ℕ, zero, suc, ◌+◌, nat_eq, Bool, true, false, ◌&&◌, List, [], ◌∷◌, ◌++◌, codes, length, take, drop, slice_index, if◌then◌else◌}
-use Rattle.std.specs.List.{list_any, list_all}
+use Rattle.std.specs.List.{list_any, list_all, flat_map}
 use Rattle.std.specs.Option.{option_map_or}
 use Rattle.std.specs.Str.{bytes_eq}
 use Rattle.std.specs.Fmt.{decimal}
@@ -21,11 +21,12 @@ use Rattle.rg_c_report.specs.declared.counts.Counts.{Counts}
 use Rattle.rg_c_report.specs.Counts.{counts_first, counts_second, counts_of}
 use Rattle.rg_c_report.specs.Parties.{parties_text}
 use Rattle.rg_c.specs.Reads.{kind_reads}
-use Rattle.rg_c.specs.Texts.{name_of, type_of}
-use Rattle.rg_c.specs.Lines.{block_close}
-use Rattle.rg_c.specs.Bodies.{PageTree, statement_text, loop_text}
+use Rattle.rg_c.specs.CStatements.{CStatement, ◌⨾◌, hook, calls, block}
+use Rattle.rg_c.specs.Printed.{name_of, type_of, printed}
+use Rattle.rg_c.specs.Functions.{goes_round, function_name}
+use Rattle.rg_c.specs.Bodies.{PageTree, in_c, looped}
 use Rattle.rg_c.specs.Starts.{start_text}
-use Rattle.rg_c.specs.Heads.{top_open, promise_head, promise_line, rests_text, guard_open, atomics_open, lock_free_line, atomics_close, hooks_text, sections_text, struct_open, field_line, item_line, struct_close, assertion_text, part_open, round_open, round_call, part_close, guard_close}
+use Rattle.rg_c.specs.Heads.{top_open, promise_head, promise_line, rests_text, guard_open, atomics_open, lock_free_line, atomics_close, hooks_text, sections_text, struct_open, field_line, item_line, struct_close, assertion_text, part_open, round_open, guard_close}
 
 -- how a word of this kind is declared, and what is said of it
 abbrev pub kind_before : Kind → List ℕ
@@ -93,23 +94,13 @@ item_field p kinds k j =
 unfoldable pub field_text : ProgramTree → List Kind → ℕ → List ℕ
 field_text p kinds k = option_map_or (item_field p kinds k) (array_of p.words k) (own_field p kinds k)
 
--- n fields, from the k-th one on
-abbrev pub fields_text : ProgramTree → List Kind → ℕ → ℕ → List ℕ
-fields_text p kinds k zero = []
-fields_text p kinds k (suc n) = field_text p kinds k ++ fields_text p kinds (k + 1) n
-
 unfoldable pub struct_text : List ℕ → ProgramTree → List Kind → List ℕ
-struct_text name p kinds = struct_open name ++ (fields_text p kinds 0 (length p.words) ++ struct_close)
+struct_text name p kinds = struct_open name ++ (flat_map (field_text p kinds) (places p.words) ++ struct_close)
 
 -- the conjuncts of a formula, each on a line, after what stands before the first
 abbrev pub conjunct_lines : List Word → List ℕ → Proposition → List ℕ
-conjunct_lines words before (truth b) = promise_line before (formula_text words (truth b) [])
-conjunct_lines words before (negation f) = promise_line before (formula_text words (negation f) [])
-conjunct_lines words before (compared c a b) = promise_line before (formula_text words (compared c a b) [])
 conjunct_lines words before (connected And f g) = conjunct_lines words before f ++ conjunct_lines words (codes " *     and ") g
-conjunct_lines words before (connected Or f g) = promise_line before (formula_text words (connected Or f g) [])
-conjunct_lines words before (connected Implies f g) = promise_line before (formula_text words (connected Implies f g) [])
-conjunct_lines words before (connected Iff f g) = promise_line before (formula_text words (connected Iff f g) [])
+conjunct_lines words before f = promise_line before (formula_text words f [])
 
 -- a formula that is promised
 unfoldable pub promise_text : List Word → List ℕ → Proposition → List ℕ
@@ -153,50 +144,39 @@ macros_text name words kinds = guard_open name ++ (atomics_text words kinds ++ (
 
 -- a function that tells whether a formula holds
 unfoldable pub asserted : List ℕ → List ℕ → List Word → List Kind → Proposition → List ℕ
-asserted name what words kinds f = assertion_text name what (test_text words (kind_reads kinds) (test_in_c (widths_of words) f))
+asserted name what words kinds f = assertion_text name what (test_text words (kind_reads words kinds) (test_in_c (widths_of words) f))
+
+-- a function with this head and this body
+abbrev pub function_text : List Word → List ℕ → CStatement → List ℕ
+function_text words head body = head ++ printed words [] [] (block (hook (codes "(void)w") ⨾ body))
 
 -- a part under these names, from its beginning to its end
 unfoldable pub run_text : List ℕ → List ℕ → PageTree → Statement → List ℕ
-run_text name part p s = part_open name part ++ (statement_text p (codes "    ") 0 s ++ part_close)
+run_text name part p s = function_text p.words (part_open name part) (in_c p 0 s)
 
 -- one round of a part that goes round without an end, and the part, which calls it again and again
-unfoldable pub one_round : List ℕ → List ℕ → PageTree → Statement → List ℕ
-one_round name part p s = round_open name part ++ (statement_text p (codes "    ") 1 s ++ part_close)
-
-unfoldable pub all_rounds : List ℕ → List ℕ → PageTree → ℕ → Proposition → List ℕ
-all_rounds name part p row f =
-    part_open name part ++ (loop_text p (codes "    ") 0 row f ++ (round_call name part ++ (block_close (codes "    ") ++ part_close)))
-
 unfoldable pub round_text : List ℕ → List ℕ → PageTree → ℕ → Proposition → Statement → List ℕ
-round_text name part p row f s = one_round name part p s ++ all_rounds name part p row f
+round_text name part p row f s =
+    function_text p.words (round_open name part) (in_c p 1 s)
+    ++ function_text p.words (part_open name part) (looped p 0 row f (calls (function_name name (goes_round part))))
 
 -- the formula is the constant true
 abbrev pub is_always : Proposition → Bool
 is_always (truth b) = b
-is_always (negation f) = false
-is_always (connected c f g) = false
-is_always (compared c a b) = false
+is_always f = false
 
 abbrev pub body_text : List ℕ → List ℕ → PageTree → Statement → List ℕ
-body_text name part p (skip row) = run_text name part p (skip row)
-body_text name part p (assign row a) = run_text name part p (assign row a)
-body_text name part p (await row f act) = run_text name part p (await row f act)
-body_text name part p (sequence row s items) = run_text name part p (sequence row s items)
-body_text name part p (branch row f s t) = run_text name part p (branch row f s t)
 body_text name part p (loop row f s) = if is_always f then round_text name part p row f s else run_text name part p (loop row f s)
+body_text name part p s = run_text name part p s
 
--- a part, at its place, from 0
-unfoldable pub part_text : List ℕ → PageTree → PartTree → List ℕ
-part_text name p part = body_text name part.name p part.body
-
--- a part at its place, by the kinds of words as it sees them
-abbrev pub seen_part_text : List ℕ → ProgramTree → List Kind → Bool → ℕ → PartTree → List ℕ
-seen_part_text name p kinds traced i part = part_text name (record { words = p.words; kinds = kinds_for p kinds i; part = i; traced = traced }) part
+-- a part at its place, from 0, by the kinds of words as it sees them
+abbrev pub part_text : List ℕ → ProgramTree → List Kind → Bool → ℕ → PartTree → List ℕ
+part_text name p kinds traced i part = body_text name part.name (record { words = p.words; kinds = kinds_for p kinds i; part = i; traced = traced }) part.body
 
 -- the parts from the i-th one on
 abbrev pub parts_text : List ℕ → ProgramTree → List Kind → Bool → ℕ → List PartTree → List ℕ
 parts_text name p kinds traced i [] = []
-parts_text name p kinds traced i (part ∷ parts) = seen_part_text name p kinds traced i part ++ parts_text name p kinds traced (i + 1) parts
+parts_text name p kinds traced i (part ∷ parts) = part_text name p kinds traced i part ++ parts_text name p kinds traced (i + 1) parts
 
 -- a program under this name, with these kinds of words, its steps marked or not
 abbrev pub header_text : List ℕ → Bool → List Kind → ProgramTree → List ℕ

@@ -1,7 +1,7 @@
 -- The pieces of which a header is made, from their texts.
 use Rattle.std.specs.Prelude.{ℕ, List, [], ◌∷◌, codes}
 use Rattle.rg_c.specs.Functions.{runs, goes_round, function_name}
-use Rattle.rg_c.specs.Lines.{joined}
+use Rattle.rg_c.specs.Printed.{joined}
 
 -- the beginning of the comment at the top
 unfoldable pub top_open : List ℕ → List ℕ
@@ -149,7 +149,7 @@ part_open name part = joined (
     ∷ function_name name (runs part)
     ∷ codes "(struct "
     ∷ name
-    ∷ codes " *w)\n{\n    (void)w;\n" ∷ [])
+    ∷ codes " *w)\n" ∷ [])
 
 -- the beginning of one round of a part
 unfoldable pub round_open : List ℕ → List ℕ → List ℕ
@@ -160,19 +160,7 @@ round_open name part = joined (
     ∷ function_name name (goes_round part)
     ∷ codes "(struct "
     ∷ name
-    ∷ codes " *w)\n{\n    (void)w;\n" ∷ [])
-
--- a call of that
-unfoldable pub round_call : List ℕ → List ℕ → List ℕ
-round_call name part = joined (
-    codes "        "
-    ∷ function_name name (goes_round part)
-    ∷ codes "(w);\n" ∷ [])
-
--- the end of a part
-unfoldable pub part_close : List ℕ
-part_close = joined (
-    codes "}\n" ∷ [])
+    ∷ codes " *w)\n" ∷ [])
 
 -- the end of the header
 unfoldable pub guard_close : List ℕ

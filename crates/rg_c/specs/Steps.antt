@@ -1,73 +1,129 @@
--- The steps of C for the steps of a program, by the way in which they are done.
-use Rattle.std.specs.Prelude.{ℕ, Bool, true, nat_eq, List, [], ◌∷◌, ◌++◌, map, slice_index, if◌then◌else◌}
-use Rattle.std.specs.List.{list_any}
-use Rattle.std.specs.Prelude.{Option, Some, None}
+-- The statements of C for the steps of a program, by the way in which they are done.
+use Rattle.std.specs.Prelude.{ℕ, Bool, true, false, List, [], ◌∷◌, ◌++◌, codes, ◌&&◌, map, nat_eq, length, if◌then◌else◌, Option, Some, None}
+use Rattle.rg_words.specs.Layout.{Word, widths_of}
 use Rattle.rg_tree.specs.Trees.{Proposition, Assignment}
 use Rattle.rg_c_plan.specs.declared.kind.Kind.{Kind}
 use Rattle.rg_c_plan.specs.declared.way.Way.{Way}
 use Rattle.rg_c_plan.specs.declared.way.Way.TheVariants.{Direct, Load, Store, Exchange, Select, Section}
-use Rattle.rg_c_plan.specs.Changes.{moving, change_of}
-use Rattle.rg_c_plan.specs.Ways.{kind_at, has_atomic_accesses, way_of}
-use Rattle.rg_c_values.specs.CTrees.{CValue, CTest, c_truth}
-use Rattle.rg_c_values.specs.Translation.{test_in_c, stored_in_c}
-use Rattle.rg_c.specs.Actions.{Action, loads, begins, copies, changes, writes, stores, exchanges, returns, when, CStep}
-use Rattle.rg_c.specs.declared.actions.Target.{Target}
-use Rattle.rg_c.specs.declared.actions.Target.TheVariants.{Word, Local}
+use Rattle.rg_c_plan.specs.Changes.{moving}
+use Rattle.rg_c_plan.specs.Ways.{way_of, met_words}
+use Rattle.rg_c_values.specs.declared.print.Read.{Read}
+use Rattle.rg_c_values.specs.CTrees.{CTest, c_truth}
+use Rattle.rg_c_values.specs.Arrays.{member_of}
+use Rattle.rg_c_values.specs.Translation.{test_in_c}
+use Rattle.rg_c_report.specs.Counts.{is_section}
+use Rattle.rg_c.specs.declared.tree.Target.TheVariants.{Local}
+use Rattle.rg_c.specs.declared.tree.Flag.TheVariants.{Done}
+use Rattle.rg_c.specs.CStatements.{asks, flag, CStatement, nothing, ◌⨾◌, reading, remark, hook, loads, discards, begins, copies, exchanges, returns, declares, decides, breaks, block, forever, when, either, each}
+use Rattle.rg_c.specs.Assigned.{GivenTree, given_of, assigned_to, targets_beside}
+use Rattle.rg_c.specs.Reads.{is_one_load, load_reads, kind_reads, local_reads}
+use Rattle.rg_c.specs.Together.{all_given}
+use Rattle.rg_c.specs.Used.{is_used}
 
--- a number is in a list
-abbrev pub is_in : ℕ → List ℕ → Bool
-is_in k ks = list_any (λ j. nat_eq k j) ks
+-- the test is always true
+abbrev pub is_true : CTest → Bool
+is_true (c_truth b) = b
+is_true t = false
 
--- the targets beside these words, each once, in the order in which they are first assigned
-abbrev pub targets_beside : List ℕ → List Assignment → List ℕ
-targets_beside ks [] = []
-targets_beside ks (a ∷ act) = if is_in a.target ks then targets_beside ks act else a.target ∷ targets_beside (a.target ∷ ks) act
+-- the mark of a step, by its text; none where that is empty
+abbrev pub marked : List ℕ → CStatement
+marked mark = if nat_eq (length mark) 0 then nothing else hook mark
 
--- what an assignment over words of these widths changes its word to
-abbrev pub value_for : List ℕ → Assignment → CValue
-value_for widths a = stored_in_c widths (slice_index widths a.target) (change_of a).value
+-- the hook for waiting
+abbrev pub waiting : CStatement
+waiting = hook (codes "RGC_WAIT(w)")
 
--- an action, where a test holds, if there is one
-abbrev pub tested : List ℕ → Option Proposition → Action → Action
-tested widths None action = action
-tested widths (Some f) action = when (test_in_c widths f) action
+-- waiting until a test is true, if it isn't always
+abbrev pub awaits : CStatement → CTest → CStatement
+awaits mark t = if is_true t then mark else forever (mark ⨾ when (asks t) breaks ⨾ waiting)
 
--- a word, or its local, gets a value; a word by a store where each access to it is atomic, else plainly
-abbrev pub given : List Kind → Target → ℕ → CValue → Action
-given kinds Word k v = if has_atomic_accesses (kind_at kinds k) then stores k v else writes k v
-given kinds Local k v = changes k v
+-- how a step begins and ends that is done in a section, or over a local; a load has a local only where that is used
+abbrev pub entered : Way → Bool → CStatement
+entered (Load x) used = if used then loads x else discards x
+entered Section used = hook (codes "RGC_ENTER(w)")
+entered way used = nothing
 
--- an assignment to a word, or to its local
-abbrev pub assigned_to : List ℕ → List Kind → Target → Assignment → Action
-assigned_to widths kinds to a = tested widths (change_of a).test (given kinds to a.target (value_for widths a))
+abbrev pub left : Way → CStatement
+left Section = hook (codes "RGC_LEAVE(w)")
+left way = nothing
 
--- a step that is done by an exchange of this word, with these other words in locals
-abbrev pub exchange_step : List ℕ → List Kind → ℕ → List ℕ → CTest → List Assignment → CStep
-exchange_step widths kinds x ks t act = record {
-  before = begins x ∷ map copies ks;
-  test = t;
-  actions = map (assigned_to widths kinds Local) act ++ exchanges x ∷ [];
-  after = map returns ks;
-}
+-- how its words are read
+abbrev pub held_reads : List Word → List Kind → Way → Bool → List Read
+held_reads words kinds (Load x) used = if used then local_reads words kinds (x ∷ []) else kind_reads words kinds
+held_reads words kinds way used = kind_reads words kinds
 
--- a step without locals but for these loads
-abbrev pub plain_step : List ℕ → List Kind → List Action → CTest → List Assignment → CStep
-plain_step widths kinds before t act = record { before = before; test = t; actions = map (assigned_to widths kinds Word) act; after = [] }
+-- what is done where the step is made, if it is anything
+abbrev pub if_done : Bool → CStatement → CStatement
+if_done empty c = if empty then nothing else when (flag Done) c
 
--- a step with this test and these assignments, done in this way
-abbrev pub step_by : List ℕ → List Kind → Way → CTest → List Assignment → CStep
-step_by widths kinds Direct t act = plain_step widths kinds [] t act
-step_by widths kinds Section t act = plain_step widths kinds [] t act
-step_by widths kinds Select t act = plain_step widths kinds [] t act
-step_by widths kinds (Store x) t act = plain_step widths kinds [] t act
-step_by widths kinds (Load x) t act = plain_step widths kinds (loads x ∷ []) t act
-step_by widths kinds (Exchange x) t act = exchange_step widths kinds x (targets_beside (x ∷ []) act) t act
+-- tries of such a step until its test is true: its beginning, what is done then, and its end
+abbrev pub tried : CStatement → CStatement → CTest → CStatement → CStatement → CStatement
+tried mark enter t c ending = forever (declares Done ⨾ mark ⨾ enter ⨾ decides Done t ⨾ c ⨾ ending)
+
+-- such a step, from its beginning to its end, with these assignments: in a block, or in a loop until its test is true
+abbrev pub held : CStatement → CStatement → CStatement → CTest → Bool → CStatement → CStatement
+held mark enter leave t empty c = if is_true t then block (mark ⨾ enter ⨾ c ⨾ leave) else tried mark enter t (if_done empty c) (leave ⨾ when (flag Done) breaks ⨾ waiting)
+
+abbrev pub held_step : List Word → List Kind → CStatement → Way → Bool → CTest → List GivenTree → CStatement
+held_step words kinds mark way used t gs =
+    reading (held_reads words kinds way used) (held mark (entered way used) (left way) t (nat_eq (length gs) 0) (all_given words kinds 0 gs))
+
+-- a step that loads this word: where it assigns nothing and its test loads the word once, it waits
+abbrev pub loaded : List Word → List Kind → CStatement → ℕ → CTest → List GivenTree → CStatement
+loaded words kinds mark x t gs =
+    if nat_eq (length gs) 0 && is_one_load x t then reading (load_reads words x) (awaits mark t)
+    else held_step words kinds mark (Load x) (is_used x t gs) t gs
+
+-- changes of locals, an exchange, and where that was made what these other words get
+abbrev pub changed : List Kind → ℕ → List ℕ → List GivenTree → CStatement
+changed kinds x ks gs = each (assigned_to kinds Local) gs ⨾ exchanges x ⨾ if_done (nat_eq (length ks) 0) (each returns ks)
+
+-- what is done where a test is true, and what else, in its `if`, unless it always is
+abbrev pub tested : CTest → CStatement → CStatement → CStatement
+tested t c d = if is_true t then c else either (asks t) c d
+
+-- an exchange of this word, with these other words in locals, in a loop until it is made
+abbrev pub attempted : CStatement → ℕ → List ℕ → CStatement → CStatement
+attempted mark x ks c = forever (declares Done ⨾ mark ⨾ begins x ⨾ each copies ks ⨾ c ⨾ when (flag Done) breaks)
+
+-- a step that is done by an exchange of this word
+abbrev pub exchanging : List Word → List Kind → CStatement → ℕ → CTest → List GivenTree → CStatement
+exchanging words kinds mark x t gs =
+    let ks = targets_beside (x ∷ []) gs in
+    reading (local_reads words kinds (x ∷ ks)) (attempted mark x ks (tested t (changed kinds x ks gs) waiting))
+
+-- a step without locals: it waits for its test, and then assigns
+abbrev pub bare : List Word → List Kind → CStatement → CTest → List GivenTree → CStatement
+bare words kinds mark t gs = reading (kind_reads words kinds) (awaits mark t ⨾ all_given words kinds 0 gs)
+
+-- a step with this test and these assignments that is done in this way
+abbrev pub step_by : List Word → List Kind → CStatement → Way → CTest → List GivenTree → CStatement
+step_by words kinds mark (Load x) t gs = loaded words kinds mark x t gs
+step_by words kinds mark Section t gs = held_step words kinds mark Section true t gs
+step_by words kinds mark (Exchange x) t gs = exchanging words kinds mark x t gs
+step_by words kinds mark way t gs = bare words kinds mark t gs
 
 -- the test of a guard; true where there is none
 abbrev pub test_of : List ℕ → Option Proposition → CTest
 test_of widths None = c_truth true
 test_of widths (Some f) = test_in_c widths f
 
+-- words as members of the struct, each after a comma, and with commas between them
+abbrev pub more_names : List Word → List ℕ → List ℕ
+more_names words [] = []
+more_names words (k ∷ ks) = codes ", " ++ (member_of words k ++ more_names words ks)
+
+abbrev pub names_text : List Word → List ℕ → List ℕ
+names_text words [] = []
+names_text words (k ∷ ks) = member_of words k ++ more_names words ks
+
+-- of a step in a section, at which words it may meet others; nothing of another step
+unfoldable pub section_note : List Word → List Kind → Option Proposition → List Assignment → CStatement
+section_note words kinds guard act =
+    if is_section (way_of kinds guard act) then remark (codes "a critical section, for " ++ names_text words (met_words kinds guard act)) else nothing
+
 -- a step of the program, by the kinds of its words
-abbrev pub step_of : List ℕ → List Kind → Option Proposition → List Assignment → CStep
-step_of widths kinds guard act = step_by widths kinds (way_of kinds guard (moving act)) (test_of widths guard) (moving act)
+unfoldable pub step_of : List Word → List Kind → List ℕ → Option Proposition → List Assignment → CStatement
+step_of words kinds mark guard act =
+    section_note words kinds guard (moving act)
+    ⨾ step_by words kinds (marked mark) (way_of kinds guard (moving act)) (test_of (widths_of words) guard) (map (given_of (widths_of words)) (moving act))

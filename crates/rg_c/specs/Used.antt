@@ -1,10 +1,9 @@
 -- Whether the local of a step that loads a word is read.
-use Rattle.std.specs.Prelude.{ℕ, Bool, true, false, ◌||◌, nat_eq, List}
+use Rattle.std.specs.Prelude.{ℕ, Bool, false, ◌||◌, nat_eq, List}
 use Rattle.std.specs.List.{list_any}
-use Rattle.rg_c_plan.specs.declared.way.Way.{Way}
-use Rattle.rg_c_plan.specs.declared.way.Way.TheVariants.{Direct, Load, Store, Exchange, Select, Section}
+use Rattle.std.specs.Option.{option_map_or}
 use Rattle.rg_c_values.specs.CTrees.{CValue, CTest, c_literal, c_word, c_cast, c_inverse, c_binary, c_rest, c_shifted, c_choice, c_truth, c_not, c_joined, c_compared}
-use Rattle.rg_c.specs.Actions.{Action, loads, begins, copies, changes, writes, stores, exchanges, returns, when}
+use Rattle.rg_c.specs.Assigned.{GivenTree}
 
 abbrev mutual
   -- a word stands in a value
@@ -25,23 +24,10 @@ abbrev mutual
   test_reads x (c_joined j t u) = test_reads x t || test_reads x u
   test_reads x (c_compared c a b) = value_reads x a || value_reads x b
 
--- it stands in the value that an action gives, or in its test
-abbrev pub action_reads : ℕ → Action → Bool
-action_reads x (loads k) = false
-action_reads x (begins k) = false
-action_reads x (copies k) = false
-action_reads x (changes k v) = value_reads x v
-action_reads x (writes k v) = value_reads x v
-action_reads x (stores k v) = value_reads x v
-action_reads x (exchanges k) = false
-action_reads x (returns k) = false
-action_reads x (when t a) = test_reads x t || action_reads x a
+-- it stands in the value of an assignment, or in its test
+abbrev pub given_reads : ℕ → GivenTree → Bool
+given_reads x g = option_map_or (test_reads x) g.test false || value_reads x g.value
 
--- where a step with this test and these actions loads a word, they read its local; true of a step that is done in another way
-abbrev pub is_used : Way → CTest → List Action → Bool
-is_used Direct t actions = true
-is_used (Load x) t actions = test_reads x t || list_any (action_reads x) actions
-is_used (Store x) t actions = true
-is_used (Exchange x) t actions = true
-is_used Select t actions = true
-is_used Section t actions = true
+-- it stands in a step with this test and these assignments
+abbrev pub is_used : ℕ → CTest → List GivenTree → Bool
+is_used x t gs = test_reads x t || list_any (given_reads x) gs

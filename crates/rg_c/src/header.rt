@@ -1,38 +1,44 @@
 //! A program as one header of C11.
 
 ghost use Rattle.std.specs.Prelude.{◌≡◌, ◌++◌, ◌+◌, ◌<◌, ◌^◌, [], codes, decimal, length, map, string_bytes, IfOk, OnOk};
-ghost use Rattle.std.specs.List.{list_any, list_all};
+ghost use Rattle.std.specs.List.{list_any, list_all, flat_map};
 ghost use Rattle.rg_tree.specs.Fits.{FormulaFits};
 ghost use Rattle.rg_tree.specs.View.{formula};
 ghost use Rattle.rg_tree.specs.ProgramView.{statement, specification, part as part_tree};
 ghost use Rattle.rg_tree.specs.ProgramTrees.{program as program_tree};
 ghost use Rattle.rg_code.specs.Code.{count_of};
+ghost use Rattle.rg_c_plan.specs.Accesses.{places};
 ghost use Rattle.rg_c_plan.specs.Ways.{kind_at, has_atomic_accesses, is_guarded};
 ghost use Rattle.rg_c_values.specs.Arrays.{array_length, array_name, indexed, member_of};
-ghost use Rattle.rg_c.specs.Headers.{kind_before, kind_after, kind_what, bits_text, note_text, own_field, is_fixed_kind, kind_of_items, kinds_from, array_field, item_note, field_text, fields_text, struct_text, conjunct_lines, promise_text, promises_text, counts_text, top_text, has_atomic, lock_free_text, lock_free_texts, atomics_text, macros_text, asserted, run_text, one_round, all_rounds, round_text, is_always, body_text, part_text, seen_part_text, parts_text, header_text};
+ghost use Rattle.rg_c.specs.Headers.{kind_before, kind_after, kind_what, bits_text, note_text, own_field, is_fixed_kind, kind_of_items, kinds_from, array_field, item_note, field_text, struct_text, conjunct_lines, promise_text, promises_text, counts_text, top_text, has_atomic, lock_free_text, lock_free_texts, atomics_text, macros_text, asserted, function_text, run_text, round_text, is_always, body_text, part_text, parts_text, header_text};
+ghost use Rattle.rg_c.specs.Functions.{goes_round, function_name};
+ghost use Rattle.rg_c.specs.CStatements.{calls};
+ghost use Rattle.rg_c.specs.Bodies.{in_c, looped};
 ghost use Rattle.rg_c.specs.Fitting.{StatementFits, SpecificationFits, PartsFit};
-ghost use Rattle.rg_c.specs.Pages.{page as page_tree};
+ghost use Rattle.rg_c.specs.View.{page, on};
 
-use crate::actions::{member_of, name_of, type_of};
 use crate::heads::{
     promise_head, push_assertion_text, push_atomics_close, push_atomics_open, push_field_line,
     push_guard_close, push_guard_open, push_hooks_text, push_item_line, push_lock_free_line,
-    push_part_close, push_part_open, push_promise_line, push_rests_text, push_round_call,
-    push_round_open, push_sections_text, push_struct_close, push_struct_open, push_top_open,
+    push_part_open, push_promise_line, push_rests_text, push_round_open, push_sections_text,
+    push_struct_close, push_struct_open, push_top_open,
 };
-use crate::lines::push_block_close;
-use crate::page::{Page, digits};
+use crate::print::{
+    Piece, inner, push_closing, push_code, push_digits, push_line, push_opening, push_word_name,
+    type_of,
+};
 use crate::reads::kind_reads;
 use crate::start::push_start;
-use crate::statements::{push_loop, push_statement};
-use crate::steps::test_text;
+use crate::statements::{At, push_loop, push_statement};
+use crate::tree::{Code, Line, Sheet};
 use rg_c_plan::kind::Kind;
 use rg_c_plan::views::kinds_for;
 use rg_c_plan::way::{has_atomic_accesses, kind_at};
 use rg_c_report::counts::{Counts, counts_of, push_counts_first, push_counts_second};
 use rg_c_report::parties::push_parties;
-use rg_c_values::arrays::{array_length, array_of, push_array_name};
+use rg_c_values::arrays::{array_length, array_of, push_array_name, push_member_of};
 use rg_c_values::pieces::container;
+use rg_c_values::print::print_test;
 use rg_c_values::translate::test_in_c;
 use rg_tree::part::{Part, Spec};
 use rg_tree::print::print;
@@ -88,7 +94,8 @@ fn kind_what(kind: Kind) -> &'static str
 fn bits_text(alloc: Global, width: u32) -> Result<String, AllocError>
     ensures { IfOk result (λ text. string_bytes text ≡ bits_text width) }
 {
-    let mut text = digits(alloc, u64::from(width))?;
+    let mut text = String::new(alloc);
+    push_digits(&mut text, u64::from(width))?;
     text.push_str(if width == 1 { " bit" } else { " bits" })?;
     Ok(text)
 }
@@ -125,7 +132,8 @@ fn push_own_field(
     ensures { OnOk result (string_bytes text.new ≡ string_bytes text.old ++ own_field (program_tree program.now) kinds.now word) }
 {
     let kind = kind_at(kinds, word);
-    let name = name_of(alloc, &program.layout, word)?;
+    let mut name = String::new(alloc);
+    push_word_name(&mut name, &program.layout, word)?;
     let note = note_text(alloc, program, kinds, word)?;
     push_field_line(
         text,
@@ -191,11 +199,10 @@ fn array_text(
     requires { first < length layout.now }
     ensures { IfOk result (λ text. string_bytes text ≡ indexed (array_name layout.now first) (decimal count)) }
 {
-    let count = digits(alloc, count as u64)?;
     let mut text = String::new(alloc);
     push_array_name(&mut text, layout, first)?;
     text.push_str("[")?;
-    text.push_str(&count)?;
+    push_digits(&mut text, count as u64)?;
     text.push_str("]")?;
     Ok(text)
 }
@@ -245,7 +252,8 @@ fn push_item_note(
     if note.as_str() == of_first.as_str() {
         return Ok(());
     }
-    let member = member_of(alloc, &program.layout, word)?;
+    let mut member = String::new(alloc);
+    push_member_of(&mut member, &program.layout, word)?;
     push_item_line(text, &member, &note)
 }
 
@@ -291,7 +299,7 @@ fn push_fields(
     program: &Program,
     kinds: &[Kind],
 ) -> Result<(), AllocError>
-    ensures { OnOk result (string_bytes text.new ≡ string_bytes text.old ++ fields_text (program_tree program.now) kinds.now 0 (length program.now.layout)) }
+    ensures { OnOk result (string_bytes text.new ≡ string_bytes text.old ++ flat_map (field_text (program_tree program.now) kinds.now) (places program.now.layout)) }
 {
     for word in 0..program.layout.len() {
         push_field(alloc, text, program, kinds, word)?;
@@ -416,7 +424,8 @@ fn push_lock_free(
     if !has_atomic(layout, kinds, bits) {
         return Ok(());
     }
-    let number = digits(alloc, u64::from(bits))?;
+    let mut number = String::new(alloc);
+    push_digits(&mut number, u64::from(bits))?;
     push_lock_free_line(text, test, &number)
 }
 
@@ -503,18 +512,19 @@ fn push_macros(
 /// Adds a function that tells whether a formula holds.
 #[tactic(auto, unfolding(crate::specs::Headers::asserted))]
 fn push_asserted(
-    page: &Page<'_>,
+    s: &Sheet<'_>,
     text: &mut String,
     name: &str,
     what: &str,
     f: &Formula,
 ) -> Result<(), AllocError>
-    requires { FormulaFits (formula f.now) (length page.now.layout.now) }
-    ensures { OnOk result (string_bytes text.new ≡ string_bytes text.old ++ asserted name.now what.now page.now.layout.now page.now.kinds.now (formula f.now)) }
+    requires { FormulaFits (formula f.now) (length s.now.layout.now) }
+    ensures { OnOk result (string_bytes text.new ≡ string_bytes text.old ++ asserted name.now what.now s.now.layout.now s.now.kinds.now (formula f.now)) }
 {
-    let reads = kind_reads(page.alloc, page.kinds)?;
-    let t = test_in_c(page.alloc, page.layout, f)?;
-    let asked = test_text(page.alloc, page.layout, &reads, &t)?;
+    let reads = kind_reads(s.alloc, s.layout, s.kinds)?;
+    let t = test_in_c(s.alloc, s.layout, f)?;
+    let mut asked = String::new(s.alloc);
+    print_test(&mut asked, s.layout, &reads, &t)?;
     push_assertion_text(text, name, what, &asked)
 }
 
@@ -525,76 +535,124 @@ struct Titles<'a> {
     part: &'a str,
 }
 
+const UNUSED: Code<'static> = Code::Single(Line::Hook("(void)w"));
+
+/// Adds the body of a function: a statement whose first step stands at this place.
+fn push_block(s: &Sheet<'_>, text: &mut String, place: usize, body: &Stmt) -> Result<(), AllocError>
+    requires fits { StatementFits (length s.now.layout.now) (statement body.now) }
+    requires room { place + count_of (statement body.now) < 2 ^ 64 }
+    ensures { OnOk result (string_bytes text.new ≡ string_bytes text.old ++ function_text s.now.layout.now [] (in_c (page s.now) place (statement body.now))) }
+{
+    let inside = inner(s.alloc, "")?;
+    let outer = Sheet {
+        reads: &[],
+        indent: "",
+        ..*s
+    };
+    let deeper = Sheet {
+        indent: &inside,
+        ..outer
+    };
+    push_opening(&outer, text, &[])?;
+    push_code(&deeper, text, &UNUSED)?;
+    push_statement(&deeper, text, place, body)?;
+    push_closing(&outer, text)
+}
+
 /// Adds a part from its beginning to its end.
 #[tactic(auto, unfolding(crate::specs::Headers::run_text))]
 fn push_run(
-    page: &Page<'_>,
+    s: &Sheet<'_>,
     text: &mut String,
     titles: &Titles<'_>,
     body: &Stmt,
 ) -> Result<(), AllocError>
-    requires fits { StatementFits (length page.now.layout.now) (statement body.now) }
+    requires fits { StatementFits (length s.now.layout.now) (statement body.now) }
     requires room { count_of (statement body.now) < 2 ^ 64 }
-    ensures { OnOk result (string_bytes text.new ≡ string_bytes text.old ++ run_text titles.now.name.now titles.now.part.now (page_tree page.now) (statement body.now)) }
+    ensures { OnOk result (string_bytes text.new ≡ string_bytes text.old ++ run_text titles.now.name.now titles.now.part.now (page s.now) (statement body.now)) }
 {
     push_part_open(text, titles.name, titles.part)?;
-    push_statement(page, text, "    ", 0, body)?;
-    push_part_close(text)
+    push_block(s, text, 0, body)
 }
 
-/// Adds one round of a part that goes round without an end.
-#[tactic(auto, unfolding(crate::specs::Headers::one_round))]
-fn push_one_round(
-    page: &Page<'_>,
-    text: &mut String,
-    titles: &Titles<'_>,
-    body: &Stmt,
-) -> Result<(), AllocError>
-    requires fits { StatementFits (length page.now.layout.now) (statement body.now) }
-    requires room { 1 + count_of (statement body.now) < 2 ^ 64 }
-    ensures { OnOk result (string_bytes text.new ≡ string_bytes text.old ++ one_round titles.now.name.now titles.now.part.now (page_tree page.now) (statement body.now)) }
-{
-    push_round_open(text, titles.name, titles.part)?;
-    push_statement(page, text, "    ", 1, body)?;
-    push_part_close(text)
-}
-
-/// Adds such a part, which calls its round again and again.
-#[tactic(auto, unfolding(crate::specs::Headers::all_rounds))]
-fn push_all_rounds(
-    page: &Page<'_>,
-    text: &mut String,
-    titles: &Titles<'_>,
-    line: u32,
-    f: &Formula,
-) -> Result<(), AllocError>
-    requires { FormulaFits (formula f.now) (length page.now.layout.now) }
-    ensures { OnOk result (string_bytes text.new ≡ string_bytes text.old ++ all_rounds titles.now.name.now titles.now.part.now (page_tree page.now) line (formula f.now)) }
-{
-    push_part_open(text, titles.name, titles.part)?;
-    push_loop(page, text, "    ", 0, line, f)?;
-    push_round_call(text, titles.name, titles.part)?;
-    push_block_close(text, "    ")?;
-    push_part_close(text)
-}
-
-/// Adds one round of a part that goes round without an end, and the part.
+/// Adds a part that goes round without an end: one round of it, and the part, which calls that again and again.
 #[tactic(auto, unfolding(crate::specs::Headers::round_text))]
 fn push_round(
-    page: &Page<'_>,
+    s: &Sheet<'_>,
     text: &mut String,
     titles: &Titles<'_>,
     line: u32,
     f: &Formula,
     body: &Stmt,
 ) -> Result<(), AllocError>
-    requires guard { FormulaFits (formula f.now) (length page.now.layout.now) }
-    requires fits { StatementFits (length page.now.layout.now) (statement body.now) }
+    requires guard { FormulaFits (formula f.now) (length s.now.layout.now) }
+    requires fits { StatementFits (length s.now.layout.now) (statement body.now) }
     requires room { 1 + count_of (statement body.now) < 2 ^ 64 }
-    ensures { OnOk result (string_bytes text.new ≡ string_bytes text.old ++ round_text titles.now.name.now titles.now.part.now (page_tree page.now) line (formula f.now) (statement body.now)) }
+    ensures { OnOk result (string_bytes text.new ≡ string_bytes text.old ++ round_text titles.now.name.now titles.now.part.now (page s.now) line (formula f.now) (statement body.now)) }
 {
-    push_one_round(page, text, titles, body)?;
-    push_all_rounds(page, text, titles, line, f)
+    push_round_open(text, titles.name, titles.part)?;
+    push_block(s, text, 1, body)?;
+    push_part_open(text, titles.name, titles.part)?;
+    push_rounds(s, text, titles, line, f)
+}
+
+/// The name of the function for one round of a part.
+fn round_name(alloc: Global, titles: &Titles<'_>) -> Result<String, AllocError>
+    ensures { IfOk result (λ text. string_bytes text ≡ function_name titles.now.name.now (goes_round titles.now.part.now)) }
+{
+    let mut text = String::from_str(alloc, titles.name)?;
+    text.push_str("_round_")?;
+    text.push_str(titles.part)?;
+    Ok(text)
+}
+
+/// Adds the loop of such a part, which calls its round.
+fn push_calls(
+    s: &Sheet<'_>,
+    text: &mut String,
+    titles: &Titles<'_>,
+    line: u32,
+    f: &Formula,
+) -> Result<(), AllocError>
+    requires { FormulaFits (formula f.now) (length s.now.layout.now) }
+    ensures { OnOk result (string_bytes text.new ≡ string_bytes text.old ++ on s.now (looped (page s.now) 0 line (formula f.now) (calls (function_name titles.now.name.now (goes_round titles.now.part.now))))) }
+{
+    let round = round_name(s.alloc, titles)?;
+    let inside = inner(s.alloc, s.indent)?;
+    let deeper = Sheet {
+        indent: &inside,
+        ..*s
+    };
+    push_loop(s, text, At { place: 0, line }, f)?;
+    push_line(&deeper, text, &[Piece::Text(&round), Piece::Text("(w)")])?;
+    push_closing(s, text)
+}
+
+/// Adds the body of such a part.
+fn push_rounds(
+    s: &Sheet<'_>,
+    text: &mut String,
+    titles: &Titles<'_>,
+    line: u32,
+    f: &Formula,
+) -> Result<(), AllocError>
+    requires { FormulaFits (formula f.now) (length s.now.layout.now) }
+    ensures { OnOk result (string_bytes text.new ≡ string_bytes text.old ++ function_text s.now.layout.now [] (looped (page s.now) 0 line (formula f.now) (calls (function_name titles.now.name.now (goes_round titles.now.part.now))))) }
+{
+    let inside = inner(s.alloc, "")?;
+    let outer = Sheet {
+        reads: &[],
+        indent: "",
+        ..*s
+    };
+    let deeper = Sheet {
+        indent: &inside,
+        ..outer
+    };
+    push_opening(&outer, text, &[])?;
+    push_code(&deeper, text, &UNUSED)?;
+    push_calls(&deeper, text, titles, line, f)?;
+    push_closing(&outer, text)
 }
 
 /// Whether a formula is the constant true.
@@ -609,39 +667,21 @@ fn is_always(f: &Formula) -> bool
 
 /// Adds the functions of a part with this body.
 fn push_body(
-    page: &Page<'_>,
+    s: &Sheet<'_>,
     text: &mut String,
     titles: &Titles<'_>,
     body: &Stmt,
 ) -> Result<(), AllocError>
-    requires fits { StatementFits (length page.now.layout.now) (statement body.now) }
+    requires fits { StatementFits (length s.now.layout.now) (statement body.now) }
     requires room { count_of (statement body.now) < 2 ^ 64 }
-    ensures { OnOk result (string_bytes text.new ≡ string_bytes text.old ++ body_text titles.now.name.now titles.now.part.now (page_tree page.now) (statement body.now)) }
+    ensures { OnOk result (string_bytes text.new ≡ string_bytes text.old ++ body_text titles.now.name.now titles.now.part.now (page s.now) (statement body.now)) }
 {
     match body {
-        Stmt::While(line, f, inside) => {
-            if is_always(f) {
-                push_round(page, text, titles, *line, f, inside)
-            } else {
-                push_run(page, text, titles, body)
-            }
+        Stmt::While(line, f, inside) if is_always(f) => {
+            push_round(s, text, titles, *line, f, inside)
         }
-        _ => push_run(page, text, titles, body),
+        _ => push_run(s, text, titles, body),
     }
-}
-
-/// Adds a part.
-#[tactic(auto, unfolding(crate::specs::Headers::part_text))]
-fn push_part(page: &Page<'_>, text: &mut String, name: &str, part: &Part) -> Result<(), AllocError>
-    requires fits { StatementFits (length page.now.layout.now) (statement part.now.body) }
-    requires room { count_of (statement part.now.body) < 2 ^ 64 }
-    ensures { OnOk result (string_bytes text.new ≡ string_bytes text.old ++ part_text name.now (page_tree page.now) (part_tree part.now)) }
-{
-    let titles = Titles {
-        name,
-        part: part.name.as_str(),
-    };
-    push_body(page, text, &titles, &part.body)
 }
 
 /// What the text of the parts depends on: the program, the kinds of its words, and how a header is made.
@@ -654,7 +694,7 @@ struct Whole<'a> {
 }
 
 /// Adds a part at this place, by the kinds of words as it sees them.
-fn push_seen_part(
+fn push_part(
     whole: &Whole<'_>,
     text: &mut String,
     place: usize,
@@ -662,17 +702,23 @@ fn push_seen_part(
 ) -> Result<(), AllocError>
     requires fits { StatementFits (length whole.now.program.now.layout) (statement part.now.body) }
     requires room { count_of (statement part.now.body) < 2 ^ 64 }
-    ensures { OnOk result (string_bytes text.new ≡ string_bytes text.old ++ seen_part_text whole.now.options.now.name.now (program_tree whole.now.program.now) whole.now.kinds.now whole.now.options.now.is_traced place (part_tree part.now)) }
+    ensures { OnOk result (string_bytes text.new ≡ string_bytes text.old ++ part_text whole.now.options.now.name.now (program_tree whole.now.program.now) whole.now.kinds.now whole.now.options.now.is_traced place (part_tree part.now)) }
 {
     let kinds = kinds_for(whole.alloc, whole.program, whole.kinds, place)?;
-    let page = Page {
+    let s = Sheet {
         alloc: whole.alloc,
         layout: &whole.program.layout,
         kinds: &kinds,
+        reads: &[],
+        indent: "",
         part: place,
         is_traced: whole.options.is_traced,
     };
-    push_part(&page, text, whole.options.name, part)
+    let titles = Titles {
+        name: whole.options.name,
+        part: part.name.as_str(),
+    };
+    push_body(&s, text, &titles, &part.body)
 }
 
 /// Adds parts.
@@ -682,7 +728,7 @@ fn push_parts(whole: &Whole<'_>, text: &mut String, parts: &[Part]) -> Result<()
 {
     let mut place = 0;
     for part in parts {
-        push_seen_part(whole, text, place, part)?;
+        push_part(whole, text, place, part)?;
         place += 1;
     }
     Ok(())
@@ -702,10 +748,12 @@ pub fn header(
     let layout = &program.layout;
     layout.facts();
     let mut text = String::new(alloc);
-    let page = Page {
+    let s = Sheet {
         alloc,
         layout,
         kinds,
+        reads: &[],
+        indent: "",
         part: 0,
         is_traced: options.is_traced,
     };
@@ -713,8 +761,8 @@ pub fn header(
     push_macros(alloc, &mut text, options.name, layout, kinds)?;
     push_struct(alloc, &mut text, options.name, program, kinds)?;
     push_start(alloc, &mut text, options.name, program)?;
-    push_asserted(&page, &mut text, options.name, "pre", &program.spec.pre)?;
-    push_asserted(&page, &mut text, options.name, "post", &program.spec.post)?;
+    push_asserted(&s, &mut text, options.name, "pre", &program.spec.pre)?;
+    push_asserted(&s, &mut text, options.name, "post", &program.spec.post)?;
     let whole = Whole {
         alloc,
         program,

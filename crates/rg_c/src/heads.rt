@@ -1,10 +1,20 @@
 //! The pieces of which a header is made.
 
 ghost use Rattle.std.specs.Prelude.{◌≡◌, ◌++◌, string_bytes, IfOk, OnOk};
-ghost use Rattle.rg_c.specs.Heads.{top_open, promise_head, promise_line, rests_text, guard_open, atomics_open, lock_free_line, atomics_close, hooks_text, sections_text, struct_open, field_line, item_line, struct_close, start_lines, assertion_text, part_open, round_open, round_call, part_close, guard_close};
+ghost use Rattle.std.specs.List.{flat_map};
+ghost use Rattle.rg_c.specs.Heads.{top_open, promise_head, promise_line, rests_text, guard_open, atomics_open, lock_free_line, atomics_close, hooks_text, sections_text, struct_open, field_line, item_line, struct_close, start_lines, assertion_text, part_open, round_open, guard_close};
 
-use crate::lines::push_all;
 use std::alloc::{AllocError, Global};
+
+/// Adds texts, one after another.
+fn push_all(text: &mut String, pieces: &[&str]) -> Result<(), AllocError>
+    ensures { OnOk result (string_bytes text.new ≡ string_bytes text.old ++ flat_map (λ t. t.now) pieces.now) }
+{
+    for piece in pieces {
+        text.push_str(piece)?;
+    }
+    Ok(())
+}
 
 /// Adds the beginning of the comment at the top.
 #[tactic(auto, unfolding(crate::specs::Heads::top_open))]
@@ -271,7 +281,7 @@ pub(crate) fn push_part_open(text: &mut String, name: &str, part: &str) -> Resul
             part,
             "(struct ",
             name,
-            " *w)\n{\n    (void)w;\n",
+            " *w)\n",
         ],
     )
 }
@@ -292,25 +302,9 @@ pub(crate) fn push_round_open(text: &mut String, name: &str, part: &str) -> Resu
             part,
             "(struct ",
             name,
-            " *w)\n{\n    (void)w;\n",
+            " *w)\n",
         ],
     )
-}
-
-/// Adds a call of that.
-#[tactic(auto, unfolding(crate::specs::Heads::round_call))]
-pub(crate) fn push_round_call(text: &mut String, name: &str, part: &str) -> Result<(), AllocError>
-    ensures { OnOk result (string_bytes text.new ≡ string_bytes text.old ++ round_call name.now part.now) }
-{
-    push_all(text, &["        ", name, "_round_", part, "(w);\n"])
-}
-
-/// Adds the end of a part.
-#[tactic(auto, unfolding(crate::specs::Heads::part_close))]
-pub(crate) fn push_part_close(text: &mut String) -> Result<(), AllocError>
-    ensures { OnOk result (string_bytes text.new ≡ string_bytes text.old ++ part_close) }
-{
-    push_all(text, &["}\n"])
 }
 
 /// Adds the end of the header.

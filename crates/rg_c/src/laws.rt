@@ -1,17 +1,19 @@
 //! What holds of all steps, as laws: functions that do nothing, and whose contracts are the laws.
 
 ghost use Rattle.rg_c.specs.Functions.{FunctionsStayApart};
-ghost use Rattle.rg_c.specs.Laws.{StepsAreRight};
+ghost use Rattle.rg_c.specs.Laws.{StepsAreRight, TestsAreRight};
 ghost use Rattle.rg_c.specs.Starts.{StartsAreInside};
 ghost use Rattle.rg_c.specs.Together.{StoresAreTogether};
 
-/// Done at once, each step of C makes exactly the step of the program, whatever the kinds of the words.
-#[tactic(auto, using(crate::proofs::StepsRight::steps_are_right))]
+/// Done at once, the statements of each step make exactly the step of the program, whatever the kinds of the words, and each test is
+/// answered as its formula says.
+#[tactic(auto, using(crate::proofs::StepsRight::steps_are_right, crate::proofs::StepsRight::tests_are_right))]
 pub fn steps_are_right()
-    ensures { StepsAreRight }
+    ensures steps { StepsAreRight }
+    ensures tests { TestsAreRight }
 {}
 
-/// Actions that are written as one store to an item of an array do what it does, at an index within the array.
+/// Assignments that are written as one store to an item of an array do what it does, at an index within the array.
 #[tactic(auto, using(crate::proofs::TogetherRight::stores_are_together))]
 pub fn stores_are_together()
     ensures { StoresAreTogether }

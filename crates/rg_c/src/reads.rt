@@ -1,11 +1,14 @@
 //! How the words of a test are read.
 
-ghost use Rattle.std.specs.Prelude.{◌≡◌, IfOk};
+ghost use Rattle.std.specs.Prelude.{◌≡◌, ◌∷◌, [], slice_set, IfOk};
+ghost use Rattle.rg_c_values.specs.declared.print.Read.TheVariants.{Local};
 ghost use Rattle.rg_c_values.specs.View.{test, value};
-ghost use Rattle.rg_c.specs.Reads.{is_load_of, is_literal, is_one_load, load_reads, kind_reads};
+ghost use Rattle.rg_c.specs.Reads.{is_load_of, is_literal, is_one_load, load_reads, kind_read, kind_reads, local_reads};
+ghost use Rattle.rg_c.specs.Steps.{held_reads};
 
+use crate::assigned::is_stored;
 use rg_c_plan::kind::Kind;
-use rg_c_plan::way::has_atomic_accesses;
+use rg_c_plan::way::Way;
 use rg_c_values::print::Read;
 use rg_c_values::tree::{Test, Value};
 use rg_words::Layout;
@@ -50,23 +53,75 @@ pub(crate) fn load_reads(
     ensures { IfOk result (λ reads. reads.items ≡ load_reads layout.now word) }
 {
     let mut reads = vec![in alloc; Read::Plain; layout.len()]?;
+    set_read(&mut reads, word, Read::Load);
+    Ok(reads)
+}
+
+/// A word is read so.
+fn set_read(reads: &mut [Read], word: usize, read: Read)
+    ensures { reads.new ≡ slice_set reads.old word read }
+{
     if word < reads.len() {
-        reads[word] = Read::Load;
+        reads[word] = read;
+    }
+}
+
+/// How a word is read by its kind.
+fn kind_read(kinds: &[Kind], word: usize) -> Read
+    ensures { result ≡ kind_read kinds.now word }
+{
+    if is_stored(kinds, word) {
+        Read::Load
+    } else {
+        Read::Plain
+    }
+}
+
+/// How words are read by their kinds: by a load where each access is atomic, and plainly else.
+pub(crate) fn kind_reads(
+    alloc: Global,
+    layout: &Layout,
+    kinds: &[Kind],
+) -> Result<Vec<Read>, AllocError>
+    ensures { IfOk result (λ reads. reads.items ≡ kind_reads layout.now kinds.now) }
+{
+    let mut reads = Vec::new(alloc);
+    for word in 0..layout.len() {
+        reads.push(kind_read(kinds, word))?;
     }
     Ok(reads)
 }
 
-/// How words are read by their kinds: by a load where each access is atomic, and plainly else.
-pub(crate) fn kind_reads(alloc: Global, kinds: &[Kind]) -> Result<Vec<Read>, AllocError>
-    ensures { IfOk result (λ reads. reads.items ≡ kind_reads kinds.now) }
+/// How words are read where this word and the others have locals.
+pub(crate) fn local_reads(
+    alloc: Global,
+    layout: &Layout,
+    kinds: &[Kind],
+    first: usize,
+    others: &[usize],
+) -> Result<Vec<Read>, AllocError>
+    ensures { IfOk result (λ reads. reads.items ≡ local_reads layout.now kinds.now (first ∷ others.now)) }
 {
-    let mut reads = Vec::new(alloc);
-    for kind in kinds {
-        reads.push(if has_atomic_accesses(*kind) {
-            Read::Load
-        } else {
-            Read::Plain
-        })?;
+    let mut reads = kind_reads(alloc, layout, kinds)?;
+    set_read(&mut reads, first, Read::Local);
+    for word in others {
+        set_read(&mut reads, *word, Read::Local);
     }
     Ok(reads)
+}
+
+/// How words are read by a step that is done in a section, or over a local if that is used.
+pub(crate) fn held_reads(
+    alloc: Global,
+    layout: &Layout,
+    kinds: &[Kind],
+    way: Way,
+    used: bool,
+) -> Result<Vec<Read>, AllocError>
+    ensures { IfOk result (λ reads. reads.items ≡ held_reads layout.now kinds.now way used) }
+{
+    match way {
+        Way::Load(word) if used => local_reads(alloc, layout, kinds, word, &[]),
+        _ => kind_reads(alloc, layout, kinds),
+    }
 }

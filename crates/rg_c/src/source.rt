@@ -1,6 +1,6 @@
 //! Formulas, expressions and assignments in the program's own words.
 
-ghost use Rattle.std.specs.Prelude.{◌≡◌, ◌++◌, [], length, map, decimal, string_bytes, OnOk};
+ghost use Rattle.std.specs.Prelude.{◌≡◌, ◌++◌, [], length, map, string_bytes, OnOk};
 ghost use Rattle.rg_tree.specs.Fits.{ExpressionFits, FormulaFits};
 ghost use Rattle.rg_tree.specs.Printed.{operator_text, shift_text, comparison_text, connective_text, truth_text, between, expression_text, formula_text};
 ghost use Rattle.rg_tree.specs.View.{expression, formula};
@@ -8,7 +8,7 @@ ghost use Rattle.rg_tree.specs.ConditionTrees.{assignment};
 ghost use Rattle.rg_c.specs.Fitting.{AssignmentsFit};
 ghost use Rattle.rg_c.specs.Source.{name_here, assignment_source, more_source, assignments_source};
 
-use itoa::Buffer;
+use crate::print::push_digits;
 use rg_tree::condition::Assign;
 use rg_tree::tree::{Expr, Formula};
 use rg_words::Layout;
@@ -59,7 +59,7 @@ fn push_expression(text: &mut String, layout: &Layout, e: &Expr) -> Result<(), A
 {
     match e {
         Expr::Number(_, n) => {
-            push_number(text, *n)?;
+            push_digits(text, *n)?;
         }
         Expr::Word(k) => {
             text.push_str(layout.name(*k))?;
@@ -83,7 +83,7 @@ fn push_expression(text: &mut String, layout: &Layout, e: &Expr) -> Result<(), A
             text.push_str("(")?;
             push_expression(text, layout, a)?;
             push_between(text, shift_text(*shift))?;
-            push_number(text, u64::from(*count))?;
+            push_digits(text, u64::from(*count))?;
             text.push_str(")")?;
         }
         Expr::If(f, a, b) => {
@@ -106,15 +106,6 @@ fn push_between(text: &mut String, word: &str) -> Result<(), AllocError>
     text.push_str(" ")?;
     text.push_str(word)?;
     text.push_str(" ")?;
-    Ok(())
-}
-
-/// Adds a number in decimal.
-fn push_number(text: &mut String, n: u64) -> Result<(), AllocError>
-    ensures { OnOk result (string_bytes text.new ≡ string_bytes text.old ++ decimal n) }
-{
-    let mut digits = Buffer::new();
-    text.push_str(digits.format(n))?;
     Ok(())
 }
 
@@ -174,7 +165,11 @@ fn push_name(text: &mut String, layout: &Layout, word: usize) -> Result<(), Allo
 }
 
 /// Adds an assignment.
-fn push_assignment(text: &mut String, layout: &Layout, a: &Assign) -> Result<(), AllocError>
+pub(crate) fn push_assignment(
+    text: &mut String,
+    layout: &Layout,
+    a: &Assign,
+) -> Result<(), AllocError>
     requires { ExpressionFits (expression a.now.value) (length layout.now) }
     ensures { OnOk result (string_bytes text.new ≡ string_bytes text.old ++ assignment_source layout.now (assignment a.now)) }
 {

@@ -8,9 +8,9 @@ ghost use Rattle.rg_tree.specs.View.{expression, formula};
 ghost use Rattle.rg_tree.specs.ProgramTrees.{program as program_tree};
 ghost use Rattle.rg_c.specs.Starts.{given, given_value, given_values, start_of, constant_text, member_text, more_members, members_text, start_text};
 
-use crate::actions::member_of;
 use crate::heads::push_start_lines;
-use crate::page::digits;
+use crate::print::push_digits;
+use rg_c_values::arrays::push_member_of;
 use rg_tree::meaning::holds;
 use rg_tree::program::Program;
 use rg_tree::tree::{Expr, Formula};
@@ -80,54 +80,41 @@ fn start_of(alloc: Global, program: &Program) -> Result<Option<State>, AllocErro
 
 /// Adds a number as a constant of C.
 #[tactic(auto, unfolding(crate::specs::Starts::constant_text))]
-fn push_constant(alloc: Global, text: &mut String, n: u64) -> Result<(), AllocError>
+fn push_constant(text: &mut String, n: u64) -> Result<(), AllocError>
     ensures { OnOk result (string_bytes text.new ≡ string_bytes text.old ++ constant_text n) }
 {
-    let number = digits(alloc, n)?;
     if n < 1 << 32 {
-        text.push_str(&number)?;
+        push_digits(text, n)?;
         text.push_str("u")?;
         return Ok(());
     }
     text.push_str("UINT64_C(")?;
-    text.push_str(&number)?;
+    push_digits(text, n)?;
     text.push_str(")")?;
     Ok(())
 }
 
 /// Adds a member and its value.
-fn push_member(
-    alloc: Global,
-    text: &mut String,
-    layout: &Layout,
-    word: usize,
-    n: u64,
-) -> Result<(), AllocError>
+fn push_member(text: &mut String, layout: &Layout, word: usize, n: u64) -> Result<(), AllocError>
     ensures { OnOk result (string_bytes text.new ≡ string_bytes text.old ++ member_text layout.now word n) }
 {
-    let member = member_of(alloc, layout, word)?;
     text.push_str(".")?;
-    text.push_str(&member)?;
+    push_member_of(text, layout, word)?;
     text.push_str(" = ")?;
-    push_constant(alloc, text, n)
+    push_constant(text, n)
 }
 
 /// Adds all members, with commas between them.
-fn push_members(
-    alloc: Global,
-    text: &mut String,
-    layout: &Layout,
-    state: &State,
-) -> Result<(), AllocError>
+fn push_members(text: &mut String, layout: &Layout, state: &State) -> Result<(), AllocError>
     ensures { OnOk result (string_bytes text.new ≡ string_bytes text.old ++ members_text layout.now state.now.values) }
 {
     if state.len() == 0 {
         return Ok(());
     }
-    push_member(alloc, text, layout, 0, state.get(0))?;
+    push_member(text, layout, 0, state.get(0))?;
     for word in 1..state.len() {
         text.push_str(", ")?;
-        push_member(alloc, text, layout, word, state.get(word))?;
+        push_member(text, layout, word, state.get(word))?;
     }
     Ok(())
 }
@@ -146,7 +133,7 @@ pub(crate) fn push_start(
         None => Ok(()),
         Some(state) => {
             let mut members = String::new(alloc);
-            push_members(alloc, &mut members, &program.layout, &state)?;
+            push_members(&mut members, &program.layout, &state)?;
             push_start_lines(text, name, &members)
         }
     }

@@ -38,7 +38,7 @@ push_expression-returns-in_ok-push_str-in-Shifted-2 t c =
     let a = expression c.deref-in-Shifted.result.now in
     rw (c.in-Shifted.is, ← c.shift_text.ensures, ← c.deref-in-Shifted.ensures, ← c.from.ensures)
     (pair_pushed (expression_text words a) (λ rest. decimal c.from.result ++ rest) (expression_then words a) (decimal_then c.from.result) _ _ _ _ _ _ _
-    c.in_ok-push_str-in-Shifted.ensures.bytes c.in_ok-push_expression-in-Shifted.ensures c.in_ok-push_between-in-Shifted.ensures (c.in_ok-push_number-in-Shifted.ensures ∙ ap (λ d. string_bytes c.push_between-in-Shifted.new.text ++ d) (sym (append-nil (decimal c.from.result)))) c.in_ok-push_str-in-Shifted-2.ensures.bytes)
+    c.in_ok-push_str-in-Shifted.ensures.bytes c.in_ok-push_expression-in-Shifted.ensures c.in_ok-push_between-in-Shifted.ensures (c.in_ok-push_digits-in-Shifted.ensures ∙ ap (λ d. string_bytes c.push_between-in-Shifted.new.text ++ d) (sym (append-nil (decimal c.from.result)))) c.in_ok-push_str-in-Shifted-2.ensures.bytes)
 
 pub push_expression-returns-in_ok-push_str-in-If-2 : goal.push_expression-returns-in_ok-push_str-in-If-2
 push_expression-returns-in_ok-push_str-in-If-2 t c =

@@ -1,6 +1,0 @@
-use Rattle.std.proofs.Common.{◌≡◌, drop}
-use Rattle.rg_c.specs.Steps.{is_in}
-use Rattle.rg_c.proofs.moves.is_in.Given as goal
-
-abbrev pub invariant-loop-x : goal.invariant-loop-x
-invariant-loop-x l = is_in l.k (drop l.x-index l.list) ≡ is_in l.k l.list

@@ -1,0 +1,4 @@
+use Rattle.rg_c.proofs.steps.push_tried.Goals as goal
+
+pub returns : goal.returns
+returns c = c.push_code.ensures
