@@ -4,7 +4,7 @@ ghost use Rattle.std.specs.Prelude.{◌≡◌, ◌++◌, ◌∷◌, [], ◌<◌,
 ghost use Rattle.rg_c_values.specs.Arrays.{member_of, array_name, indexed};
 ghost use Rattle.rg_c_values.specs.Printed.{value_text, test_text};
 ghost use Rattle.rg_c_values.specs.View.{value, test};
-ghost use Rattle.rg_c.specs.CStatements.{each, copies, returns};
+ghost use Rattle.rg_c.specs.CStatements.{begins, copies, each, exchanges, loads, returns};
 ghost use Rattle.rg_c.specs.Printed.{name_of, type_text, type_of, flag_text, initial, joined, question_text, contrary_text, inner, line as line_text, opens, closes, printed};
 ghost use Rattle.rg_c.specs.Steps.{if_done};
 ghost use Rattle.rg_c.specs.View.{question, line, piece, of, on};
@@ -223,6 +223,51 @@ fn initial(flag: Flag) -> &'static str
     }
 }
 
+/// Adds a load of a word into its local.
+fn push_load(s: &Sheet<'_>, text: &mut String, word: usize) -> Result<(), AllocError>
+    ensures { OnOk result (string_bytes text.new ≡ string_bytes text.old ++ on s.now (loads word)) }
+{
+    let load = [
+        Text("const "),
+        Kind(word),
+        Text(" "),
+        Name(word),
+        Text("_ = RGC_LOAD(&w->"),
+        Member(word),
+        Text(")"),
+    ];
+    push_line(s, text, &load)
+}
+
+/// Adds the load of a word that is to be exchanged, and its local.
+fn push_begun(s: &Sheet<'_>, text: &mut String, word: usize) -> Result<(), AllocError>
+    ensures { OnOk result (string_bytes text.new ≡ string_bytes text.old ++ on s.now (begins word)) }
+{
+    let load = [
+        Kind(word),
+        Text(" rgc_old = RGC_LOAD(&w->"),
+        Member(word),
+        Text(")"),
+    ];
+    let local = [Kind(word), Text(" "), Name(word), Text("_ = rgc_old")];
+    push_line(s, text, &load)?;
+    push_line(s, text, &local)
+}
+
+/// Adds the exchange of a word for its local.
+fn push_exchange(s: &Sheet<'_>, text: &mut String, word: usize) -> Result<(), AllocError>
+    ensures { OnOk result (string_bytes text.new ≡ string_bytes text.old ++ on s.now (exchanges word)) }
+{
+    let exchange = [
+        Text("rgc_done = RGC_CAS(&w->"),
+        Member(word),
+        Text(", rgc_old, "),
+        Name(word),
+        Text("_)"),
+    ];
+    push_line(s, text, &exchange)
+}
+
 /// Adds a statement without others in it.
 fn push_single(s: &Sheet<'_>, text: &mut String, single: Line<'_>) -> Result<(), AllocError>
     ensures { OnOk result (string_bytes text.new ≡ string_bytes text.old ++ on s.now (line single.entry)) }
@@ -230,60 +275,20 @@ fn push_single(s: &Sheet<'_>, text: &mut String, single: Line<'_>) -> Result<(),
     match single {
         Line::Remark(remark) => push_remark(s, text, remark),
         Line::Hook(hook) => push_line(s, text, &[Text(hook)]),
-        Line::Loads(k) => {
-            let load = [
-                Text("const "),
-                Kind(k),
-                Text(" "),
-                Name(k),
-                Text("_ = RGC_LOAD(&w->"),
-                Member(k),
-                Text(")"),
-            ];
+        Line::Loads(k) => push_load(s, text, k),
+        Line::Discards(k) => {
+            let load = [Text("(void)RGC_LOAD(&w->"), Member(k), Text(")")];
             push_line(s, text, &load)
         }
-        Line::Discards(k) => {
-            push_line(
-                s,
-                text,
-                &[Text("(void)RGC_LOAD(&w->"), Member(k), Text(")")],
-            )
-        }
-        Line::Begins(k) => {
-            let load = [
-                Kind(k),
-                Text(" rgc_old = RGC_LOAD(&w->"),
-                Member(k),
-                Text(")"),
-            ];
-            push_line(s, text, &load)?;
-            push_line(s, text, &[Kind(k), Text(" "), Name(k), Text("_ = rgc_old")])
-        }
-        Line::Exchanges(k) => {
-            let exchange = [
-                Text("rgc_done = RGC_CAS(&w->"),
-                Member(k),
-                Text(", rgc_old, "),
-                Name(k),
-                Text("_)"),
-            ];
-            push_line(s, text, &exchange)
-        }
+        Line::Begins(k) => push_begun(s, text, k),
+        Line::Exchanges(k) => push_exchange(s, text, k),
         Line::Declares(flag) => {
-            let declared = [
-                Text("bool "),
-                Question(Asked::Flagged(flag)),
-                Text(initial(flag)),
-            ];
-            push_line(s, text, &declared)
+            let name = Question(Asked::Flagged(flag));
+            push_line(s, text, &[Text("bool "), name, Text(initial(flag))])
         }
         Line::Decides(flag, t) => {
-            let decided = [
-                Question(Asked::Flagged(flag)),
-                Text(" = "),
-                Question(Asked::Asks(t)),
-            ];
-            push_line(s, text, &decided)
+            let name = Question(Asked::Flagged(flag));
+            push_line(s, text, &[name, Text(" = "), Question(Asked::Asks(t))])
         }
         Line::Breaks => push_line(s, text, &[Text("break")]),
     }

@@ -1,6 +1,8 @@
 //! What long searches report to, and what says whether they go on.
 #![tactic(auto)]
 
+ghost use Rattle.std.specs.Prelude.{◌≡◌, true, false};
+
 /// What a search for a proof and a walk over runs report to now and then, and what says whether they go on.
 pub trait Watcher {
     /// A search has met so many conflicts, and keeps so many learned clauses; whether it goes on.
@@ -21,19 +23,27 @@ pub trait Watcher {
 pub struct Unwatched;
 
 impl Watcher for Unwatched {
-    fn searched(&mut self, _conflicts: u64, _learned: usize) -> bool {
+    fn searched(&mut self, _conflicts: u64, _learned: usize) -> bool
+        ensures { result ≡ true }
+    {
         true
     }
 
-    fn walked(&mut self, _steps: u64, _states: usize) -> bool {
+    fn walked(&mut self, _steps: u64, _states: usize) -> bool
+        ensures { result ≡ true }
+    {
         true
     }
 
-    fn asked(&mut self, _questions: usize) -> bool {
+    fn asked(&mut self, _questions: usize) -> bool
+        ensures { result ≡ true }
+    {
         true
     }
 
-    fn found(&mut self, _lines: &[u8]) -> bool {
+    fn found(&mut self, _lines: &[u8]) -> bool
+        ensures { result ≡ false }
+    {
         false
     }
 }
