@@ -221,7 +221,7 @@ def copy_kept(crate, to, part):
 class GateStore:
     """The libraries that `rt ci` keeps on this machine, by all that each was proved from: for the copy of a repository in a folder.
 
-    It calls what `rt ci` itself calls, so another toolchain can need a change here."""
+    It calls what `rt ci` itself calls, so another toolchain can need a change here. Where `rt ci` keeps none, there is none to take."""
 
     def __init__(self, folder):
         rt = toolchain()
@@ -231,10 +231,12 @@ class GateStore:
             self.of = {it.name: it for it in rt.rtlib.crates_below(folder)}
         finally:
             rt.rtlib.Crate = plain
-        self.store, self.taken = rt.Kept([*self.of.values()]), set()
+        self.store, self.taken = rt.Kept([*self.of.values()]) if hasattr(rt, "Kept") else None, set()
 
     def take(self, name):
         """Puts the library of this name into its crate's out/, where `rt ci` keeps it and each library below was taken before. Returns whether it did."""
+        if not self.store:
+            return False
         crate = self.of[name]
         # (a library that stands there already would be taken for a damaged one, and what is kept of it be removed)
         shutil.rmtree(f"{crate.folder}/out/rlib", ignore_errors=True)
