@@ -219,9 +219,10 @@ def copy_kept(crate, to, part):
 
 
 class GateStore:
-    """The libraries that `rt ci` keeps on this machine, by all that each was proved from: for the copy of a repository in a folder.
+    """The libraries that `rt ci` keeps on this machine, by all that each was proved from: for the copy of a repository in a folder. Where
+    it keeps none, as in some toolchains, those that are built in this repository and up to date.
 
-    It calls what `rt ci` itself calls, so another toolchain can need a change here. Where `rt ci` keeps none, there is none to take."""
+    It calls what `rt ci` itself calls, so another toolchain can need a change here."""
 
     def __init__(self, folder):
         rt = toolchain()
@@ -231,21 +232,28 @@ class GateStore:
             self.of = {it.name: it for it in rt.rtlib.crates_below(folder)}
         finally:
             rt.rtlib.Crate = plain
-        self.store, self.taken = rt.Kept([*self.of.values()]) if hasattr(rt, "Kept") else None, set()
+        self.folder, self.taken = folder, set()
+        self.store = rt.Kept([*self.of.values()]) if hasattr(rt, "Kept") else None
 
     def take(self, name):
-        """Puts the library of this name into its crate's out/, where `rt ci` keeps it and each library below was taken before. Returns whether it did."""
-        if not self.store:
-            return False
+        """Puts the library of this name into its crate's out/, where it is kept and each library below was taken before. Returns whether it did."""
         crate = self.of[name]
         # (a library that stands there already would be taken for a damaged one, and what is kept of it be removed)
         shutil.rmtree(f"{crate.folder}/out/rlib", ignore_errors=True)
-        if not {it.name for it in crate.below()} <= self.taken or not self.store.give(crate, False, self.store.key(crate)):
+        if not {it.name for it in crate.below()} <= self.taken or not self.give(crate):
+            return False
+        self.taken.add(name)
+        return True
+
+    def give(self, crate):
+        """Puts a library into its crate's out/, with the stamp by which other commands take it. Returns whether it was there."""
+        if not self.store:
+            return copy_kept(named([crate.name])[0], self.folder, "rlib") and crate.is_built()
+        if not self.store.give(crate, False, self.store.key(crate)):
             return False
         self.store.is_built(crate)
         with open(f"{crate.folder}/out/rlib/stamp", "w", encoding="utf-8") as it:
             it.write(crate.stamp())
-        self.taken.add(name)
         return True
 
 
