@@ -1,0 +1,244 @@
+"""The inputs within the limits that cost most, of each command of which a size tells what it costs."""
+import collections
+
+# A case: its command and its name; its words; what makes its files for a size; the least size; the status, and what stands in what is printed or
+# reported; and how the time may grow from one size to one eight times as large: n log n is 9 or 10.
+Case = collections.namedtuple("Case", "name words files least status says most", defaults=(0, "", 16))
+# A square, where docs/DECISIONS.md says why.
+OF_SQUARE = 90
+SPEC = "pre true rely true guar true post true"
+
+
+def joined(word, rows, most=60):
+    """Formulas as a tree with as many operands at each place."""
+    while len(rows) > 1:
+        rows = [f"({f' {word} '.join(rows[at:at + most])})" if len(rows[at : at + most]) > 1 else rows[at] for at in range(0, len(rows), most)]
+    return rows[0]
+
+
+def program(body, words="x:8", spec=SPEC):
+    return f"words {words}\n{spec}\npart p {SPEC} begin\n{body}\nend\n"
+
+
+def derivation(rows):
+    return "".join(f"line {at} {row}\n" for at, row in enumerate(rows, 1))
+
+
+def of_pre(formula):
+    return {"text": program("skip", spec=f"pre {formula} rely true guar true post true")}
+
+
+# Texts
+
+
+def deep_values(n):
+    one = f"(x = {'(' * 190}x{' + 1)' * 190})"
+    return of_pre(joined("and", [one] * (n // len(one))))
+
+
+def deep_formulas(n):
+    one = "not " * 190 + "true"
+    return of_pre(joined("and", [one] * (n // len(one))))
+
+
+def many_lines(n):
+    return {"text": program((";" + "\n" * 250).join(["x:=1"] * (n // 262)))}
+
+
+def long_names(n):
+    # (64 words that differ at their ends)
+    long = "a" * (n // 200 - 3)
+    words = " ".join(f"{long}{it}:8" for it in range(10, 74))
+    return {"text": program(f"{long}73 := {long}73", words, f"pre {joined('and', [f'({long}73 = {long}73)'] * 60)} rely true guar true post true")}
+
+
+def deep_statements(n):
+    return {"text": program(";\n".join(["if true then " * 190 + "skip" + " else skip end" * 190] * n))}
+
+
+# Derivations
+
+
+def many_premises(n):
+    k = n // 128
+    rows = [f"basic {it + 2} {SPEC}" for it in range(k)]
+    one = f"seq 1 from {' '.join(map(str, range(1, k + 1)))} {SPEC}"
+    return {"text": program(";".join(["skip"] * k)), "derivation": derivation(rows + [one] * (n // len(one)))}
+
+
+def short_lines(n):
+    return {"text": program("skip"), "derivation": derivation([f"basic 1 {SPEC}"] * n)}
+
+
+def large_premises(n):
+    """Lines that name, each, two lines whose formulas have half of the bytes."""
+    large = joined("and", ["(x=1)"] * (n // 24))
+    rows = [f"basic 2 pre true rely true guar true post {large}", f"basic 3 pre {large} rely true guar true post true"]
+    return {"text": program("skip;skip"), "derivation": derivation(rows + [f"seq 1 from 1 2 {SPEC}"] * (n // 124))}
+
+
+def lines_of_one(n):
+    """Lines of one large statement. Their conditions need no hint lines."""
+    value = joined("+", ["x"] * (n // 9), 2)
+    return {"text": program(f"x:={value}"), "derivation": derivation([f"basic 1 {SPEC}"] * (n // 57)), "proofs": ""}
+
+
+def failing(n):
+    words = " ".join(f"w{it}:64" for it in range(64))
+    return {"text": program("w0 := (w0 + 1)", words), "derivation": derivation([f"basic 1 pre true rely true guar true post (w0 = {it})" for it in range(n)] + [f"basic 1 {SPEC}"])}
+
+
+# Formulas to show
+
+
+def sums(n):
+    """A sum at 64 bits of 64 words, in an order that shares nothing."""
+    words = [f"w{it * it * 7 % 61}" for it in range(n)]
+    return {"text": f"words {' '.join(f'w{it}:64' for it in range(61))}\nshow ({joined('+', words, 2)} = 1)\n"}
+
+
+def too_many(n):
+    """A sum that has too many variables, behind bytes that are read before that is seen."""
+    return {"text": "#" * (n * 60_000) + "\n" + sums(60_000)["text"]}
+
+
+def sum_in_two_orders(n):
+    words = [f"w{it}" for it in range(n)]
+    return {"text": f"words {' '.join(f'{it}:64' for it in words)}\nshow ({joined('+', words, 2)} = {joined('+', [words[it * 7 % n] for it in range(n)], 2)})\n"}
+
+
+def product(_):
+    def of(one, other):
+        return joined("+", [f"(if (({other} band {1 << it}) = {1 << it}) then ({one} shl {it}) else 0)" for it in range(10)], 2)
+
+    return {"text": f"words x:10 y:10\nshow ({of('x', 'y')} = {of('y', 'x')})\n"}
+
+
+# Programs that are accepted without a hint line
+
+
+def accepted(text, count):
+    rows = [f"basic {it + 2} {SPEC}" for it in range(count)]
+    return {"text": text, "derivation": derivation(rows + [f"seq 1 from {' '.join(map(str, range(1, count + 1)))} {SPEC}"]), "proofs": ""}
+
+
+def large_values(n):
+    words = " ".join(f"w{it}:64" for it in range(8))
+    rows = [f"w{it % 8} := {joined('+', [f'w{(it + at) % 8}' for at in range(100)], 2)}" for it in range(n)]
+    return accepted(program(";\n".join(rows), words, "pre true rely false guar true post true"), n)
+
+
+def of_16_words(_):
+    """A loop whose step changes sixteen words of 64 bits."""
+    step = "; ".join(f"w{it} := inv w{it}" for it in range(16))
+    body = f"while true do await true do {step} end end"
+    rows = [f"atomic 2 pre (true and true) rely true guar true post true", f"loop 1 from 1 {SPEC}"]
+    return {"text": program(body, " ".join(f"w{it}:64" for it in range(64))), "derivation": derivation(rows), "proofs": ""}
+
+
+# Outlines
+
+
+def outline(*rows, words="words x:16"):
+    return {"outline": "\n".join([words, *rows]) + "\n"}
+
+
+SKIP = "part p begin skip end"
+
+
+def quantifiers(n):
+    return outline(f"pre all i in 1..{n}: some j in 1..50: (sum k in 1..20: i + j + k) > 0", SKIP)
+
+
+def left_out(n):
+    return outline(f"pre all i in 1..10: all j in 1..100 but {', '.join(['1'] * n)}: i + j > 0", SKIP)
+
+
+def chain_of_lets(n):
+    return outline("let n0 = x", *(f"let n{it + 1} = n{it}" for it in range(n)), f"pre n{n} = 1", SKIP)
+
+
+def flat_lets(n):
+    return outline(*(f"let n{it} = x + {it}" for it in range(n)), f"pre n{n - 1} = 1", SKIP)
+
+
+def doubling_lets(n):
+    return outline("let n0 = x + 1", *(f"let n{it + 1} = n{it} band n{it}" for it in range(n)), f"pre n{n} = 1", SKIP)
+
+
+def invariants(n):
+    return outline(*(f"invariant x != {it}" for it in range(n)), SKIP)
+
+
+def assertions(n):
+    return outline("part p begin", *(f"{{ x != {it} }}" for it in range(n)), "skip end")
+
+
+def members(n):
+    step = "g[i mod 2][i mod 4][i mod 7] := g[(i + 1) mod 2][i mod 4][0]"
+    return outline(f"part p begin for i in 1..{n} do {step} end end", words="words g[0..1][0..3][0..6]:8")
+
+
+def broken(n):
+    """Each statement breaks its assertion."""
+    return outline("part p owns x begin", "\n".join(f"x := {it}; {{ x = {it + 1} }}" for it in range(n)), "skip end")
+
+
+def shared(n):
+    """Each statement is one that is warned of."""
+    body = ";\n".join(["x := x + y; y := y + x"] * n)
+    return outline(*(f"part {it} begin {body} end" for it in "pq"), words="words x:16 y:16")
+
+
+def counting(_):
+    return outline("rely unchanged all", *(f"part {p} begin while true do x := x + {k} end end" for p, k in (("p", 1), ("q", 3), ("r", 7))), words="words x:32")
+
+
+def stepping(n):
+    """A part that counts its steps."""
+    return outline("pre x = 0", f"post x = {n}", "part p owns x begin { x = 0 }", "\n".join(f"x := x + 1; {{ x = {it + 1} }}" for it in range(n)), "skip end")
+
+
+def without(n):
+    return outline("pre x = 0", f"post x = {n}", "part p owns x begin", ";\n".join("x := x + 1" for _ in range(n)), "end")
+
+
+THREE = ["text", "derivation", "proofs"]
+CASES = (
+    Case("number, deep values", ["number", "text"], deep_values, 128_000, says="1 p 4 skip\n"),
+    Case("number, deep formulas", ["number", "text"], deep_formulas, 128_000, says="1 p 4 skip\n"),
+    Case("number, many lines", ["number", "text"], many_lines, 128_000, says=" assign\n"),
+    Case("number, long names", ["number", "text"], long_names, 128_000, says="1 p 4 assign\n"),
+    Case("number, deep statements", ["number", "text"], deep_statements, 1, says="381 p "),
+    Case("conditions, many premises", ["conditions", "text", "derivation"], many_premises, 60_000, says=" all post\n"),
+    Case("conditions, short lines", ["conditions", "text", "derivation"], short_lines, 2_200, says=" all post\n"),
+    Case("conditions, large premises", ["conditions", "text", "derivation"], large_premises, 32_000, says=" all post\n"),
+    Case("conditions, formulas of one statement", ["conditions", "text", "derivation", "--formulas"], lines_of_one, 4_000, says="show (true implies true)\n\n", most=OF_SQUARE),
+    Case("check, lines of one statement", ["check", *THREE, "--threads", "1"], lines_of_one, 4_000, says="accepted\n", most=OF_SQUARE),
+    Case("check, short lines", ["check", *THREE, "--threads", "1"], lambda n: {**short_lines(n), "proofs": ""}, 2_200, says="accepted\n"),
+    Case("clauses, sums", ["clauses", "text"], sums, 1_000, says="p cnf "),
+    Case("clauses, more variables than may be", ["clauses", "text"], too_many, 1, 1, "refused 11"),
+    Case("clauses, sums in SMT-LIB", ["clauses", "text", "--format", "smt2"], sums, 10_000, says="(check-sat)\n"),
+    Case("find, a sum in two orders", ["find", "text", "--steps", "100"], sum_in_two_orders, 8, 1, "gave up\n"),
+    Case("find, steps", ["find", "text", "--steps", "{}"], product, 500, 1, "gave up\n"),
+    Case("prove, conditions that fail", ["prove", "text", "derivation", "--threads", "1"], failing, 20, 1, " fails\n"),
+    Case("emit, large values", ["emit", *THREE, "--threads", "1"], large_values, 100, says='"words":[["w0",64]'),
+    Case("emit, large values as C", ["emit", *THREE, "--threads", "1", "--format", "c"], large_values, 100, says="#endif"),
+    Case("accesses, large values", ["accesses", *THREE, "--threads", "1"], large_values, 100, says="w0: 64 bits"),
+    Case("run, sixteen words a step", ["run", *THREE, "--limit", "{}"], of_16_words, 12_500, says="limit\n"),
+    Case("run, sixteen words a step, as JSON", ["run", *THREE, "--limit", "{}", "--format", "json"], of_16_words, 4_000, says='"why":"limit"}\n'),
+    Case("outline, quantifiers in each other", ["outline", "outline"], quantifiers, 20, says="end\n"),
+    Case("outline, numbers left out", ["outline", "outline"], left_out, 8_000, says="end\n"),
+    Case("outline, a chain of let", ["outline", "outline"], chain_of_lets, 100, says="end\n"),
+    Case("outline, many let", ["outline", "outline"], flat_lets, 1_500, says="end\n"),
+    Case("outline, let that doubles", ["outline", "outline"], doubling_lets, 8, 1, "is too large"),
+    Case("outline, invariants", ["outline", "outline"], invariants, 100, says="end\n"),
+    Case("outline, assertions", ["outline", "outline"], assertions, 100, says="end\n"),
+    Case("outline, members of three indices", ["outline", "outline"], members, 100, says="end\n"),
+    Case("verify, reports", ["verify", "outline", "--threads", "1", "--steps", "1000"], broken, 100, 1, "not verified: "),
+    Case("verify, warnings", ["verify", "outline", "--threads", "1", "--steps", "1000"], shared, 60, 0, "verified: "),
+    Case("verify, steps of runs", ["verify", "outline", "--threads", "1", "--runs-only", "--steps", "{}"], counting, 200_000, says="the steps are used up"),
+    Case("verify, a long part", ["verify", "outline", "--threads", "1"], stepping, 25, says="verified: "),
+    Case("complete, a long part", ["complete", "outline", "--threads", "1"], without, 8, says="verified: "),
+    Case("challenge, a long part", ["challenge", "outline", "--threads", "1"], stepping, 8, says="verified: ", most=OF_SQUARE),
+)
