@@ -1,9 +1,11 @@
 """The inputs within the limits that cost most, of each command of which a size tells what it costs."""
 import collections
+import random
 
-# A case: its command and its name; its words; what makes its files for a size; the least size; the status, and what stands in what is printed or
-# reported; and how the time may grow from one size to one eight times as large: n log n is 9 or 10.
-Case = collections.namedtuple("Case", "name words files least status says most", defaults=(0, "", 16))
+# A case: its command and its name; its words, with the size for `{}`; what makes its files for a size; the least size; the status, and what stands in
+# what is printed or reported; how the time may grow from one size to one eight times as large: n log n is 9 or 10; and the largest size within the
+# limits, where it is more than eight times the least.
+Case = collections.namedtuple("Case", "name words files least status says most largest", defaults=(0, "", 16, 0))
 # A square, where docs/DECISIONS.md says why.
 OF_SQUARE = 90
 SPEC = "pre true rely true guar true post true"
@@ -93,13 +95,8 @@ def failing(n):
 
 def sums(n):
     """A sum at 64 bits of 64 words, in an order that shares nothing."""
-    words = [f"w{it * it * 7 % 61}" for it in range(n)]
-    return {"text": f"words {' '.join(f'w{it}:64' for it in range(61))}\nshow ({joined('+', words, 2)} = 1)\n"}
-
-
-def too_many(n):
-    """A sum that has too many variables, behind bytes that are read before that is seen."""
-    return {"text": "#" * (n * 60_000) + "\n" + sums(60_000)["text"]}
+    words = [f"w{it}" for it in random.Random(n).choices(range(64), k=n)]
+    return {"text": f"words {' '.join(f'w{it}:64' for it in range(64))}\nshow ({joined('+', words, 2)} = 1)\n"}
 
 
 def sum_in_two_orders(n):
@@ -125,7 +122,8 @@ def accepted(text, count):
 def large_values(n):
     words = " ".join(f"w{it}:64" for it in range(8))
     rows = [f"w{it % 8} := {joined('+', [f'w{(it + at) % 8}' for at in range(100)], 2)}" for it in range(n)]
-    return accepted(program(";\n".join(rows), words, "pre true rely false guar true post true"), n)
+    kept = " and ".join(f"(w{it}' = w{it})" for it in range(8))
+    return accepted(program(";\n".join(rows), words, f"pre true rely ({kept}) guar true post true"), n)
 
 
 def of_16_words(_):
@@ -134,6 +132,13 @@ def of_16_words(_):
     body = f"while true do await true do {step} end end"
     rows = [f"atomic 2 pre (true and true) rely true guar true post true", f"loop 1 from 1 {SPEC}"]
     return {"text": program(body, " ".join(f"w{it}:64" for it in range(64))), "derivation": derivation(rows), "proofs": ""}
+
+
+def moves_of_64_words(n):
+    """Moves that change 64 words each, of a program that waits for ever."""
+    text = program("await (w0 = 9) do w0 := 0 end", " ".join(f"w{it}:64" for it in range(64)))
+    moves = "".join(f"at 0 {' '.join(f'w{it}={at % 2 + 1}' for it in range(64))}\n" for at in range(n))
+    return {"text": text, "derivation": derivation([f"atomic 1 {SPEC}"]), "proofs": "", "moves": moves}
 
 
 # Outlines
@@ -162,6 +167,11 @@ def flat_lets(n):
     return outline(*(f"let n{it} = x + {it}" for it in range(n)), f"pre n{n - 1} = 1", SKIP)
 
 
+def lets_used(n):
+    """Names, and as many uses of the first of them."""
+    return outline(*(f"let n{it} = x + {it}" for it in range(n)), f"pre all i in 1..{n // 10}: all j in 1..10: n0 = 1", SKIP)
+
+
 def doubling_lets(n):
     return outline("let n0 = x + 1", *(f"let n{it + 1} = n{it} band n{it}" for it in range(n)), f"pre n{n} = 1", SKIP)
 
@@ -170,13 +180,22 @@ def invariants(n):
     return outline(*(f"invariant x != {it}" for it in range(n)), SKIP)
 
 
+def large_text(n):
+    """Sixteen parts, each of which repeats the invariant."""
+    return outline("invariant " + " and ".join(f"x != {it}" for it in range(n)), "part p[i in 1..16] begin skip end")
+
+
 def assertions(n):
     return outline("part p begin", *(f"{{ x != {it} }}" for it in range(n)), "skip end")
 
 
 def members(n):
     step = "g[i mod 2][i mod 4][i mod 7] := g[(i + 1) mod 2][i mod 4][0]"
-    return outline(f"part p begin for i in 1..{n} do {step} end end", words="words g[0..1][0..3][0..6]:8")
+    return outline(f"part p begin for h in 1..{n // 50} do for i in 1..50 do {step} end end end", words="words g[0..1][0..3][0..6]:8")
+
+
+def loops_over_nothing(n):
+    return outline(f"part p begin skip; for i in 1..{n} do for j in 1..1000 do for k in 1..0 do skip end end end end")
 
 
 def broken(n):
@@ -216,29 +235,32 @@ CASES = (
     Case("conditions, formulas of one statement", ["conditions", "text", "derivation", "--formulas"], lines_of_one, 4_000, says="show (true implies true)\n\n", most=OF_SQUARE),
     Case("check, lines of one statement", ["check", *THREE, "--threads", "1"], lines_of_one, 4_000, says="accepted\n", most=OF_SQUARE),
     Case("check, short lines", ["check", *THREE, "--threads", "1"], lambda n: {**short_lines(n), "proofs": ""}, 2_200, says="accepted\n"),
-    Case("clauses, sums", ["clauses", "text"], sums, 1_000, says="p cnf "),
-    Case("clauses, more variables than may be", ["clauses", "text"], too_many, 1, 1, "refused 11"),
+    Case("clauses, sums", ["clauses", "text"], sums, 1_500, says="p cnf ", largest=55_000),
     Case("clauses, sums in SMT-LIB", ["clauses", "text", "--format", "smt2"], sums, 10_000, says="(check-sat)\n"),
     Case("find, a sum in two orders", ["find", "text", "--steps", "100"], sum_in_two_orders, 8, 1, "gave up\n"),
     Case("find, steps", ["find", "text", "--steps", "{}"], product, 500, 1, "gave up\n"),
     Case("prove, conditions that fail", ["prove", "text", "derivation", "--threads", "1"], failing, 20, 1, " fails\n"),
-    Case("emit, large values", ["emit", *THREE, "--threads", "1"], large_values, 100, says='"words":[["w0",64]'),
-    Case("emit, large values as C", ["emit", *THREE, "--threads", "1", "--format", "c"], large_values, 100, says="#endif"),
-    Case("accesses, large values", ["accesses", *THREE, "--threads", "1"], large_values, 100, says="w0: 64 bits"),
-    Case("run, sixteen words a step", ["run", *THREE, "--limit", "{}"], of_16_words, 12_500, says="limit\n"),
-    Case("run, sixteen words a step, as JSON", ["run", *THREE, "--limit", "{}", "--format", "json"], of_16_words, 4_000, says='"why":"limit"}\n'),
+    Case("emit, large values", ["emit", *THREE, "--threads", "1"], large_values, 20, says='"words":[["w0",64]'),
+    Case("emit, large values as C", ["emit", *THREE, "--threads", "1", "--format", "c"], large_values, 20, says="#endif"),
+    Case("accesses, large values", ["accesses", *THREE, "--threads", "1"], large_values, 20, says="w0: 64 bits"),
+    Case("run, sixteen words a step", ["run", *THREE, "--limit", "{}"], of_16_words, 12_500, says="limit\n", largest=1_000_000),
+    Case("run, sixteen words a step, as JSON", ["run", *THREE, "--limit", "{}", "--format", "json"], of_16_words, 4_000, says='"why":"limit"}\n', largest=1_000_000),
+    Case("run, moves of 64 words", ["run", *THREE, "--moves", "moves"], moves_of_64_words, 250, says="stuck\n", largest=3_000),
     Case("outline, quantifiers in each other", ["outline", "outline"], quantifiers, 20, says="end\n"),
     Case("outline, numbers left out", ["outline", "outline"], left_out, 8_000, says="end\n"),
     Case("outline, a chain of let", ["outline", "outline"], chain_of_lets, 100, says="end\n"),
     Case("outline, many let", ["outline", "outline"], flat_lets, 1_500, says="end\n"),
-    Case("outline, let that doubles", ["outline", "outline"], doubling_lets, 8, 1, "is too large"),
-    Case("outline, invariants", ["outline", "outline"], invariants, 100, says="end\n"),
-    Case("outline, assertions", ["outline", "outline"], assertions, 100, says="end\n"),
-    Case("outline, members of three indices", ["outline", "outline"], members, 100, says="end\n"),
+    Case("outline, let used often", ["outline", "outline"], lets_used, 1_500, says="end\n"),
+    Case("outline, let that doubles", ["outline", "outline"], doubling_lets, 20, 1, "is too large"),
+    Case("outline, invariants", ["outline", "outline"], invariants, 800, says="end\n"),
+    Case("outline, a large text", ["outline", "outline"], large_text, 100, says="end\n"),
+    Case("outline, assertions", ["outline", "outline"], assertions, 400, says="end\n"),
+    Case("outline, members of three indices", ["outline", "outline"], members, 450, says="end\n"),
+    Case("outline, for over nothing", ["outline", "outline"], loops_over_nothing, 50, says="end\n"),
     Case("verify, reports", ["verify", "outline", "--threads", "1", "--steps", "1000"], broken, 100, 1, "not verified: "),
     Case("verify, warnings", ["verify", "outline", "--threads", "1", "--steps", "1000"], shared, 60, 0, "verified: "),
     Case("verify, steps of runs", ["verify", "outline", "--threads", "1", "--runs-only", "--steps", "{}"], counting, 200_000, says="the steps are used up"),
     Case("verify, a long part", ["verify", "outline", "--threads", "1"], stepping, 25, says="verified: "),
-    Case("complete, a long part", ["complete", "outline", "--threads", "1"], without, 8, says="verified: "),
+    Case("complete, a long part", ["complete", "outline", "--threads", "1"], without, 8, 1, "tried: "),
     Case("challenge, a long part", ["challenge", "outline", "--threads", "1"], stepping, 8, says="verified: ", most=OF_SQUARE),
 )
