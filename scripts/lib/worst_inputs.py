@@ -87,7 +87,8 @@ def lines_of_one(n):
 
 def failing(n):
     words = " ".join(f"w{it}:64" for it in range(64))
-    return {"text": program("w0 := (w0 + 1)", words), "derivation": derivation([f"basic 1 pre true rely true guar true post (w0 = {it})" for it in range(n)] + [f"basic 1 {SPEC}"])}
+    rows = [f"basic 1 pre true rely true guar true post (w0 = {it})" for it in range(n)]
+    return {"text": program("w0 := (w0 + 1)", words), "derivation": derivation([*rows, f"basic 1 {SPEC}"])}
 
 
 # Formulas to show
@@ -101,7 +102,8 @@ def sums(n):
 
 def sum_in_two_orders(n):
     words = [f"w{it}" for it in range(n)]
-    return {"text": f"words {' '.join(f'{it}:64' for it in words)}\nshow ({joined('+', words, 2)} = {joined('+', [words[it * 7 % n] for it in range(n)], 2)})\n"}
+    other = [words[it * 7 % n] for it in range(n)]
+    return {"text": f"words {' '.join(f'{it}:64' for it in words)}\nshow ({joined('+', words, 2)} = {joined('+', other, 2)})\n"}
 
 
 def product(_):
@@ -169,7 +171,7 @@ def flat_lets(n):
 
 def lets_used(n):
     """Names, and as many uses of the first of them."""
-    return outline(*(f"let n{it} = x + {it}" for it in range(n)), f"pre all i in 1..{n // 10}: all j in 1..10: n0 = 1", SKIP)
+    return outline(*(f"let n{it} = x + {it}" for it in range(n)), f"pre all i in 1..{n // 50}: all j in 1..50: n0 = 1", SKIP)
 
 
 def doubling_lets(n):
@@ -223,44 +225,47 @@ def without(n):
 
 
 THREE = ["text", "derivation", "proofs"]
+CHECK, EMIT, RUN = (["check", *THREE, "--threads", "1"], ["emit", *THREE, "--threads", "1"], ["run", *THREE, "--limit", "{}"])
+CONDITIONS, OUTLINE = ["conditions", "text", "derivation"], ["outline", "outline"]
+VERIFY = ["verify", "outline", "--threads", "1"]
 CASES = (
     Case("number, deep values", ["number", "text"], deep_values, 128_000, says="1 p 4 skip\n"),
     Case("number, deep formulas", ["number", "text"], deep_formulas, 128_000, says="1 p 4 skip\n"),
     Case("number, many lines", ["number", "text"], many_lines, 128_000, says=" assign\n"),
     Case("number, long names", ["number", "text"], long_names, 128_000, says="1 p 4 assign\n"),
     Case("number, deep statements", ["number", "text"], deep_statements, 1, says="381 p "),
-    Case("conditions, many premises", ["conditions", "text", "derivation"], many_premises, 60_000, says=" all post\n"),
-    Case("conditions, short lines", ["conditions", "text", "derivation"], short_lines, 2_200, says=" all post\n"),
-    Case("conditions, large premises", ["conditions", "text", "derivation"], large_premises, 32_000, says=" all post\n"),
-    Case("conditions, formulas of one statement", ["conditions", "text", "derivation", "--formulas"], lines_of_one, 4_000, says="show (true implies true)\n\n", most=OF_SQUARE),
-    Case("check, lines of one statement", ["check", *THREE, "--threads", "1"], lines_of_one, 4_000, says="accepted\n", most=OF_SQUARE),
-    Case("check, short lines", ["check", *THREE, "--threads", "1"], lambda n: {**short_lines(n), "proofs": ""}, 2_200, says="accepted\n"),
+    Case("conditions, many premises", CONDITIONS, many_premises, 60_000, says=" all post\n"),
+    Case("conditions, short lines", CONDITIONS, short_lines, 2_200, says=" all post\n"),
+    Case("conditions, large premises", CONDITIONS, large_premises, 32_000, says=" all post\n"),
+    Case("conditions, formulas of one statement", [*CONDITIONS, "--formulas"], lines_of_one, 4_000, says="show (true implies true)\n\n", most=OF_SQUARE, largest=1_000_000),
+    Case("check, lines of one statement", CHECK, lines_of_one, 4_000, says="accepted\n", most=OF_SQUARE, largest=1_000_000),
+    Case("check, short lines", CHECK, lambda n: {**short_lines(n), "proofs": ""}, 2_200, says="accepted\n"),
     Case("clauses, sums", ["clauses", "text"], sums, 1_500, says="p cnf ", largest=55_000),
     Case("clauses, sums in SMT-LIB", ["clauses", "text", "--format", "smt2"], sums, 10_000, says="(check-sat)\n"),
     Case("find, a sum in two orders", ["find", "text", "--steps", "100"], sum_in_two_orders, 8, 1, "gave up\n"),
     Case("find, steps", ["find", "text", "--steps", "{}"], product, 500, 1, "gave up\n"),
-    Case("prove, conditions that fail", ["prove", "text", "derivation", "--threads", "1"], failing, 20, 1, " fails\n"),
-    Case("emit, large values", ["emit", *THREE, "--threads", "1"], large_values, 20, says='"words":[["w0",64]'),
-    Case("emit, large values as C", ["emit", *THREE, "--threads", "1", "--format", "c"], large_values, 20, says="#endif"),
+    Case("prove, conditions that fail", ["prove", "text", "derivation", "--threads", "1"], failing, 10, 1, " fails\n"),
+    Case("emit, large values", EMIT, large_values, 20, says='"words":[["w0",64]'),
+    Case("emit, large values as C", [*EMIT, "--format", "c"], large_values, 20, says="#endif"),
     Case("accesses, large values", ["accesses", *THREE, "--threads", "1"], large_values, 20, says="w0: 64 bits"),
-    Case("run, sixteen words a step", ["run", *THREE, "--limit", "{}"], of_16_words, 12_500, says="limit\n", largest=1_000_000),
-    Case("run, sixteen words a step, as JSON", ["run", *THREE, "--limit", "{}", "--format", "json"], of_16_words, 4_000, says='"why":"limit"}\n', largest=1_000_000),
+    Case("run, sixteen words a step", RUN, of_16_words, 12_500, says="limit\n", largest=1_000_000),
+    Case("run, sixteen words a step, as JSON", [*RUN, "--format", "json"], of_16_words, 4_000, says='"why":"limit"}\n', largest=1_000_000),
     Case("run, moves of 64 words", ["run", *THREE, "--moves", "moves"], moves_of_64_words, 250, says="stuck\n", largest=3_000),
-    Case("outline, quantifiers in each other", ["outline", "outline"], quantifiers, 20, says="end\n"),
-    Case("outline, numbers left out", ["outline", "outline"], left_out, 8_000, says="end\n"),
-    Case("outline, a chain of let", ["outline", "outline"], chain_of_lets, 100, says="end\n"),
-    Case("outline, many let", ["outline", "outline"], flat_lets, 1_500, says="end\n"),
-    Case("outline, let used often", ["outline", "outline"], lets_used, 1_500, says="end\n"),
-    Case("outline, let that doubles", ["outline", "outline"], doubling_lets, 20, 1, "is too large"),
-    Case("outline, invariants", ["outline", "outline"], invariants, 800, says="end\n"),
-    Case("outline, a large text", ["outline", "outline"], large_text, 100, says="end\n"),
-    Case("outline, assertions", ["outline", "outline"], assertions, 400, says="end\n"),
-    Case("outline, members of three indices", ["outline", "outline"], members, 450, says="end\n"),
-    Case("outline, for over nothing", ["outline", "outline"], loops_over_nothing, 50, says="end\n"),
-    Case("verify, reports", ["verify", "outline", "--threads", "1", "--steps", "1000"], broken, 100, 1, "not verified: "),
-    Case("verify, warnings", ["verify", "outline", "--threads", "1", "--steps", "1000"], shared, 60, 0, "verified: "),
-    Case("verify, steps of runs", ["verify", "outline", "--threads", "1", "--runs-only", "--steps", "{}"], counting, 200_000, says="the steps are used up"),
-    Case("verify, a long part", ["verify", "outline", "--threads", "1"], stepping, 25, says="verified: "),
+    Case("outline, quantifiers in each other", OUTLINE, quantifiers, 20, says="end\n"),
+    Case("outline, numbers left out", OUTLINE, left_out, 8_000, says="end\n"),
+    Case("outline, a chain of let", OUTLINE, chain_of_lets, 100, says="end\n"),
+    Case("outline, many let", OUTLINE, flat_lets, 1_500, says="end\n"),
+    Case("outline, let used often", OUTLINE, lets_used, 1_500, says="end\n"),
+    Case("outline, let that doubles", OUTLINE, doubling_lets, 20, 1, "is too large"),
+    Case("outline, invariants", OUTLINE, invariants, 800, says="end\n"),
+    Case("outline, a large text", OUTLINE, large_text, 100, says="end\n"),
+    Case("outline, assertions", OUTLINE, assertions, 400, says="end\n"),
+    Case("outline, members of three indices", OUTLINE, members, 450, says="end\n"),
+    Case("outline, for over nothing", OUTLINE, loops_over_nothing, 50, says="end\n"),
+    Case("verify, reports", [*VERIFY, "--steps", "1000"], broken, 100, 1, "not verified: "),
+    Case("verify, warnings", [*VERIFY, "--steps", "1000"], shared, 60, 0, "verified: "),
+    Case("verify, steps of runs", [*VERIFY, "--runs-only", "--steps", "{}"], counting, 200_000, says="the steps are used up"),
+    Case("verify, a long part", VERIFY, stepping, 25, says="verified: "),
     Case("complete, a long part", ["complete", "outline", "--threads", "1"], without, 8, 1, "tried: "),
     Case("challenge, a long part", ["challenge", "outline", "--threads", "1"], stepping, 8, says="verified: ", most=OF_SQUARE),
 )
