@@ -3,9 +3,9 @@ import collections
 import random
 
 # A case: its command and its name; its words, with the size for `{}`; what makes its files for a size; the least size; the status, and what stands in
-# what is printed or reported; how the time may grow from one size to one eight times as large: n log n is 9 or 10; and the largest size within the
-# limits, where it is more than eight times the least.
-Case = collections.namedtuple("Case", "name words files least status says most largest", defaults=(0, "", 16, 0))
+# what is printed or reported; how the time may grow from one size to one eight times as large: n log n is 9 or 10; the largest size within the
+# limits, where it is more than eight times the least; and why it grows faster than it should, where that is known.
+Case = collections.namedtuple("Case", "name words files least status says most largest known", defaults=(0, "", 16, 0, ""))
 # A square, where docs/DECISIONS.md says why.
 OF_SQUARE = 90
 SPEC = "pre true rely true guar true post true"
@@ -236,9 +236,9 @@ CASES = (
     Case("number, deep statements", ["number", "text"], deep_statements, 1, says="381 p "),
     Case("conditions, many premises", CONDITIONS, many_premises, 60_000, says=" all post\n"),
     Case("conditions, short lines", CONDITIONS, short_lines, 2_200, says=" all post\n"),
-    Case("conditions, large premises", CONDITIONS, large_premises, 32_000, says=" all post\n"),
-    Case("conditions, formulas of one", [*CONDITIONS, "--formulas"], lines_of_one, 4_000, says="true implies true)\n\n", most=OF_SQUARE, largest=1_000_000),
-    Case("check, lines of one statement", CHECK, lines_of_one, 4_000, says="accepted\n", most=OF_SQUARE, largest=1_000_000),
+    Case("conditions, large premises", CONDITIONS, large_premises, 32_000, says=" all post\n", known="each line compares its premises' formulas anew"),
+    Case("conditions, formulas of one", [*CONDITIONS, "--formulas"], lines_of_one, 4_000, says="true implies true)\n\n", most=OF_SQUARE, largest=1_000_000, known="all formulas are in memory before the first is printed"),
+    Case("check, lines of one statement", CHECK, lines_of_one, 4_000, says="accepted\n", most=OF_SQUARE, largest=1_000_000, known="all conditions are in memory before the first is checked"),
     Case("check, many lines", CHECK, lambda n: {**short_lines(n), "proofs": ""}, 2_200, says="accepted\n"),
     Case("clauses, sums", ["clauses", "text"], sums, 1_500, says="p cnf ", largest=55_000),
     Case("clauses, sums in SMT-LIB", ["clauses", "text", "--format", "smt2"], sums, 10_000, says="(check-sat)\n"),
@@ -249,12 +249,12 @@ CASES = (
     Case("emit, large values as C", [*EMIT, "--format", "c"], large_values, 20, says="#endif"),
     Case("accesses, large values", ["accesses", *THREE, "--threads", "1"], large_values, 20, says="w0: 64 bits"),
     Case("run, sixteen words a step", RUN, of_16_words, 12_500, says="limit\n", largest=1_000_000),
-    Case("run, sixteen words a step, as JSON", [*RUN, "--format", "json"], of_16_words, 4_000, says='"why":"limit"}\n', largest=1_000_000),
+    Case("run, sixteen words a step, as JSON", [*RUN, "--format", "json"], of_16_words, 4_000, says='"why":"limit"}\n', largest=1_000_000, known="all records are in memory before the first is printed"),
     Case("run, moves of 64 words", ["run", *THREE, "--moves", "moves"], moves_of_64_words, 250, says="stuck\n", largest=3_000),
     Case("outline, quantifiers in each other", OUTLINE, quantifiers, 20, says="end\n"),
     Case("outline, numbers left out", OUTLINE, left_out, 8_000, says="end\n"),
-    Case("outline, a chain of let", OUTLINE, chain_of_lets, 100, says="end\n"),
-    Case("outline, many let", OUTLINE, flat_lets, 1_500, says="end\n"),
+    Case("outline, a chain of let", OUTLINE, chain_of_lets, 100, says="end\n", known="a name's formula is worked out at each use"),
+    Case("outline, many let", OUTLINE, flat_lets, 1_500, says="end\n", known="a name is looked up among all"),
     Case("outline, let used often", OUTLINE, lets_used, 1_500, says="end\n"),
     Case("outline, let that doubles", OUTLINE, doubling_lets, 20, 1, "is too large"),
     Case("outline, invariants", OUTLINE, invariants, 800, says="end\n"),
