@@ -19,7 +19,7 @@ FILES = {
     "hints": "8 0 7 5 1 4 0\n",
     "outline": OUTLINE,
     "outline_start": "x = 0\n",
-    "outline_moves": "at 0 x = 0\n",
+    "outline_moves": "at 0 x = 5\n",
     "empty": "",
 }
 # What is read: the kind of the file as a refusal names it, and the words of a call, in which @ stands before the name of this file.
