@@ -1,8 +1,9 @@
 //! The files that a command writes, each of which is replaced by a whole new one, or written straight where it is no regular file.
 
 use crate::place::{are_same, end_of, is_standard_output};
+use crate::screen::Screen;
 use crate::tell;
-use rg_words::{Device, write_all};
+use rg_words::write_all;
 use std::alloc::AllocError;
 use std::fs::{File, Metadata, OpenOptions, Permissions};
 use std::io::{Error, ErrorKind, Write};
@@ -164,7 +165,7 @@ fn write_straight(rt: &HostRuntime, name: &str, bytes: &[u8], is_file: bool) -> 
 fn write_in_place(rt: &HostRuntime, output: &Output<'_>, place: &Place) -> io::Result<()> {
     match *place {
         Place::Printed => {
-            let mut out = Device::new(rt.stdout());
+            let mut out = Screen::new(rt.stdout());
             match write_all(&mut out, output.bytes) {
                 Ok(()) => Ok(()),
                 Err(_) => Err(Error::from(ErrorKind::Other)),
