@@ -75,7 +75,7 @@ BUGS = [
     ("mailbox", "the slot is said to be full before it is", BROKEN),
     ("mailbox", "the slot is free before the message is taken", [(MAILBOX_TAKES, MAILBOX_FREES_FIRST), ("full := 1\n  { true }", "full := 1;\n  await full = 0;\n  slot := 0")]),
     ("mailbox", "the receiver doesn't wait", [("await full = 1;", "await full = 1 or full = 0;")]),
-    ("handshake", "the request is taken back before it is acknowledged", BROKEN),
+    ("handshake", "the receiver doesn't wait for the request", [("  await req = 1;\n  { ack = 0 and req = 1 }\n", "")]),
     ("handshake", "the request comes before the data", [("data := message;\n", "req := 1;\n"), ("{ req = 0 and ack = 0 and data = message }\n  req := 1", "{ true }\n  data := message")]),
     ("handshake", "the acknowledgement comes before the copy", [("atomic copy := data; ack := 1 end;", "ack := 1;\n  copy := data;")]),
     ("interrupt", "interrupts stay on", BROKEN),
