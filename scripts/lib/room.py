@@ -12,7 +12,9 @@ TOP, IS_ROOT = Path(__file__).resolve().parent.parent.parent, os.getuid() == 0
 # A file that a call leaves which is killed while it writes.
 LEFT = re.compile(r"\.rgc\.[0-9a-f]{16}")
 # The words that make what an option writes.
-ASKED = {"text": ["outline", "c.rgo"], "map": ["outline", "c.rgo"], "output": ["prove", "text", "derivation"], "draw": ["run", "--outline", "c.rgo"]}
+ASKED = {"text": ["outline", "c.rgo"], "map": ["outline", "c.rgo"], "output": ["prove", "text", "derivation"], "draw": ["run", "--outline", "one.rgo"]}
+# A part that makes one step: each of its runs prints the same.
+ONE = "words x:8\npre x = 0\nrely unchanged x\npost x = 1\npart p\n  owns x\nbegin\n  { x = 0 }\n  x := 1\n  { x = 1 }\nend\n"
 COUNTS = {"right": 0, "wrong": 0}
 # Users whom no file belongs to.
 USER, STRANGER = 61_235, 61_236
@@ -32,8 +34,10 @@ class Room:
     def __init__(self, case, program, user, folder):
         self.case, self.program, self.user, self.folder = case, program, user, folder
         self.write("c.rgo", (TOP / "examples/outlines/counter.rgo").read_text(encoding="utf-8"))
+        self.write("one.rgo", ONE)
         self.run("outline", "c.rgo", *(it for name in ("text", "map", "derivation", "proofs") for it in (f"--{name}", name)))
-        self.made = {"text": self.text("text"), "map": self.text("map"), "output": self.text("proofs")}
+        self.printed = {"draw": self.run("run", "--outline", "one.rgo", "--draw", "picture")[1]}
+        self.made = {"text": self.text("text"), "map": self.text("map"), "output": self.text("proofs"), "draw": self.text("picture")}
 
     def start(self, *words, limit=None, **how):
         def prepare():
@@ -84,7 +88,7 @@ class Room:
 
     def written(self, option, name):
         """Asks that what this option writes goes to the file of this name, and that no other is left."""
-        self.asks(f"answer of --{option} {name}", self.run(*ASKED[option], f"--{option}", name), (0, "", ""))
+        self.asks(f"answer of --{option} {name}", self.run(*ASKED[option], f"--{option}", name), (0, self.printed.get(option, ""), ""))
         self.asks(f"content of --{option} {name}", self.text(name), self.made[option])
         self.asks(f"files after --{option} {name}", [str(it) for it in self.folder.rglob("*") if LEFT.fullmatch(it.name)], [])
 

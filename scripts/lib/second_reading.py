@@ -1,4 +1,4 @@
-"""A second reading of texts, derivations and starts, from docs/LANGUAGE.md, RULES.md and REFUSALS.md alone: the first fault of a file with its number and
+"""A second reading of texts, derivations, starts and moves, from docs/LANGUAGE.md, RULES.md and REFUSALS.md alone: the first fault of a file with its number and
 its line, or what the file says. It is slow and plain: the grammar stands here as the page has it, and what can follow is tried in all ways at once."""
 import collections
 import re
@@ -524,7 +524,7 @@ class Reader:
         self.ends()
         return self.words, tree
 
-    # Derivations and starts
+    # Derivations, starts and moves
 
     def lines(self):
         found = []
@@ -695,8 +695,8 @@ def holds(tree, words, state):
 # What commands answer
 
 
-def verdict(files, has_start=False):
-    """The first refusal of text, derivation and start as number, file and line; None where there is none."""
+def verdict(files, has_start=False, has_moves=False):
+    """The first refusal of text, derivation, start and moves as number, file and line; None where there is none."""
     at = "text"
     try:
         if b"show" in files["text"] and "derivation" not in files:
@@ -706,11 +706,15 @@ def verdict(files, has_start=False):
         if "derivation" in files:
             at = "derivation"
             read_derivation(files["derivation"], program)
+        state = {name: 0 for name in program.words}
         if has_start:
             at = "start"
-            state = {**{name: 0 for name in program.words}, **read_start(files["start"], program.words)}
-            if not holds(program.spec[0], program.words, state):
-                return 61, "start", 1
+            state |= read_start(files["start"], program.words)
+        if has_moves:
+            at = "moves"
+            read_moves(files["moves"], program.words)
+        if (has_start or has_moves) and not holds(program.spec[0], program.words, state):
+            return 61, "start", 1
     except Fault as fault:
         return fault.number, at, fault.line
     return None

@@ -79,17 +79,18 @@ fn delivered<R: Threads + Wait + Sync>(
             is_in_place: true,
             ..
         } => {
+            let mut text = Vec::from_slice(rt.alloc(), verdict)?;
+            text.extend_from_slice(&said)?;
+            let status = shown(rt, format, &text, 0);
+            if status != 0 {
+                return Ok(status);
+            }
             let output = Output {
                 name: outline,
                 bytes: &found.source,
                 what: "outline",
             };
-            let status = write_outputs(rt, &[output])?;
-            if status != 0 {
-                return Ok(status);
-            }
-            let status = shown(rt, format, verdict, 0);
-            Ok(shown(rt, format, &said, status))
+            write_outputs(rt, &[output])
         }
         _ => {
             let status = shown(rt, format, &found.source, 0);

@@ -10,6 +10,7 @@ mod paint;
 mod pieces;
 mod place;
 mod replace;
+mod screen;
 mod sides;
 mod stack;
 mod terminal;
@@ -33,6 +34,7 @@ use rg_outline_reports::{
 use rg_words::{Buffered, Device, Out, write_all};
 use rgc_commands::{Context, Expanded, Files, Sides, perform};
 use rgc_line::{Command, Format, Line, LineFault, PLAIN};
+use screen::Screen;
 use sides::{add_pieces, can_hold, write_sides};
 use stack::{STACK_BYTES, has_small_stacks};
 use std::alloc::AllocError;
@@ -52,10 +54,16 @@ fn usage(rt: &HostRuntime, fault: &LineFault) -> u8 {
         LineFault::Usage(error) if error.kind() == ErrorKind::DisplayVersion => print_version(
             rt, error,
         ),
+        LineFault::Usage(error) if error.use_stderr() => match format!(in rt.alloc(); "{error}") {
+            Ok(text) => {
+                reported(rt, text.as_bytes());
+                2
+            }
+            Err(_) => tell(rt, "refused 99"),
+        },
         LineFault::Usage(error) => match error.print(rt) {
-            Ok(()) if !error.use_stderr() => 0,
-            Err(_) if !error.use_stderr() => tell(rt, "refused 63"),
-            _ => 2,
+            Ok(()) => 0,
+            Err(_) => tell(rt, "refused 63"),
         },
         LineFault::Fields(fault) => {
             let _ = eprintln!(rt; "error: {fault}");
@@ -193,8 +201,8 @@ fn buffered<R: Threads + Wait + Sync>(
     sides: &mut Sides,
 ) -> Result<u8, AllocError> {
     let rt = means.rt;
-    let mut out = Buffered::new(rt.alloc(), Device::new(rt.stdout()))?;
-    let mut faults = Device::new(rt.stderr());
+    let mut out = Buffered::new(rt.alloc(), Screen::new(rt.stdout()))?;
+    let mut faults = Screen::new(rt.stderr());
     let status = performed(means, line, files, &mut out, &mut faults, sides);
     if status == 0 && out.flush().is_err() {
         return Ok(tell_cut_off(rt, line.settings.format));
@@ -204,7 +212,7 @@ fn buffered<R: Threads + Wait + Sync>(
 
 /// Writes bytes to standard output; the status where they went out.
 fn shown(rt: &HostRuntime, format: Format, bytes: &[u8], status: u8) -> u8 {
-    let mut out = Device::new(rt.stdout());
+    let mut out = Screen::new(rt.stdout());
     match write_all(&mut out, bytes) {
         Ok(()) => status,
         Err(_) => tell_cut_off(rt, format),
@@ -213,7 +221,7 @@ fn shown(rt: &HostRuntime, format: Format, bytes: &[u8], status: u8) -> u8 {
 
 /// Writes bytes to standard error, where they can be written.
 pub(crate) fn reported(rt: &HostRuntime, bytes: &[u8]) {
-    let mut faults = Device::new(rt.stderr());
+    let mut faults = Screen::new(rt.stderr());
     let _ = write_all(&mut faults, bytes);
 }
 
@@ -245,7 +253,10 @@ fn written<R: Threads + Wait + Sync>(
         }
         (None, Command::Verify { .. }) if is_coloured(rt) => {
             let text = painted(rt.alloc(), bytes)?;
-            Ok(shown(rt, format, &text, status))
+            match write_all(&mut Device::new(rt.stdout()), &text) {
+                Ok(()) => Ok(status),
+                Err(_) => Ok(tell_cut_off(rt, format)),
+            }
         }
         (None, Command::Verify { .. }) => Ok(shown(rt, format, bytes, status)),
         (None, _) => {
@@ -336,8 +347,8 @@ fn done<R: Threads + Wait + Sync>(
 ) -> Result<u8, AllocError> {
     match way_of(means.rt, line) {
         Way::AtOnce => {
-            let mut out = Device::new(means.rt.stdout());
-            let mut faults = Device::new(means.rt.stderr());
+            let mut out = Screen::new(means.rt.stdout());
+            let mut faults = Screen::new(means.rt.stderr());
             Ok(performed(means, line, files, &mut out, &mut faults, sides))
         }
         Way::Buffered => buffered(means, line, files, sides),
@@ -539,7 +550,7 @@ fn run_from<R: Threads + Wait + Sync>(
         ..*files
     };
     let mut sides = Sides::new(rt.alloc());
-    let mut out = Device::new(rt.stdout());
+    let mut out = Screen::new(rt.stdout());
     // (nothing is written to the faults before the run is over)
     let mut faults = Memory::new(rt.alloc());
     let status = performed(means, line, &files, &mut out, &mut faults, &mut sides);
@@ -636,7 +647,8 @@ fn run<R: Threads + Wait + Sync>(
     }
     if let Some((earlier, output)) = clash_of(rt, line, names)? {
         let (one, other, name) = (earlier.option, output.option, output.name);
-        let _ = eprintln!(rt; "error: {one} and {other} name one file: {name}");
+        let said = format!(in rt.alloc(); "error: {one} and {other} name one file: {name}\n")?;
+        reported(rt, said.as_bytes());
         return Ok(Ended::MISFIT);
     }
     let mut contents = Contents::empty();
@@ -725,7 +737,7 @@ fn work<R: Threads + Wait + Sync>(rt: &HostRuntime, threads: &R) -> Result<u8, A
 }
 
 /// Does what the words ask for in a thread with a stack of its own, so that a small limit of the process doesn't matter; or in this one, where no thread
-/// can be had.
+/// can be had and its stack holds the deepest condition. Where it doesn't, memory is refused.
 fn work_with_room<R: Threads + Wait + Sync>(
     rt: &HostRuntime,
     threads: &R,
@@ -737,6 +749,7 @@ fn work_with_room<R: Threads + Wait + Sync>(
             let stack = Builder::new().stack_size(STACK_BYTES);
             match stack.spawn_scoped(scope, || work(rt, threads)) {
                 Ok(worker) => worker.join(threads),
+                Err(_) if has_small_stacks(rt) => Err(AllocError),
                 Err(_) => work(rt, threads),
             }
         },

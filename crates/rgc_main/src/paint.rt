@@ -1,5 +1,6 @@
 //! The colours of reports, row by row.
 
+use crate::screen::cleaned;
 use std::alloc::{AllocError, Global};
 
 const BOLD: &[u8] = b"\x1b[1m";
@@ -83,7 +84,8 @@ fn push_row(text: &mut Vec<u8>, row: &[u8]) -> Result<(), AllocError> {
     Ok(())
 }
 
-/// Reports in colour: in each row that begins with a place it is bold, and rows of carets are red. The rest stays as it is.
+/// Reports in colour: in each row that begins with a place it is bold, and rows of carets are red. The rest stays as it is, but for the bytes that a terminal
+/// would obey.
 ///
 /// # Errors
 ///
@@ -91,7 +93,7 @@ fn push_row(text: &mut Vec<u8>, row: &[u8]) -> Result<(), AllocError> {
 pub fn painted(alloc: Global, lines: &[u8]) -> Result<Vec<u8>, AllocError> {
     let mut text = Vec::new(alloc);
     let mut row = Vec::new(alloc);
-    for byte in lines {
+    for byte in &cleaned(alloc, lines)? {
         if *byte == b'\n' {
             push_row(&mut text, &row)?;
             text.push(b'\n')?;

@@ -1,8 +1,9 @@
 //! The files that a command writes, each of which is replaced by a whole new one, or written straight where it is no regular file.
 
 use crate::place::{are_same, end_of, is_standard_output};
+use crate::screen::Screen;
 use crate::tell;
-use rg_words::{Device, write_all};
+use rg_words::write_all;
 use std::alloc::AllocError;
 use std::fs::{File, Metadata, OpenOptions, Permissions};
 use std::io::{Error, ErrorKind, Write};
@@ -35,6 +36,9 @@ enum Place {
 const NEW_MODE: u32 = 0o666;
 
 const OWN_MODE: u32 = 0o600;
+
+/// How often an output is looked for, where other calls replace its file.
+const MOST_LOOKS: usize = 16;
 
 /// The bits of a mode that say who may do what; and those of them by which nobody gets the rights of the owner.
 const MODE_BITS: u32 = 0o7777;
@@ -111,18 +115,19 @@ fn write_beside(
     }
 }
 
-/// The file at the end of links, if it is the one that was found, and may be written.
-fn writable(rt: &HostRuntime, target: Path<'_>, found: &Metadata) -> io::Result<Metadata> {
+/// The file at the end of links, which may be written; none where it isn't the one that was found any more.
+fn writable(rt: &HostRuntime, target: Path<'_>, found: &Metadata) -> io::Result<Option<Metadata>> {
     let file = OpenOptions::new().write(true).open(rt, target)?;
     let older = file.metadata()?;
-    if !are_same(&older, found) {
-        return Err(Error::from(ErrorKind::Other));
+    if are_same(&older, found) {
+        Ok(Some(older))
+    } else {
+        Ok(None)
     }
-    Ok(older)
 }
 
-/// Finds out where an output goes. Where that is a new file, it is written; nothing else is.
-fn prepare(rt: &HostRuntime, output: &Output<'_>) -> io::Result<Place> {
+/// Looks where an output goes. Where that is a new file, it is written; nothing else is. None where another file got the name meanwhile.
+fn look(rt: &HostRuntime, output: &Output<'_>) -> io::Result<Option<Place>> {
     let found = match fs::metadata(rt, output.name) {
         Ok(found) => Some(found),
         Err(error) if error.kind() == ErrorKind::NotFound => None,
@@ -130,22 +135,33 @@ fn prepare(rt: &HostRuntime, output: &Output<'_>) -> io::Result<Place> {
     };
     if let Some(found) = &found {
         if is_standard_output(rt, found) {
-            return Ok(Place::Printed);
+            return Ok(Some(Place::Printed));
         }
         if !found.is_file() {
-            return Ok(Place::Straight { is_file: false });
+            return Ok(Some(Place::Straight { is_file: false }));
         }
     }
     let Some(target) = end_of(rt, output.name)? else {
-        return Ok(Place::Straight { is_file: true });
+        return Ok(Some(Place::Straight { is_file: true }));
     };
-    match found {
-        Some(found) => {
-            let older = writable(rt, target.as_path(), &found)?;
-            write_beside(rt, target, output.bytes, Some(&older))
+    let mut older = None;
+    if let Some(found) = &found {
+        older = writable(rt, target.as_path(), found)?;
+        if older.is_none() {
+            return Ok(None);
         }
-        None => write_beside(rt, target, output.bytes, None),
     }
+    Ok(Some(write_beside(rt, target, output.bytes, older.as_ref())?))
+}
+
+/// Finds out where an output goes, as `look` does, and looks again where another call replaces the file meanwhile.
+fn prepare(rt: &HostRuntime, output: &Output<'_>) -> io::Result<Place> {
+    for _ in 0..MOST_LOOKS {
+        if let Some(place) = look(rt, output)? {
+            return Ok(place);
+        }
+    }
+    Err(Error::from(ErrorKind::Other))
 }
 
 /// Writes bytes to what has this name, if that is still a regular file, or still none.
@@ -164,7 +180,7 @@ fn write_straight(rt: &HostRuntime, name: &str, bytes: &[u8], is_file: bool) -> 
 fn write_in_place(rt: &HostRuntime, output: &Output<'_>, place: &Place) -> io::Result<()> {
     match *place {
         Place::Printed => {
-            let mut out = Device::new(rt.stdout());
+            let mut out = Screen::new(rt.stdout());
             match write_all(&mut out, output.bytes) {
                 Ok(()) => Ok(()),
                 Err(_) => Err(Error::from(ErrorKind::Other)),

@@ -2,6 +2,7 @@
 
 use crate::is_coloured;
 use crate::paint::painted;
+use crate::screen::Screen;
 use rg_watch::Watcher;
 use rg_words::{Device, write_all};
 use std::io::IsTerminal;
@@ -136,12 +137,11 @@ impl Watcher for Terminal<'_> {
         if !self.shows {
             return false;
         }
-        let mut out = Device::new(self.rt.stdout());
         if !is_coloured(self.rt) {
-            return write_all(&mut out, lines).is_ok();
+            return write_all(&mut Screen::new(self.rt.stdout()), lines).is_ok();
         }
         match painted(self.rt.alloc(), lines) {
-            Ok(text) => write_all(&mut out, &text).is_ok(),
+            Ok(text) => write_all(&mut Device::new(self.rt.stdout()), &text).is_ok(),
             Err(_) => false,
         }
     }
