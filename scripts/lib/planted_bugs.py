@@ -55,6 +55,14 @@ SHARED_SAYS_SO_FIRST = """  atomic state := 2; by := 0 end;
   box := message[i]
 """
 HALVES_AT_ONCE = "do lo := lo + 1; hi := (if lo = 0 then hi + 1 else hi) end"
+BOTH_HALVES = """      more[which] := sampled;
+      which := which + 1;
+      ready := 1
+"""
+ONE_HALF = """      which := which + 1;
+      ready := 1;
+      more[which + 1] := sampled
+"""
 
 # An outline, the bug in words, and what is replaced.
 BUGS = [
@@ -75,11 +83,9 @@ BUGS = [
     ("mailbox", "the slot is said to be full before it is", BROKEN),
     ("mailbox", "the slot is free before the message is taken", [(MAILBOX_TAKES, MAILBOX_FREES_FIRST), ("full := 1\n  { true }", "full := 1;\n  await full = 0;\n  slot := 0")]),
     ("mailbox", "the receiver doesn't wait", [("await full = 1;", "await full = 1 or full = 0;")]),
-    ("handshake", "the request is taken back before it is acknowledged", BROKEN),
+    ("handshake", "the receiver doesn't wait for the request", [("  await req = 1;\n  { ack = 0 and req = 1 }\n", "")]),
     ("handshake", "the request comes before the data", [("data := message;\n", "req := 1;\n"), ("{ req = 0 and ack = 0 and data = message }\n  req := 1", "{ true }\n  data := message")]),
     ("handshake", "the acknowledgement comes before the copy", [("atomic copy := data; ack := 1 end;", "ack := 1;\n  copy := data;")]),
-    ("interrupt", "interrupts stay on", BROKEN),
-    ("interrupt", "interrupts are on again between both halves", [("  { off = 1 and t_lo = was_lo and hi = was_hi }\n", "  off := 0;\n")]),
     ("interrupt", "the handler counts where interrupts are off", [("await off = 0 do", "await true do")]),
     ("two_halves", "the high half isn't looked at again", BROKEN),
     ("two_halves", "the carry comes a step later", [(HALVES_AT_ONCE, "do lo := lo + 1 end;\n    hi := (if lo = 0 then hi + 1 else hi)")]),
@@ -92,7 +98,7 @@ BUGS = [
     ("sequence_lock", "the reader takes an odd count", [("while s band 1 = 1 or count != s", "while count != s")]),
     ("debouncer", "the count goes on after a sample like the state", [("      count := 0\n    else", "      skip\n    else")]),
     ("debouncer", "two samples are enough", [("if count = 3", "if count = 2")]),
-    ("debouncer", "the pin is read a second time", [("state := seen", "state := pin")]),
+    ("debouncer", "the pin is read a second time", [("if seen = state", "if pin = state")]),
     ("timer", "the end is computed, and wraps", [("now - begun >= delay", "now >= begun + delay")]),
     ("timer", "the difference is the wrong way round", [("now - begun >= delay", "begun - now >= delay")]),
     ("timer", "the beginning is read after the count of ticks", [("atomic begun := now; passed := 0 end;", "begun := now;\n  skip;\n  passed := 0;")]),
@@ -100,7 +106,7 @@ BUGS = [
     ("dma", "the processor doesn't wait", [("  await done = 1;\n", "")]),
     ("dma", "the last word isn't copied", [("while next < 4", "while next < 3")]),
     ("dma", "the buffer is cleared while it is copied", [("  busy := 1;\n", "  busy := 1;\n  source[3] := 0;\n")]),
-    ("double_buffer", "the buffers change before both halves lie there", [("      more[which] := sampled;\n      which := which + 1;", "      which := which + 1;\n      more[which + 1] := sampled;")]),
+    ("double_buffer", "a buffer is ready before both halves lie there", [(BOTH_HALVES, ONE_HALF)]),
     ("double_buffer", "the reader takes the buffer that is filled", [("got_more := more[which + 1]", "got_more := more[which]")]),
     ("double_buffer", "the handler doesn't wait for the reader", [("if ready = 0 then", "if ready <= 1 then")]),
 ]
