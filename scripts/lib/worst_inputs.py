@@ -255,7 +255,7 @@ CASES = (
     Case("outline, numbers left out", OUTLINE, left_out, 8_000, says="end\n"),
     Case("outline, a chain of let", OUTLINE, chain_of_lets, 100, says="end\n", known="a name's formula is worked out at each use"),
     Case("outline, many let", OUTLINE, flat_lets, 1_500, says="end\n", known="a name is looked up among all"),
-    Case("outline, let used often", OUTLINE, lets_used, 1_500, says="end\n"),
+    Case("outline, let used often", OUTLINE, lets_used, 1_500, says="end\n", known="a name is looked up among all"),
     Case("outline, let that doubles", OUTLINE, doubling_lets, 20, 1, "is too large"),
     Case("outline, invariants", OUTLINE, invariants, 800, says="end\n"),
     Case("outline, a large text", OUTLINE, large_text, 100, says="end\n"),
