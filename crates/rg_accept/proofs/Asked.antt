@@ -1,16 +1,18 @@
 -- What the conditions of a derivation give together.
 use Rattle.std.proofs.Common.{◌≡◌, ℕ, ◌+◌, ◌<◌, List, [], ◌∷◌, ◌++◌, length, map, subst, sym, arith}
+use Rattle.std.proofs.Math.Logic.{∥∥₁_map}
 use Rattle.std.proofs.lemmas.List.{length-append, length-map}
 use Rattle.rg_tree.specs.ConditionTrees.{ConditionTree}
-use Rattle.rg_tree.specs.Lines.{LineTree}
+use Rattle.rg_tree.specs.Lines.{LineTree, AreTypedLines}
 use Rattle.rg_tree.specs.Numbering.{statements_of_parts}
 use Rattle.rg_tree.specs.Statements.{ProgramTree}
 use Rattle.rg_tree.specs.Programs.{IsSatisfied, PartsSatisfy}
 use Rattle.rg_tree.specs.RuleConditions.{as_condition, reaches, AllConditionsHold}
 use Rattle.rg_rules.specs.Derivations.{conditions_asked}
+use Rattle.rg_rules.specs.Faults.{Derives}
 use Rattle.rg_par.specs.Parallel.{pre_conditions, rely_conditions, cross_conditions, guar_conditions, parallel_conditions}
 use Rattle.rg_par.proofs.Sound.{conditions_sound}
-use Rattle.rg_accept.specs.Accepted.{asked_of, conditions_of}
+use Rattle.rg_accept.specs.Accepted.{asked_of, conditions_of, IsProvedBy}
 
 -- of conditions that all hold, those in front hold, and those after
 hold_in_front : (cs ds : List ConditionTree) → AllConditionsHold (cs ++ ds) → AllConditionsHold cs
@@ -37,3 +39,7 @@ some_condition p lines =
     let parallel = nonempty-append others (reaches (map (λ p. p.spec.post) p.parts) [] p.spec.post ∷ []) (omega arith) in
     let some = nonempty-append (conditions_asked (statements_of_parts p.parts) lines lines) (parallel_conditions p.spec p.parts) parallel in
     subst (λ (n : ℕ). 0 < n) (sym (length-map (asked_of p lines) (as_condition p.words))) some
+
+-- typed lines that derive the parts prove a program, where their conditions are true
+pub proved_by : (p : ProgramTree) (lines : List LineTree) → AreTypedLines p.words lines → ∥ Derives p.parts lines ∥₁ → AllConditionsHold (conditions_of p lines) → ∥ IsProvedBy p lines ∥₁
+proved_by p lines typed derives hold = ∥∥₁_map derives (λ d. record { typed = typed; derives = d; hold = hold })

@@ -3,12 +3,13 @@
 use Rattle.std.specs.Prelude.{◌≡◌, ◌⊎◌, ℕ, List, ◌++◌, map}
 use Rattle.rg_words.specs.declared.refusal.Refusal.{Refusal}
 use Rattle.rg_tree.specs.ConditionTrees.{ConditionTree}
-use Rattle.rg_tree.specs.Lines.{LineTree}
+use Rattle.rg_tree.specs.Lines.{LineTree, AreTypedLines}
 use Rattle.rg_tree.specs.Statements.{ProgramTree}
 use Rattle.rg_tree.specs.Numbering.{statements_of_parts}
 use Rattle.rg_tree.specs.Programs.{IsSatisfied}
-use Rattle.rg_tree.specs.RuleConditions.{RuleCondition, as_condition}
+use Rattle.rg_tree.specs.RuleConditions.{RuleCondition, as_condition, AllConditionsHold}
 use Rattle.rg_rules.specs.Derivations.{conditions_asked}
+use Rattle.rg_rules.specs.Faults.{Derives}
 use Rattle.rg_rules.specs.Reading.{FitsProgram, IsDerivationRefusal}
 use Rattle.rg_par.specs.Parallel.{parallel_conditions}
 use Rattle.rg_hints.specs.Proved.{AreProved, IsProofsRefusal}
@@ -22,6 +23,12 @@ asked_of p lines = conditions_asked (statements_of_parts p.parts) lines lines ++
 -- the conditions, which are numbered from 1 in this order
 abbrev pub conditions_of : ProgramTree → List LineTree → List ConditionTree
 conditions_of p lines = map (as_condition p.words) (asked_of p lines)
+
+-- typed lines derive the program's parts, and all conditions are true
+pub record IsProvedBy (p : ProgramTree) (lines : List LineTree) : Type 0 where
+  pub typed : AreTypedLines p.words lines
+  pub derives : Derives p.parts lines
+  pub hold : AllConditionsHold (conditions_of p lines)
 
 -- accepted by the written rules for this program: the derivation spells lines that derive its parts, and the proofs prove every condition
 pub record IsAccepted (p : ProgramTree) (derivation proofs : List ℕ) : Type 0 where

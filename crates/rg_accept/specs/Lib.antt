@@ -1,4 +1,5 @@
 pub mod Accepted
+pub mod Standing
 pub mod Pieces
 pub mod Stages
 pub mod Names

@@ -31,6 +31,14 @@ emitted_program a = program a.program
 abbrev pub derived_lines : Derived → List LineTree
 derived_lines a = map line_tree a.derivation.lines.items
 
+-- the lines that an accepted program rests on
+abbrev pub accepted_lines : Accepted → List LineTree
+accepted_lines a = map line_tree a.derivation.lines.items
+
+-- those of a program whose code was made
+abbrev pub emitted_lines : Emitted → List LineTree
+emitted_lines a = map line_tree a.derivation.lines.items
+
 -- the blocks of emitted code, part by part
 abbrev pub emitted_blocks : Emitted → List (List BlockTree)
 emitted_blocks a = code_blocks a.code

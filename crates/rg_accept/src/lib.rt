@@ -2,6 +2,7 @@
 #![tactic(auto)]
 
 mod acceptance;
+pub mod laws;
 mod stages;
 
 pub use acceptance::{accept, accept_all, accept_program, build, build_by, build_program};

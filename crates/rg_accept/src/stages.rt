@@ -11,6 +11,7 @@ ghost use Rattle.rg_rules.specs.Inner.OneProof.{AreTypedLines-prop};
 ghost use Rattle.rg_rules.specs.Faults.{Derives};
 ghost use Rattle.rg_code.specs.declared.code.Code.{Code};
 ghost use Rattle.rg_code.specs.Lawful.{IsLawful};
+ghost use Rattle.rg_accept.specs.Accepted.{IsProvedBy};
 
 mod pieces;
 mod steps;
@@ -35,17 +36,21 @@ pub struct Derived {
     ghost derives: { ∥ Derives (map part program.parts.items) (map line_tree derivation.lines.items) ∥₁ },
 }
 
-/// A program that satisfies its specification.
+/// A program that satisfies its specification, with the lines that derive its parts.
 #[derive(Drop)]
 pub struct Accepted {
     program: Program,
+    derivation: Derivation,
+    ghost proved: { ∥ IsProvedBy (program_tree program) (map line_tree derivation.lines.items) ∥₁ },
     ghost satisfied: { ∥ IsSatisfied (program_tree program) ∥₁ },
 }
 
-/// A program that satisfies its specification, with code that has exactly its runs.
+/// A program that satisfies its specification, with the lines that derive its parts and code that has exactly its runs.
 #[derive(Drop)]
 pub struct Emitted {
     program: Program,
+    derivation: Derivation,
+    ghost proved: { ∥ IsProvedBy (program_tree program) (map line_tree derivation.lines.items) ∥₁ },
     code: Code,
     ghost law: { ∥ IsLawful program code ∥₁ },
 }

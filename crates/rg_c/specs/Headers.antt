@@ -10,8 +10,9 @@ use Rattle.rg_tree.specs.Trees.{Proposition, truth, negation, connected, compare
 use Rattle.rg_tree.specs.Printed.{formula_text}
 use Rattle.rg_tree.specs.Statements.{Statement, skip, assign, await, sequence, branch, loop, Specification, PartTree, ProgramTree}
 use Rattle.rg_c_plan.specs.declared.kind.Kind.{Kind}
-use Rattle.rg_c_plan.specs.declared.kind.Kind.TheVariants.{Fixed, Own, Published, Atomic, Guarded}
+use Rattle.rg_c_plan.specs.declared.kind.Kind.TheVariants.{Fixed, Own, Apart, Published, Atomic, Guarded}
 use Rattle.rg_c_plan.specs.Accesses.{places}
+use Rattle.rg_c_plan.specs.Apart.{is_apart_kind}
 use Rattle.rg_c_plan.specs.Ways.{kind_at, has_atomic_accesses, is_atomic, is_guarded}
 use Rattle.rg_c_plan.specs.Views.{kinds_for}
 use Rattle.rg_c_values.specs.Translation.{container, test_in_c}
@@ -20,18 +21,20 @@ use Rattle.rg_c_values.specs.Arrays.{array_of, array_length, array_name, indexed
 use Rattle.rg_c_report.specs.declared.counts.Counts.{Counts}
 use Rattle.rg_c_report.specs.Counts.{counts_first, counts_second, counts_of}
 use Rattle.rg_c_report.specs.Parties.{parties_text}
+use Rattle.rg_c_report.specs.Reports.{kind_text}
 use Rattle.rg_c.specs.Reads.{kind_reads}
 use Rattle.rg_c.specs.CStatements.{CStatement, ◌⨾◌, hook, calls, block}
 use Rattle.rg_c.specs.Printed.{name_of, type_of, printed}
 use Rattle.rg_c.specs.Functions.{goes_round, function_name}
 use Rattle.rg_c.specs.Bodies.{PageTree, in_c, looped}
 use Rattle.rg_c.specs.Starts.{start_text}
-use Rattle.rg_c.specs.Heads.{top_open, promise_head, promise_line, rests_text, guard_open, atomics_open, lock_free_line, atomics_close, hooks_text, sections_text, struct_open, field_line, item_line, struct_close, assertion_text, part_open, round_open, guard_close}
+use Rattle.rg_c.specs.Heads.{top_open, promise_head, promise_line, apart_lines, rests_text, guard_open, atomics_open, lock_free_line, atomics_close, hooks_text, sections_text, struct_open, field_line, item_line, struct_close, assertion_text, part_open, round_open, guard_close}
 
--- how a word of this kind is declared, and what is said of it
+-- how a word of this kind is declared
 abbrev pub kind_before : Kind → List ℕ
 kind_before Fixed = codes "const "
 kind_before Own = []
+kind_before Apart = []
 kind_before Published = codes "RGC_ATOMIC("
 kind_before Atomic = codes "RGC_ATOMIC("
 kind_before Guarded = []
@@ -39,16 +42,10 @@ kind_before Guarded = []
 abbrev pub kind_after : Kind → List ℕ
 kind_after Fixed = []
 kind_after Own = []
+kind_after Apart = []
 kind_after Published = codes ")"
 kind_after Atomic = codes ")"
 kind_after Guarded = []
-
-abbrev pub kind_what : Kind → List ℕ
-kind_what Fixed = codes "fixed"
-kind_what Own = codes "plain"
-kind_what Published = codes "atomic"
-kind_what Atomic = codes "atomic"
-kind_what Guarded = codes "in critical sections"
 
 -- so many bits
 unfoldable pub bits_text : ℕ → List ℕ
@@ -56,7 +53,7 @@ bits_text w = decimal w ++ (if nat_eq w 1 then codes " bit" else codes " bits")
 
 -- what is said of the k-th word: its bits, its kind, and who reads and who writes it
 unfoldable pub note_text : ProgramTree → List Kind → ℕ → List ℕ
-note_text p kinds k = bits_text (slice_index (widths_of p.words) k) ++ (codes ", " ++ (kind_what (kind_at kinds k) ++ (codes "; " ++ parties_text p k)))
+note_text p kinds k = bits_text (slice_index (widths_of p.words) k) ++ (codes ", " ++ (kind_text (kind_at kinds k) ++ (codes "; " ++ parties_text p k)))
 
 -- the k-th word as a field of its own
 unfoldable pub own_field : ProgramTree → List Kind → ℕ → List ℕ
@@ -116,9 +113,13 @@ promises_text words spec =
     promise_text words (codes "pre") spec.pre ++ (promise_text words (codes "rely") spec.rely
     ++ (promise_text words (codes "guar") spec.guar ++ promise_text words (codes "post") spec.post))
 
+-- what is proved of words at which parts are kept apart, if there are any
+abbrev pub apart_text : List Kind → List ℕ
+apart_text kinds = if list_any is_apart_kind kinds then apart_lines else []
+
 -- the comment at the top
 unfoldable pub top_text : List ℕ → List Kind → ProgramTree → List ℕ
-top_text name kinds p = top_open name ++ (promises_text p.words p.spec ++ (counts_text (counts_of p kinds) ++ rests_text))
+top_text name kinds p = top_open name ++ (promises_text p.words p.spec ++ (counts_text (counts_of p kinds) ++ (apart_text kinds ++ rests_text)))
 
 -- some atomic word has a type of so many bits
 abbrev pub has_atomic : List Word → List Kind → ℕ → Bool

@@ -23,6 +23,13 @@ promise_head what = joined (codes " *   " ∷ what ∷ codes ": " ∷ [])
 unfoldable pub promise_line : List ℕ → List ℕ → List ℕ
 promise_line before formula = joined (before ∷ formula ∷ codes "\n" ∷ [])
 
+-- what is proved of words at which parts are kept apart
+unfoldable pub apart_lines : List ℕ
+apart_lines = joined (
+    codes " *\n"
+    ∷ codes " * Where assertions keep the parts of a plain word apart, it is proved that no two parts ever stand at\n"
+    ∷ codes " * steps that both access the word, and of which one writes it.\n" ∷ [])
+
 -- what the promise rests on
 unfoldable pub rests_text : List ℕ
 rests_text = joined (

@@ -8,9 +8,10 @@ ghost use Rattle.rg_tree.specs.ProgramView.{statement, specification, part as pa
 ghost use Rattle.rg_tree.specs.ProgramTrees.{program as program_tree};
 ghost use Rattle.rg_code.specs.Code.{count_of};
 ghost use Rattle.rg_c_plan.specs.Accesses.{places};
+ghost use Rattle.rg_c_plan.specs.Apart.{is_apart_kind};
 ghost use Rattle.rg_c_plan.specs.Ways.{kind_at, has_atomic_accesses, is_guarded};
 ghost use Rattle.rg_c_values.specs.Arrays.{array_length, array_name, indexed, member_of};
-ghost use Rattle.rg_c.specs.Headers.{kind_before, kind_after, kind_what, bits_text, note_text, own_field, is_fixed_kind, kind_of_items, kinds_from, array_field, item_note, field_text, struct_text, conjunct_lines, promise_text, promises_text, counts_text, top_text, has_atomic, lock_free_text, lock_free_texts, atomics_text, macros_text, asserted, function_text, run_text, round_text, is_always, body_text, part_text, parts_text, header_text};
+ghost use Rattle.rg_c.specs.Headers.{kind_before, kind_after, bits_text, note_text, own_field, is_fixed_kind, kind_of_items, kinds_from, array_field, item_note, field_text, struct_text, conjunct_lines, promise_text, promises_text, counts_text, apart_text, top_text, has_atomic, lock_free_text, lock_free_texts, atomics_text, macros_text, asserted, function_text, run_text, round_text, is_always, body_text, part_text, parts_text, header_text};
 ghost use Rattle.rg_c.specs.Functions.{goes_round, function_name};
 ghost use Rattle.rg_c.specs.CStatements.{calls};
 ghost use Rattle.rg_c.specs.Bodies.{in_c, looped};
@@ -18,10 +19,10 @@ ghost use Rattle.rg_c.specs.Fitting.{StatementFits, SpecificationFits, PartsFit}
 ghost use Rattle.rg_c.specs.View.{page, on};
 
 use crate::heads::{
-    promise_head, push_assertion_text, push_atomics_close, push_atomics_open, push_field_line,
-    push_guard_close, push_guard_open, push_hooks_text, push_item_line, push_lock_free_line,
-    push_part_open, push_promise_line, push_rests_text, push_round_open, push_sections_text,
-    push_struct_close, push_struct_open, push_top_open,
+    promise_head, push_apart_lines, push_assertion_text, push_atomics_close, push_atomics_open,
+    push_field_line, push_guard_close, push_guard_open, push_hooks_text, push_item_line,
+    push_lock_free_line, push_part_open, push_promise_line, push_rests_text, push_round_open,
+    push_sections_text, push_struct_close, push_struct_open, push_top_open,
 };
 use crate::print::{
     Piece, inner, push_closing, push_code, push_digits, push_line, push_opening, push_word_name,
@@ -36,6 +37,7 @@ use rg_c_plan::views::kinds_for;
 use rg_c_plan::way::{has_atomic_accesses, kind_at};
 use rg_c_report::counts::{Counts, counts_of, push_counts_first, push_counts_second};
 use rg_c_report::parties::push_parties;
+use rg_c_report::report::kind_text;
 use rg_c_values::arrays::{array_length, array_of, push_array_name, push_member_of};
 use rg_c_values::pieces::container;
 use rg_c_values::print::print_test;
@@ -65,7 +67,7 @@ fn kind_before(kind: Kind) -> &'static str
     match kind {
         Kind::Fixed => "const ",
         Kind::Published | Kind::Atomic => "RGC_ATOMIC(",
-        Kind::Own | Kind::Guarded => "",
+        Kind::Own | Kind::Apart | Kind::Guarded => "",
     }
 }
 
@@ -74,18 +76,7 @@ fn kind_after(kind: Kind) -> &'static str
 {
     match kind {
         Kind::Published | Kind::Atomic => ")",
-        Kind::Fixed | Kind::Own | Kind::Guarded => "",
-    }
-}
-
-fn kind_what(kind: Kind) -> &'static str
-    ensures { result.now ≡ kind_what kind }
-{
-    match kind {
-        Kind::Fixed => "fixed",
-        Kind::Own => "plain",
-        Kind::Published | Kind::Atomic => "atomic",
-        Kind::Guarded => "in critical sections",
+        Kind::Fixed | Kind::Own | Kind::Apart | Kind::Guarded => "",
     }
 }
 
@@ -113,7 +104,7 @@ fn note_text(
 {
     let mut text = bits_text(alloc, program.layout.width(word))?;
     text.push_str(", ")?;
-    text.push_str(kind_what(kind_at(kinds, word)))?;
+    text.push_str(kind_text(kind_at(kinds, word)))?;
     text.push_str("; ")?;
     push_parties(alloc, &mut text, program, word)?;
     Ok(text)
@@ -150,7 +141,7 @@ fn is_fixed_kind(kind: Kind) -> bool
 {
     match kind {
         Kind::Fixed => true,
-        Kind::Own | Kind::Published | Kind::Atomic | Kind::Guarded => false,
+        Kind::Own | Kind::Apart | Kind::Published | Kind::Atomic | Kind::Guarded => false,
     }
 }
 
@@ -377,6 +368,23 @@ fn push_counts(text: &mut String, counts: &Counts) -> Result<(), AllocError>
     Ok(())
 }
 
+/// Whether parts are kept apart at a word.
+fn is_apart(kinds: &[Kind]) -> bool
+    ensures { result ≡ list_any is_apart_kind kinds.now }
+{
+    kinds.iter().any(|kind| matches!(kind, Kind::Apart))
+}
+
+/// Adds what is proved of such words, if there are any.
+fn push_apart(text: &mut String, kinds: &[Kind]) -> Result<(), AllocError>
+    ensures { OnOk result (string_bytes text.new ≡ string_bytes text.old ++ apart_text kinds.now) }
+{
+    if is_apart(kinds) {
+        push_apart_lines(text)?;
+    }
+    Ok(())
+}
+
 /// Adds the comment at the top.
 #[tactic(auto, unfolding(crate::specs::Headers::top_text))]
 fn push_top(
@@ -393,6 +401,7 @@ fn push_top(
     push_top_open(text, name)?;
     push_promises(alloc, text, &program.layout, &program.spec)?;
     push_counts(text, &counts)?;
+    push_apart(text, kinds)?;
     push_rests_text(text)
 }
 

@@ -2,7 +2,7 @@
 
 ghost use Rattle.std.specs.Prelude.{◌≡◌, ◌++◌, string_bytes, IfOk, OnOk};
 ghost use Rattle.std.specs.List.{flat_map};
-ghost use Rattle.rg_c.specs.Heads.{top_open, promise_head, promise_line, rests_text, guard_open, atomics_open, lock_free_line, atomics_close, hooks_text, sections_text, struct_open, field_line, item_line, struct_close, start_lines, assertion_text, part_open, round_open, guard_close};
+ghost use Rattle.rg_c.specs.Heads.{top_open, promise_head, promise_line, apart_lines, rests_text, guard_open, atomics_open, lock_free_line, atomics_close, hooks_text, sections_text, struct_open, field_line, item_line, struct_close, start_lines, assertion_text, part_open, round_open, guard_close};
 
 use std::alloc::{AllocError, Global};
 
@@ -56,6 +56,21 @@ pub(crate) fn push_promise_line(
     ensures { OnOk result (string_bytes text.new ≡ string_bytes text.old ++ promise_line before.now formula.now) }
 {
     push_all(text, &[before, formula, "\n"])
+}
+
+/// Adds what is proved of words at which parts are kept apart.
+#[tactic(auto, unfolding(crate::specs::Heads::apart_lines))]
+pub(crate) fn push_apart_lines(text: &mut String) -> Result<(), AllocError>
+    ensures { OnOk result (string_bytes text.new ≡ string_bytes text.old ++ apart_lines) }
+{
+    push_all(
+        text,
+        &[
+            " *\n",
+            " * Where assertions keep the parts of a plain word apart, it is proved that no two parts ever stand at\n",
+            " * steps that both access the word, and of which one writes it.\n",
+        ],
+    )
 }
 
 /// Adds what the promise rests on.

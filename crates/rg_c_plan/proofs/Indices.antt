@@ -1,5 +1,5 @@
 -- Indices that are the same, and that stay what they are.
-use Rattle.std.proofs.Common.{◌≡◌, ◌≢◌, ◌∙◌, ℕ, zero, suc, Bool, true, false, not, ◌&&◌, ◌||◌, nat_eq, cond, List, [], ◌∷◌, refl, ap, sym, arith}
+use Rattle.std.proofs.Common.{◌≡◌, ◌≢◌, ◌∙◌, ℕ, zero, suc, true, false, not, ◌&&◌, ◌||◌, nat_eq, cond, List, [], ◌∷◌, refl, ap, sym}
 use Rattle.std.specs.Prelude.{slice_index, slice_set}
 use Rattle.std.proofs.lemmas.Bool.{true≢false, or_parts, and_parts, eqb-true, eq-eqb}
 use Rattle.rg_words.specs.declared.operators.Operator.{Operator}
@@ -106,7 +106,7 @@ module _ (s : List ℕ) (k x : ℕ) where
         ∙ ap (λ n. cond (holds f s s) n (value_of b after after)) (value_stays a sides.0)
         ∙ ap (cond (holds f s s) (value_of a s s)) (value_stays b sides.1)
 
-    truth_stays : (f : Proposition) → stands_in_formula k f ≡ false → holds f after after ≡ holds f s s
+    pub truth_stays : (f : Proposition) → stands_in_formula k f ≡ false → holds f after after ≡ holds f s s
     truth_stays (truth b) h = refl
     truth_stays (negation f) h = ap (λ t. not t) (truth_stays f h)
     truth_stays (connected c f g) h =

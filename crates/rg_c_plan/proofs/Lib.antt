@@ -5,3 +5,5 @@ mod Singles
 mod Checked
 mod Written
 mod Meeting
+pub mod Where
+mod LastChanges

@@ -1,7 +1,7 @@
 -- Tests over lists.
-use Rattle.std.proofs.Common.{◌≡◌, ◌∙◌, Bool, true, false, List, [], ◌∷◌, Some, None, cond, refl, ap, subst}
-use Rattle.std.specs.List.{All, Contains, list_any, list_all, find}
-use Rattle.std.proofs.lemmas.Bool.{or_parts, or_from, and_parts, and_from}
+use Rattle.std.proofs.Common.{◌≡◌, ◌∙◌, Bool, true, false, List, [], ◌∷◌, Some, None, cond, refl, ap}
+use Rattle.std.specs.List.{All, Contains, list_any, find}
+use Rattle.std.proofs.lemmas.Bool.{or_parts, or_from}
 use Rattle.std.proofs.lemmas.List.Elements.{All-nil, All-cons, All-head, All-tail}
 use Rattle.std.proofs.lemmas.List.Folds.{list_any_at}
 
@@ -18,24 +18,6 @@ module _ {X : Type 0} (p : X → Bool) where
   -- what passes at an element passes at some
   pub passes_at : (xs : List X) (x : X) → Contains xs x → p x ≡ true → list_any p xs ≡ true
   passes_at xs x c h = list_any_at p xs c.0 x c.1 (ap p c.2 ∙ h)
-
-  -- what passes everywhere passes at each element
-  pub passes_each : (xs : List X) → list_all p xs ≡ true → All (λ x. p x ≡ true) xs
-  passes_each [] h = All-nil (λ x. p x ≡ true)
-  passes_each (x ∷ xs) h = let parts = and_parts (p x) (list_all p xs) h in All-cons (λ y. p y ≡ true) x xs parts.0 (passes_each xs parts.1)
-
-  pub passes_all : (xs : List X) → All (λ x. p x ≡ true) xs → list_all p xs ≡ true
-  passes_all [] h = refl
-  passes_all (x ∷ xs) h = and_from (p x) (list_all p xs) (All-head (λ y. p y ≡ true) x xs h) (passes_all xs (All-tail (λ y. p y ≡ true) x xs h))
-
-  -- what is found passes
-  pub found_passes : (xs : List X) (x : X) → find p xs ≡ Some x → p x ≡ true
-  found_passes [] x h = cc h
-  found_passes (y ∷ xs) x h = by_flag (p y) refl h (found_passes xs x)
-    where
-      by_flag : (b : Bool) → p y ≡ b → cond b (Some y) (find p xs) ≡ Some x → (find p xs ≡ Some x → p x ≡ true) → p x ≡ true
-      by_flag true e k rest = let same : y ≡ x = cc k in subst (λ z. p z ≡ true) same e
-      by_flag false e k rest = rest k
 
   -- where nothing is found, nothing passes
   pub found_none : (xs : List X) → find p xs ≡ None → list_any p xs ≡ false

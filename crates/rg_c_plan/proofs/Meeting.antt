@@ -1,11 +1,11 @@
 -- What sound kinds are good for.
 use Rattle.std.proofs.Common.{◌≡◌, ◌∙◌, ◌≢◌, ℕ, zero, suc, ◌+◌, ◌<◌, ◌≤◌, Bool, true, false, not, ◌&&◌, ◌||◌, nat_eq, List, [], ◌∷◌, Option, Some, None, length, get_or, slice_get, map, option_map, cond, ◌⊎◌, inl, inr, refl, ap, sym, subst, arith}
-use Rattle.std.specs.List.{AllPairs, Contains, list_all}
+use Rattle.std.specs.List.{All, Contains}
 use Rattle.std.specs.Option.{option_map_or}
 use Rattle.std.proofs.lemmas.Bool.{true≢false, not-true, not_from_false, false_from_ne_true, or_left, or_right, or_parts, or_cases, and_parts, and_from, ne_eqb, cases_eq, cases_lt, cases_order}
 use Rattle.std.proofs.lemmas.List.{length-map, get_or_past}
-use Rattle.std.proofs.lemmas.List.Elements.{All-contains}
-use Rattle.std.proofs.lemmas.List.FromFn.{get_or-map-range_with_len}
+use Rattle.std.proofs.lemmas.List.Elements.{All-nil, All-cons, All-contains}
+use Rattle.std.proofs.lemmas.List.FromFn.{length-map-range_with_len, get_or-map-range_with_len}
 use Rattle.std.proofs.lemmas.Option.{get_or_from_slice_get, slice_get-map, slice_get_within}
 use Rattle.rg_tree.specs.Trees.{Proposition, Assignment}
 use Rattle.rg_tree.specs.Statements.{PartTree, ProgramTree}
@@ -13,18 +13,20 @@ use Rattle.rg_tree.specs.TypedPrograms.{IsTypedProgram}
 use Rattle.rg_tree.specs.Traces.{State}
 use Rattle.rg_c_plan.specs.declared.access.Access.{Access}
 use Rattle.rg_c_plan.specs.declared.kind.Kind.{Kind}
-use Rattle.rg_c_plan.specs.declared.kind.Kind.TheVariants.{Fixed, Own, Published, Atomic, Guarded}
-use Rattle.rg_c_plan.specs.declared.way.Way.{Way}
+use Rattle.rg_c_plan.specs.declared.kind.Kind.TheVariants.{Fixed, Own, Apart, Published, Atomic, Guarded}
+use Rattle.rg_c_plan.specs.declared.planned.Unplanned.{Unplanned}
 use Rattle.rg_c_plan.specs.declared.way.Way.TheVariants.{Direct, Load, Store, Exchange, Select, Section}
-use Rattle.rg_c_plan.specs.Accesses.{StepTree, steps, reads, writes, touches, part_access, world_access, accesses, is_touched, meet, places}
+use Rattle.rg_c_plan.specs.Accesses.{StepTree, steps, reads, writes, touches, part_access, world_access, accesses, is_touched, meet, some_meet, places}
 use Rattle.rg_c_plan.specs.Ways.{kind_at, is_atomic, is_published, is_guarded, exposes, touches_guarded, times_assigned, way_at, exposes_another, first_exposed, in_section, way_from, way_of}
 use Rattle.rg_c_plan.specs.Once.{is_exposed_twice, is_chosen, exposes_one, is_one_access}
 use Rattle.rg_c_plan.specs.Made.{step_made}
 use Rattle.rg_c_plan.specs.Views.{no_access, others_write, seen_kind, kinds_for, views_from}
-use Rattle.rg_c_plan.specs.Sound.{are_one_access, IsSound}
-use Rattle.rg_c_plan.specs.Laws.{IsStepOf, ExposesOne, StepsAreOneAccess, NoOtherWrites, NoOtherTouches, OthersMeetNobody, GuardedWordsInSections, NoRaces, NoRacesOutside}
+use Rattle.rg_c_plan.specs.Apart.{world_meets, is_early, is_apart_kind, apart_word, late_word}
+use Rattle.rg_c_plan.specs.Kinds.{failed, late, step_fault, failing_step, failing}
+use Rattle.rg_c_plan.specs.Sound.{IsSound}
+use Rattle.rg_c_plan.specs.Laws.{IsStepOf, ExposesOne, StepsAreOneAccess, NoOtherWrites, NoOtherTouches, OthersMeetNobody, GuardedWordsInSections, NoRaces, NoRacesOutside, StepsAreEarly}
 use Rattle.rg_c_plan.proofs.Places.{any_at}
-use Rattle.rg_c_plan.proofs.Lists.{passes_at, passes_each, found_none}
+use Rattle.rg_c_plan.proofs.Lists.{all_fail, passes_at, found_none}
 use Rattle.rg_c_plan.proofs.Singles.{step_once, chosen_step_once}
 use Rattle.rg_c_plan.proofs.Written.{NobodyMeetsAt, fixed_apart}
 
@@ -104,37 +106,74 @@ module _ (kinds : List Kind) (s : StepTree) where
             ]
       ]
 
--- what passes for all parts passes for the steps of each
-part_passes : (p : ProgramTree) (kinds : List Kind) (m : ℕ) (parts : List PartTree) (i : ℕ) (part : PartTree) → are_one_access (views_from p kinds m parts) ≡ true → slice_get parts i ≡ Some part →
-    list_all (λ s. is_one_access (kinds_for p kinds (m + i)) s.guard s.act) (steps part.body) ≡ true
-part_passes p kinds m [] i part h e = absurd (nothing_there i e)
-  where
-    nothing_there : (i : ℕ) → slice_get (let none : List PartTree = [] in none) i ≡ Some part → ⊥
-    nothing_there zero e = cc e
-    nothing_there (suc i) e = cc e
-part_passes p kinds m (q ∷ parts) zero part h e =
-    let passed = (and_parts (list_all (λ s. is_one_access (kinds_for p kinds m) s.guard s.act) (steps q.body)) (are_one_access (views_from p kinds (m + 1) parts)) h).0 in
-    let same : q ≡ part = cc e in
-    let place : m ≡ m + 0 = omega arith in
-    subst (λ n. list_all (λ s. is_one_access (kinds_for p kinds n) s.guard s.act) (steps part.body) ≡ true) place
-    (subst (λ (r : PartTree). list_all (λ s. is_one_access (kinds_for p kinds m) s.guard s.act) (steps r.body) ≡ true) same passed)
-part_passes p kinds m (q ∷ parts) (suc i) part h e =
-    let rest = (and_parts (list_all (λ s. is_one_access (kinds_for p kinds m) s.guard s.act) (steps q.body)) (are_one_access (views_from p kinds (m + 1) parts)) h).1 in
-    let place : m + 1 + i ≡ m + suc i = omega arith in
-    subst (λ n. list_all (λ s. is_one_access (kinds_for p kinds n) s.guard s.act) (steps part.body) ≡ true) place (part_passes p kinds (m + 1) parts i part rest e)
+-- where nothing comes first, and nothing after it
+both_none : (o r : Option Unplanned) → option_map_or (λ u. Some u) o r ≡ None → (o ≡ None) × (r ≡ None)
+both_none None r h = (refl, h)
+both_none (Some u) r h = cc h
+
+-- where no step fails, none of a part does
+module _ (p : ProgramTree) (kinds : List Kind) where
+  part_right : (m : ℕ) (parts : List PartTree) (i : ℕ) (part : PartTree) → failing (views_from p kinds m parts) ≡ None → slice_get parts i ≡ Some part → failing_step (kinds_for p kinds (m + i)) (steps part.body) ≡ None
+  part_right m [] i part h e = absurd (nothing_there i e)
+    where
+      nothing_there : (i : ℕ) → slice_get (let none : List PartTree = [] in none) i ≡ Some part → ⊥
+      nothing_there zero e = cc e
+      nothing_there (suc i) e = cc e
+  part_right m (q ∷ parts) zero part h e =
+      let first = (both_none (failing_step (kinds_for p kinds m) (steps q.body)) (failing (views_from p kinds (m + 1) parts)) h).0 in
+      let same : q ≡ part = cc e in
+      let place : m ≡ m + 0 = omega arith in
+      subst (λ n. failing_step (kinds_for p kinds n) (steps part.body) ≡ None) place (subst (λ (r : PartTree). failing_step (kinds_for p kinds m) (steps r.body) ≡ None) same first)
+  part_right m (q ∷ parts) (suc i) part h e =
+      let rest = (both_none (failing_step (kinds_for p kinds m) (steps q.body)) (failing (views_from p kinds (m + 1) parts)) h).1 in
+      let place : m + 1 + i ≡ m + suc i = omega arith in
+      subst (λ n. failing_step (kinds_for p kinds n) (steps part.body) ≡ None) place (part_right (m + 1) parts i part rest e)
+
+each_right : (kinds : List Kind) (ss : List StepTree) → failing_step kinds ss ≡ None → All (λ s. step_fault kinds s ≡ None) ss
+each_right kinds [] h = All-nil (λ (s : StepTree). step_fault kinds s ≡ None)
+each_right kinds (s ∷ ss) h =
+    let parts = both_none (step_fault kinds s) (failing_step kinds ss) h in
+    All-cons (λ (t : StepTree). step_fault kinds t ≡ None) s ss parts.0 (each_right kinds ss parts.1)
+
+-- so each step is one access, and no late one touches a word at which parts are kept apart
+module _ (kinds : List Kind) (p : ProgramTree) (sound : IsSound kinds p) (i : ℕ) (s : StepTree) (at : IsStepOf p i s) where
+  abbrev view : List Kind
+  view = kinds_for p kinds i
+
+  step_right : (is_one_access view s.guard s.act ≡ true) × (late_word view s.guard s.act ≡ None)
+  step_right =
+      let place : 0 + i ≡ i = omega arith in
+      let right = subst (λ n. failing_step (kinds_for p kinds n) (steps at.0.body) ≡ None) place (part_right p kinds 0 p.parts i at.0 sound.steps at.1) in
+      by (is_one_access view s.guard s.act) (late_word view s.guard s.act) (All-contains (λ (t : StepTree). step_fault view t ≡ None) (steps at.0.body) s (each_right view (steps at.0.body) right) at.2)
+    where
+      by : (b : Bool) (o : Option ℕ) → cond b (option_map (late s) o) (Some (failed view s)) ≡ None → (b ≡ true) × (o ≡ None)
+      by true None h = (refl, refl)
+      by true (Some k) h = cc h
+      by false o h = cc h
 
 pub steps_are_one_access : StepsAreOneAccess
-steps_are_one_access kinds p sound i s at =
-    let view = kinds_for p kinds i in
-    let place : 0 + i ≡ i = omega arith in
-    let passed : list_all (λ (t : StepTree). is_one_access view t.guard t.act) (steps at.0.body) ≡ true =
-    subst (λ n. list_all (λ (t : StepTree). is_one_access (kinds_for p kinds n) t.guard t.act) (steps at.0.body) ≡ true) place (part_passes p kinds 0 p.parts i at.0 sound.steps at.1) in
-    let each = passes_each (λ (t : StepTree). is_one_access view t.guard t.act) (steps at.0.body) passed in
-    one_access view s (All-contains (λ (t : StepTree). is_one_access view t.guard t.act ≡ true) (steps at.0.body) s each at.2)
+steps_are_one_access kinds p sound i s at = one_access (kinds_for p kinds i) s (step_right kinds p sound i s at).0
 
 -- the kind of a word to a part
 kind_seen : (p : ProgramTree) (kinds : List Kind) (i k : ℕ) → k < length p.words → kind_at (kinds_for p kinds i) k ≡ seen_kind (kind_at kinds k) (others_write p i k)
 kind_seen p kinds i k less = get_or-map-range_with_len (λ j. seen_kind (kind_at kinds j) (others_write p i j)) 0 (length p.words) k k Own less (omega arith)
+
+pub steps_are_early : StepsAreEarly
+steps_are_early kinds p sound i s at k less e touched = by (is_early view s.guard s.act) refl (step_right kinds p sound i s at).1
+  where
+    view : List Kind
+    view = kinds_for p kinds i
+
+    here : ℕ → Bool
+    here j = is_apart_kind (kind_at view j) && touches j s.guard s.act
+
+    by : (b : Bool) → is_early view s.guard s.act ≡ b → cond b None (apart_word view s.guard s.act) ≡ None → is_early view s.guard s.act ≡ true
+    by true early h = early
+    by false late h =
+        let size : length view ≡ length p.words = length-map-range_with_len (λ j. seen_kind (kind_at kinds j) (others_write p i j)) 0 (length p.words) in
+        let seen : kind_at view k ≡ Apart = kind_seen p kinds i k less ∙ ap (λ (kind : Kind). seen_kind kind (others_write p i k)) e in
+        let some = any_at here 0 (length view) k (omega arith) (omega (arith, less, size)) (and_from (is_apart_kind (kind_at view k)) (touches k s.guard s.act) (ap (λ (kind : Kind). is_apart_kind kind) seen) touched) in
+        absurd (true≢false (sym some ∙ found_none here (places view) h))
 
 pub guarded_in_sections : GuardedWordsInSections
 guarded_in_sections kinds p i s k less e touched =
@@ -142,12 +181,13 @@ guarded_in_sections kinds p i s k less e touched =
 
 -- the kind of a word at which parties meet
 module _ (kinds : List Kind) (p : ProgramTree) (typed : IsTypedProgram p) (sound : IsSound kinds p) (k : ℕ) (less : k < length p.words) where
-  pub by_kind : (G : Type 0) → (NobodyMeetsAt p k → G) → (kind_at kinds k ≡ Atomic → G) → (kind_at kinds k ≡ Guarded → G) → G
-  by_kind G nobody atomic guarded = cases (kind_at kinds k) refl
+  pub by_kind : (G : Type 0) → (NobodyMeetsAt p k → G) → (kind_at kinds k ≡ Apart → world_meets p k ≡ false → G) → (kind_at kinds k ≡ Atomic → G) → (kind_at kinds k ≡ Guarded → G) → G
+  by_kind G nobody kept atomic guarded = cases (kind_at kinds k) refl
     where
       cases : (kind : Kind) → kind_at kinds k ≡ kind → G
       cases Fixed e = nobody (fixed_apart p typed k ((sound.fixed k less).1 e))
       cases Own e = nobody (sound.own k less e)
+      cases Apart e = kept e (not-true (world_meets p k) (and_parts (some_meet (accesses p k)) (not (world_meets p k)) (sound.apart k less e)).1)
       cases Published e = absurd (sound.published k less e)
       cases Atomic e = atomic e
       cases Guarded e = guarded e
@@ -207,8 +247,9 @@ module _ (p : ProgramTree) (k : ℕ) where
           ap (λ (z : Access). meet z (access_of y)) (sym (party_at m x d hx)) ∙ ap (λ (z : Access). meet (get_or (accesses p k) (m + 1) d) z) (sym (party_at n y d hy)) ∙ apart
 
   -- a part that meets the world outside
-  world_meets : (i : ℕ) (s : StepTree) → IsStepOf p i s → touches k s.guard s.act ≡ true → is_touched (world_access k p.words p.spec.rely) ≡ true → (writes k s.act ≡ true) ⊎ ((world_access k p.words p.spec.rely).writes ≡ true) → NobodyMeetsAt p k → ⊥
-  world_meets i s a touching outside writing nobody =
+  outside_meets : (i : ℕ) (s : StepTree) → IsStepOf p i s → touches k s.guard s.act ≡ true → is_touched (world_access k p.words p.spec.rely) ≡ true → (writes k s.act ≡ true) ⊎ ((world_access k p.words p.spec.rely).writes ≡ true) →
+      ((d : Access) → meet (world_access k p.words p.spec.rely) (get_or (accesses p k) (i + 1) d) ≡ false) → ⊥
+  outside_meets i s a touching outside writing unmet =
       elim writing [
         | inl h ↦ true≢false (sym (or_left (is_touched world && (access_of a.0).writes) (world.writes && is_touched (access_of a.0)) (and_from (is_touched world) (access_of a.0).writes outside (written_by a.0 s a.2 h))) ∙ met)
         | inr h ↦ true≢false (sym (or_right (is_touched world && (access_of a.0).writes) (world.writes && is_touched (access_of a.0)) (and_from world.writes (is_touched (access_of a.0)) h (touched_by a.0 s a.2 touching))) ∙ met)
@@ -218,7 +259,7 @@ module _ (p : ProgramTree) (k : ℕ) where
       world = world_access k p.words p.spec.rely
 
       met : meet world (access_of a.0) ≡ false
-      met = ap (λ (z : Access). meet world z) (sym (party_at i a.0 world a.1)) ∙ nobody 0 (i + 1) world (omega arith) (party_within i a.0 a.1)
+      met = ap (λ (z : Access). meet world z) (sym (party_at i a.0 world a.1)) ∙ unmet world
 
 module _ (p : ProgramTree) (k : ℕ) where
   -- how a party accesses the word
@@ -263,9 +304,10 @@ module _ (p : ProgramTree) (k : ℕ) where
       (and_from (not (nat_eq j (i + 1))) (access_at j).writes (not_from_false (nat_eq j (i + 1)) (ne_eqb j (i + 1) ne)) w)) ∙ h))
 
 pub others_meet_nobody : OthersMeetNobody
-others_meet_nobody kinds p typed sound i s at k less unexposed free =
+others_meet_nobody kinds p typed sound i s at k less unexposed free unkept =
     by_kind kinds p typed sound k less ((reads k s.guard s.act ≡ true → NoOtherWrites p i k) × (writes k s.act ≡ true → NoOtherTouches p i k))
     (λ nobody. (apart_writes p k i s at nobody, apart_touches p k i s at nobody))
+    (λ e unmet. absurd (unkept e))
     (λ e. by (others_write p i k) refl e)
     (λ e. absurd (free e))
   where
@@ -285,15 +327,20 @@ others_meet_nobody kinds p typed sound i s at k less unexposed free =
         (λ h. unwritten_by_others p k i written, λ h. absurd (true≢false (sym h ∙ hidden Published seen)))
 
 pub no_races : NoRaces
-no_races kinds p typed sound i j ne s t a b k less writing touching =
+no_races kinds p typed sound i j ne s t a b k less writing touching unkept =
     by_kind kinds p typed sound k less ((kind_at kinds k ≡ Atomic) ⊎ ((way_of (kinds_for p kinds i) s.guard s.act ≡ Section) × (way_of (kinds_for p kinds j) t.guard t.act ≡ Section)))
     (λ nobody. absurd (parts_meet p k i j ne s t a b writing touching nobody))
+    (λ e unmet. absurd (unkept e))
     (λ e. inl e)
     (λ e. inr (guarded_in_sections kinds p i s k less e (or_right (reads k s.guard s.act) (writes k s.act) writing), guarded_in_sections kinds p j t k less e touching))
 
 pub no_races_outside : NoRacesOutside
 no_races_outside kinds p typed sound i s a k less touching outside writing =
     by_kind kinds p typed sound k less (kind_at kinds k ≡ Atomic)
-    (λ nobody. absurd (world_meets p k i s a touching outside writing nobody))
+    (λ nobody. met (λ d. nobody 0 (i + 1) d (omega arith) (party_within p k i a.0 a.1)))
+    (λ e unmet. met (λ d. all_fail (meet (world_access k p.words p.spec.rely)) (accesses p k) unmet (i + 1) d (party_within p k i a.0 a.1)))
     (λ e. e)
     (λ e. absurd (true≢false (sym outside ∙ sound.guarded k less e)))
+  where
+    met : ((d : Access) → meet (world_access k p.words p.spec.rely) (get_or (accesses p k) (i + 1) d) ≡ false) → kind_at kinds k ≡ Atomic
+    met unmet = absurd (outside_meets p k i s a touching outside writing unmet)

@@ -1,5 +1,5 @@
 -- What sound kinds are good for.
-use Rattle.std.specs.Prelude.{◌≡◌, ◌≢◌, ◌⊎◌, ◌≤◌, ℕ, ◌+◌, ◌<◌, true, false, List, length, slice_get, get_or, Option, Some}
+use Rattle.std.specs.Prelude.{◌≡◌, ◌≢◌, ◌⊎◌, ◌≤◌, ℕ, ◌+◌, ◌<◌, true, false, List, length, slice_get, get_or, Some}
 use Rattle.std.specs.List.{Contains}
 use Rattle.rg_tree.specs.Statements.{PartTree, ProgramTree}
 use Rattle.rg_tree.specs.TypedPrograms.{IsTypedProgram}
@@ -7,10 +7,11 @@ use Rattle.rg_tree.specs.Traces.{State}
 use Rattle.rg_c_plan.specs.Accesses.{StepTree, steps, reads, writes, touches, accesses, world_access, is_touched}
 use Rattle.rg_c_plan.specs.Ways.{kind_at, exposes, way_of}
 use Rattle.rg_c_plan.specs.Views.{no_access, kinds_for}
+use Rattle.rg_c_plan.specs.Apart.{is_early}
 use Rattle.rg_c_plan.specs.Made.{step_made}
 use Rattle.rg_c_plan.specs.Sound.{IsSound}
 use Rattle.rg_c_plan.specs.declared.kind.Kind.{Kind}
-use Rattle.rg_c_plan.specs.declared.kind.Kind.TheVariants.{Atomic, Guarded}
+use Rattle.rg_c_plan.specs.declared.kind.Kind.TheVariants.{Apart, Atomic, Guarded}
 use Rattle.rg_c_plan.specs.declared.way.Way.TheVariants.{Section}
 
 -- a step of this part
@@ -34,11 +35,12 @@ NoOtherWrites p i k = (j : ℕ) → j < length (accesses p k) → j ≢ i + 1 �
 abbrev pub NoOtherTouches : ProgramTree → ℕ → ℕ → Type 0
 NoOtherTouches p i k = (j : ℕ) → j < length (accesses p k) → j ≢ i + 1 → is_touched (get_or (accesses p k) j no_access) ≡ false
 
--- a step meets nobody at a word that it neither exposes nor touches in a section: where it reads it, no other party writes it, and where it writes it, none touches it
+-- a step meets nobody at a word that it neither exposes nor touches in a section, and at which no parts are kept apart: where it reads it, no other party writes it, and
+-- where it writes it, none touches it
 abbrev pub OthersMeetNobody : Type 0
 OthersMeetNobody =
     (kinds : List Kind) (p : ProgramTree) → IsTypedProgram p → IsSound kinds p → (i : ℕ) (s : StepTree) → IsStepOf p i s → (k : ℕ) → k < length p.words →
-    exposes (kinds_for p kinds i) s.guard s.act k ≡ false → kind_at kinds k ≢ Guarded →
+    exposes (kinds_for p kinds i) s.guard s.act k ≡ false → kind_at kinds k ≢ Guarded → kind_at kinds k ≢ Apart →
     (reads k s.guard s.act ≡ true → NoOtherWrites p i k) × (writes k s.act ≡ true → NoOtherTouches p i k)
 
 -- guarded words are touched in sections alone
@@ -47,11 +49,11 @@ GuardedWordsInSections =
     (kinds : List Kind) (p : ProgramTree) (i : ℕ) (s : StepTree) (k : ℕ) → k < length p.words → kind_at kinds k ≡ Guarded → touches k s.guard s.act ≡ true →
     way_of (kinds_for p kinds i) s.guard s.act ≡ Section
 
--- where steps of two parts touch a word and one of them writes it, the word is atomic, or both are in sections: there is no race
+-- where steps of two parts touch a word and one of them writes it, and no parts are kept apart there, the word is atomic, or both are in sections: there is no race
 abbrev pub NoRaces : Type 0
 NoRaces =
     (kinds : List Kind) (p : ProgramTree) → IsTypedProgram p → IsSound kinds p → (i j : ℕ) → i ≢ j → (s t : StepTree) → IsStepOf p i s → IsStepOf p j t → (k : ℕ) → k < length p.words →
-    writes k s.act ≡ true → touches k t.guard t.act ≡ true →
+    writes k s.act ≡ true → touches k t.guard t.act ≡ true → kind_at kinds k ≢ Apart →
     (kind_at kinds k ≡ Atomic) ⊎ ((way_of (kinds_for p kinds i) s.guard s.act ≡ Section) × (way_of (kinds_for p kinds j) t.guard t.act ≡ Section))
 
 -- where a step of a part and the world outside touch a word and one of them writes it, the word is atomic
@@ -60,3 +62,9 @@ NoRacesOutside =
     (kinds : List Kind) (p : ProgramTree) → IsTypedProgram p → IsSound kinds p → (i : ℕ) (s : StepTree) → IsStepOf p i s → (k : ℕ) → k < length p.words →
     touches k s.guard s.act ≡ true → is_touched (world_access k p.words p.spec.rely) ≡ true →
     (writes k s.act ≡ true) ⊎ ((world_access k p.words p.spec.rely).writes ≡ true) → kind_at kinds k ≡ Atomic
+
+-- each step that touches a word at which parts are kept apart is early
+abbrev pub StepsAreEarly : Type 0
+StepsAreEarly =
+    (kinds : List Kind) (p : ProgramTree) → IsSound kinds p → (i : ℕ) (s : StepTree) → IsStepOf p i s → (k : ℕ) → k < length p.words → kind_at kinds k ≡ Apart →
+    touches k s.guard s.act ≡ true → is_early (kinds_for p kinds i) s.guard s.act ≡ true

@@ -4,7 +4,9 @@ pub mod View
 pub mod Ways
 pub mod Once
 pub mod Made
+pub mod Where
 pub mod Views
+pub mod Apart
 pub mod Kinds
 pub mod Sound
 pub mod Laws

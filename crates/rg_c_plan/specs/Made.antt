@@ -3,7 +3,7 @@ use Rattle.std.specs.Prelude.{ℕ, ◌+◌, cond, List, [], ◌∷◌, Option, S
 use Rattle.rg_tree.specs.Trees.{Expression, Proposition, Assignment, number, word, next_word, inverse, binary, shifted, choice, truth, negation, connected, compared}
 use Rattle.rg_tree.specs.Meaning.{value_of, holds}
 use Rattle.rg_tree.specs.Traces.{State}
-use Rattle.rg_c_plan.specs.Changes.{ChangeTree, change_of}
+use Rattle.rg_c_plan.specs.Changes.{change_of}
 use Rattle.rg_c_plan.specs.Ways.{kind_at, is_atomic}
 use Rattle.rg_c_plan.specs.Once.{stores}
 use Rattle.rg_c_plan.specs.declared.kind.Kind.{Kind}

@@ -6,7 +6,7 @@ use Rattle.rg_words.specs.declared.operators.Operator.{Operator}
 use Rattle.rg_words.specs.declared.operators.Operator.TheVariants.{Add, Subtract, BitAnd, BitOr, BitXor}
 use Rattle.rg_words.specs.declared.operators.Comparison.TheVariants.{Equal}
 use Rattle.rg_tree.specs.Trees.{Expression, Proposition, Assignment, number, word, next_word, inverse, binary, shifted, choice, truth, negation, connected, compared}
-use Rattle.rg_c_plan.specs.Changes.{ChangeTree, change_of}
+use Rattle.rg_c_plan.specs.Changes.{change_of}
 use Rattle.rg_c_plan.specs.Accesses.{stands_in}
 use Rattle.rg_c_plan.specs.Ways.{kind_at, is_atomic, has_atomic_accesses, in_section, exposes_another, first_exposed}
 use Rattle.rg_c_plan.specs.declared.kind.Kind.{Kind}

@@ -6,7 +6,7 @@ use Rattle.rg_c_plan.specs.Accesses.{StepTree, steps, accesses, places}
 use Rattle.rg_c_plan.specs.Ways.{kind_at}
 use Rattle.rg_c_plan.specs.declared.access.Access.{Access}
 use Rattle.rg_c_plan.specs.declared.kind.Kind.{Kind}
-use Rattle.rg_c_plan.specs.declared.kind.Kind.TheVariants.{Fixed, Own, Published, Atomic, Guarded}
+use Rattle.rg_c_plan.specs.declared.kind.Kind.TheVariants.{Fixed, Own, Apart, Published, Atomic, Guarded}
 
 abbrev pub no_access : Access
 no_access = record { reads = false; writes = false }
@@ -23,6 +23,7 @@ others_write p i k = some_other_writes (accesses p k) i
 abbrev pub seen_kind : Kind → Bool → Kind
 seen_kind Fixed written = Fixed
 seen_kind Own written = Own
+seen_kind Apart written = Apart
 seen_kind Published written = Published
 seen_kind Atomic written = if written then Atomic else Published
 seen_kind Guarded written = Guarded

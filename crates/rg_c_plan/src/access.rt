@@ -98,7 +98,7 @@ fn meet(a: Access, b: Access) -> bool
 }
 
 /// Whether a party meets one of these.
-fn meets_any(a: Access, list: &[Access]) -> bool
+pub(crate) fn meets_any(a: Access, list: &[Access]) -> bool
     ensures { result ≡ list_any (meet a) list.now }
 {
     for b in list {

@@ -7,6 +7,8 @@ pub enum Kind {
     Fixed,
     /// Plain: no two parties meet at it.
     Own,
+    /// Plain: parts meet at it, but the assertions of a derivation keep them apart. A step that touches it makes no atomic access, or one store, last.
+    Apart,
     /// Atomic to all others, and written by no other party than the part that looks: that part reads it as its own. No program's word is of this
     /// kind; `kinds_for` gives it to the words that a part publishes.
     Published,

@@ -2,14 +2,16 @@
 #![tactic(auto)]
 
 pub mod access;
+pub mod apart;
 pub mod change;
 mod chosen;
 pub mod kind;
 pub mod laws;
-mod mention;
+pub mod mention;
 mod once;
 pub mod plan;
 pub mod planned;
+pub mod sites;
 pub mod sound;
 pub mod step;
 mod twice;

@@ -31,7 +31,7 @@ pub(crate) fn stands_in(word: usize, e: &Expr) -> bool
 
 /// Whether a word, primed or not, stands in a formula.
 #[cycle(mention)]
-fn stands_in_formula(word: usize, f: &Formula) -> bool
+pub(crate) fn stands_in_formula(word: usize, f: &Formula) -> bool
     ensures { result ≡ stands_in_formula word (formula f.now) }
 {
     match f {
@@ -80,7 +80,7 @@ pub(crate) fn reads(word: usize, guard: Option<&Formula>, act: &[Assign]) -> boo
 }
 
 /// Whether these assignments write a word: one that changes something does.
-pub(crate) fn writes(word: usize, act: &[Assign]) -> bool
+pub fn writes(word: usize, act: &[Assign]) -> bool
     ensures { result ≡ writes word (moving (map assignment act.now)) }
 {
     for a in act {

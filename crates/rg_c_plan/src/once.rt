@@ -6,9 +6,10 @@ ghost use Rattle.rg_tree.specs.ConditionTrees.{assignment};
 ghost use Rattle.rg_c_plan.specs.View.{guard_tree, step, view};
 ghost use Rattle.rg_c_plan.specs.Changes.{moving};
 ghost use Rattle.rg_c_plan.specs.Once.{exposes_one, is_one_access};
-ghost use Rattle.rg_c_plan.specs.Kinds.{crowds, is_crowded, failed, failing_step, failing};
+ghost use Rattle.rg_c_plan.specs.Kinds.{crowds, is_crowded, failed, step_fault, failing_step, failing};
 ghost use Rattle.rg_c_plan.specs.Inner.Tests.{steps_crowd};
 
+use crate::apart::late_word;
 use crate::chosen::is_chosen;
 use crate::kind::Kind;
 use crate::planned::Unplanned;
@@ -78,13 +79,26 @@ fn failed(kinds: &[Kind], s: &Step<'_>) -> Unplanned
     }
 }
 
-/// The first of these steps that isn't one access.
+/// Why a step can't be done at once: it isn't one access; or it touches a word at which parts are kept apart, and isn't early.
+fn step_fault(kinds: &[Kind], s: &Step<'_>) -> Option<Unplanned>
+    ensures { result ≡ step_fault kinds.now (step s.now) }
+{
+    if !is_one_access(kinds, s.guard, s.act) {
+        return Some(failed(kinds, s));
+    }
+    match late_word(kinds, s.guard, s.act) {
+        Some(word) => Some(Unplanned { line: s.line, word }),
+        None => None,
+    }
+}
+
+/// The first of these steps that can't.
 fn failing_step(kinds: &[Kind], steps: &[Step<'_>]) -> Option<Unplanned>
     ensures { result ≡ failing_step kinds.now (map step steps.now) }
 {
     for s in steps {
-        if !is_one_access(kinds, s.guard, s.act) {
-            return Some(failed(kinds, s));
+        if let Some(fault) = step_fault(kinds, s) {
+            return Some(fault);
         }
     }
     None

@@ -7,6 +7,7 @@ ghost use Rattle.rg_c_plan.specs.Kinds.{bare_kind, bare_kinds, kind_among, kinds
 ghost use Rattle.rg_c_plan.specs.Sound.{IsSound};
 
 use crate::access::{accesses, is_touched, some_meet, world_access};
+use crate::apart::{is_apart, may_be_apart};
 use crate::kind::Kind;
 use crate::once::{failing, is_crowded};
 use crate::planned::{Plan, Unplanned};
@@ -16,12 +17,20 @@ use rg_tree::program::Program;
 use std::alloc::{AllocError, Global};
 
 /// The kind of a word where no step were in a section.
-fn bare_kind(alloc: Global, program: &Program, word: usize) -> Result<Kind, AllocError>
+fn bare_kind(
+    alloc: Global,
+    program: &Program,
+    apart: &[bool],
+    word: usize,
+) -> Result<Kind, AllocError>
     requires { word < length program.now.layout }
-    ensures { IfOk result (λ kind. kind ≡ bare_kind (program_tree program.now) word) }
+    ensures { IfOk result (λ kind. kind ≡ bare_kind (program_tree program.now) apart.now word) }
 {
     if program.layout.is_fixed(word) {
         return Ok(Kind::Fixed);
+    }
+    if is_apart(apart, word) && may_be_apart(alloc, program, word)? {
+        return Ok(Kind::Apart);
     }
     let list = accesses(alloc, program, word)?;
     Ok(if some_meet(&list) {
@@ -33,12 +42,12 @@ fn bare_kind(alloc: Global, program: &Program, word: usize) -> Result<Kind, Allo
 
 /// The kinds of words where no step were in a section.
 #[tactic(auto, using(crate::proofs::Places::range_more, crate::proofs::Places::range_over))]
-fn bare_kinds(alloc: Global, program: &Program) -> Result<Vec<Kind>, AllocError>
-    ensures { IfOk result (λ list. list.items ≡ bare_kinds (program_tree program.now)) }
+fn bare_kinds(alloc: Global, program: &Program, apart: &[bool]) -> Result<Vec<Kind>, AllocError>
+    ensures { IfOk result (λ list. list.items ≡ bare_kinds (program_tree program.now) apart.now) }
 {
     let mut list = Vec::new(alloc);
     for word in 0..program.layout.len() {
-        list.push(bare_kind(alloc, program, word)?)?;
+        list.push(bare_kind(alloc, program, apart, word)?)?;
     }
     Ok(list)
 }
@@ -63,10 +72,10 @@ fn kind_among(program: &Program, views: &[PartView<'_>], kind: Kind, word: usize
 
 /// The kind of each word.
 #[tactic(auto, using(crate::proofs::Places::range_more, crate::proofs::Places::range_over))]
-fn kinds_of(alloc: Global, program: &Program) -> Result<Vec<Kind>, AllocError>
-    ensures { IfOk result (λ list. list.items ≡ kinds_of (program_tree program.now)) }
+fn kinds_of(alloc: Global, program: &Program, apart: &[bool]) -> Result<Vec<Kind>, AllocError>
+    ensures { IfOk result (λ list. list.items ≡ kinds_of (program_tree program.now) apart.now) }
 {
-    let bare = bare_kinds(alloc, program)?;
+    let bare = bare_kinds(alloc, program, apart)?;
     let views = views(alloc, program, &bare)?;
     let mut kinds = Vec::new(alloc);
     for word in 0..program.layout.len() {
@@ -76,21 +85,26 @@ fn kinds_of(alloc: Global, program: &Program) -> Result<Vec<Kind>, AllocError>
 }
 
 /// A kind for each word, such that each step is done as `way_of` says, and that is sound: a fixed word is `Fixed`; one at which no two parties meet is `Own`; one
-/// for which a step needs a section is `Guarded`; all others are `Atomic`.
+/// at which only parts do, and the assertions keep them apart, is `Apart`; one for which a step needs a section is `Guarded`; all others are `Atomic`. A flag for each
+/// word, in the order of declaration, says whether the assertions keep the parts apart; flags that aren't there are `false`.
 ///
 /// # Errors
 ///
 /// An `AllocError` only where memory was refused. In an `Ok`, the first step of the text that no C of this form does at once.
-pub fn plan(alloc: Global, program: &Program) -> Result<Result<Plan, Unplanned>, AllocError>
+pub fn plan(
+    alloc: Global,
+    program: &Program,
+    apart: &[bool],
+) -> Result<Result<Plan, Unplanned>, AllocError>
     // Exactly the kinds that the definition gives.
-    ensures kinds { IfOk result (λ r. IfOk r (λ p. p.kinds.items ≡ kinds_of (program_tree program.now))) }
+    ensures kinds { IfOk result (λ r. IfOk r (λ p. p.kinds.items ≡ kinds_of (program_tree program.now) apart.now)) }
     // They are sound.
     ensures sound { IfOk result (λ r. IfOk r (λ p. IsSound p.kinds.items (program_tree program.now))) }
     // Refused exactly where there is a step that no C does at once, and the first one is given.
-    ensures planned { IfOk result (λ r. OnOk r (unplanned (program_tree program.now) ≡ None)) }
-    ensures unplanned { IfOk result (λ r. IfErr r (λ u. unplanned (program_tree program.now) ≡ Some u)) }
+    ensures planned { IfOk result (λ r. OnOk r (unplanned (program_tree program.now) apart.now ≡ None)) }
+    ensures unplanned { IfOk result (λ r. IfErr r (λ u. unplanned (program_tree program.now) apart.now ≡ Some u)) }
 {
-    let kinds = kinds_of(alloc, program)?;
+    let kinds = kinds_of(alloc, program, apart)?;
     let views = views(alloc, program, &kinds)?;
     if let Some(step) = failing(&views) {
         return Ok(Err(step));

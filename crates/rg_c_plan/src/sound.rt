@@ -7,6 +7,7 @@ ghost use Rattle.rg_c_plan.specs.Sound.{IsSound};
 ghost use Rattle.rg_c_plan.specs.Inner.Tests.{is_word_sound, are_words_sound};
 
 use crate::access::{accesses, is_touched, some_meet, world_access};
+use crate::apart::may_be_apart;
 use crate::kind::Kind;
 use crate::once::failing;
 use crate::views::views;
@@ -30,6 +31,10 @@ fn is_word_sound(
         Kind::Own => {
             let list = accesses(alloc, program, word)?;
             Ok(!fixed && !some_meet(&list))
+        }
+        Kind::Apart => {
+            let may = may_be_apart(alloc, program, word)?;
+            Ok(!fixed && may)
         }
         Kind::Published => Ok(false),
         Kind::Atomic => Ok(!fixed),

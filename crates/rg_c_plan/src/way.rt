@@ -61,7 +61,7 @@ pub(crate) fn exposes(kinds: &[Kind], guard: Option<&Formula>, act: &[Assign], w
     match kind_at(kinds, word) {
         Kind::Atomic => touches(word, guard, act),
         Kind::Published => writes(word, act),
-        Kind::Fixed | Kind::Own | Kind::Guarded => false,
+        Kind::Fixed | Kind::Own | Kind::Apart | Kind::Guarded => false,
     }
 }
 

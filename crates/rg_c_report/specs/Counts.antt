@@ -4,11 +4,12 @@ use Rattle.std.specs.List.{filter, flat_map}
 use Rattle.std.specs.Fmt.{decimal}
 use Rattle.rg_tree.specs.Statements.{ProgramTree}
 use Rattle.rg_c_plan.specs.Accesses.{StepTree}
+use Rattle.rg_c_plan.specs.Apart.{is_store}
 use Rattle.rg_c_plan.specs.Ways.{way_of}
 use Rattle.rg_c_plan.specs.Views.{ViewTree, views}
 use Rattle.rg_c_plan.specs.declared.kind.Kind.{Kind}
 use Rattle.rg_c_plan.specs.declared.way.Way.{Way}
-use Rattle.rg_c_plan.specs.declared.way.Way.TheVariants.{Direct, Load, Store, Exchange, Select, Section}
+use Rattle.rg_c_plan.specs.declared.way.Way.TheVariants.{Direct, Load, Exchange, Select, Section}
 use Rattle.rg_c_report.specs.declared.counts.Counts.{Counts}
 use Rattle.rg_c_report.specs.Words.{counted}
 
@@ -24,10 +25,6 @@ is_direct way = false
 abbrev pub is_load : Way → Bool
 is_load (Load k) = true
 is_load way = false
-
-abbrev pub is_store : Way → Bool
-is_store (Store k) = true
-is_store way = false
 
 abbrev pub is_exchange : Way → Bool
 is_exchange (Exchange k) = true

@@ -10,7 +10,7 @@ use Rattle.rg_c_plan.specs.Accesses.{StepTree, steps, steps_of_parts}
 use Rattle.rg_c_plan.specs.Ways.{kind_at, is_guarded, way_of, met_words}
 use Rattle.rg_c_plan.specs.Views.{kinds_for}
 use Rattle.rg_c_plan.specs.declared.kind.Kind.{Kind}
-use Rattle.rg_c_plan.specs.declared.kind.Kind.TheVariants.{Fixed, Own, Published, Atomic, Guarded}
+use Rattle.rg_c_plan.specs.declared.kind.Kind.TheVariants.{Fixed, Own, Apart, Published, Atomic, Guarded}
 use Rattle.rg_c_plan.specs.declared.way.Way.{Way}
 use Rattle.rg_c_plan.specs.declared.way.Way.TheVariants.{Direct, Load, Store, Exchange, Select, Section}
 use Rattle.rg_c_report.specs.Words.{joined, name_of, counted, commas}
@@ -21,6 +21,7 @@ use Rattle.rg_c_report.specs.Parties.{parties_text}
 abbrev pub kind_text : Kind → List ℕ
 kind_text Fixed = codes "fixed"
 kind_text Own = codes "plain"
+kind_text Apart = codes "plain: assertions keep its parts apart"
 kind_text Published = codes "atomic"
 kind_text Atomic = codes "atomic"
 kind_text Guarded = codes "in critical sections"

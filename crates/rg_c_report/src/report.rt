@@ -33,12 +33,14 @@ struct Page<'a> {
     kinds: &'a [Kind],
 }
 
-fn kind_text(kind: Kind) -> &'static str
+/// What is said of a kind.
+pub fn kind_text(kind: Kind) -> &'static str
     ensures { result.now ≡ kind_text kind }
 {
     match kind {
         Kind::Fixed => "fixed",
         Kind::Own => "plain",
+        Kind::Apart => "plain: assertions keep its parts apart",
         Kind::Published | Kind::Atomic => "atomic",
         Kind::Guarded => "in critical sections",
     }

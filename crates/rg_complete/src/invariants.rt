@@ -2,7 +2,7 @@
 
 use crate::equations::has_word;
 use crate::filled::{Filled, indent_of};
-use rg_outline_syntax::{HeadKind, Span, Texts, Written};
+use rg_outline_syntax::{HeadKind, Span, Texts, Written, own_start};
 use std::alloc::{AllocError, Global};
 
 /// Whether a formula of a part has a name that stands in this part alone.
@@ -47,11 +47,15 @@ pub fn said_of_all(
     Ok(text)
 }
 
-/// The byte before which conjuncts are added: the first clause after all names, or the end of these.
-fn place_of(written: &Written) -> Option<usize> {
+/// The byte before which conjuncts are added in the outline's own file: the first clause after all names, or the end of these.
+fn place_of(source: &[u8], written: &Written) -> Option<usize> {
+    let own = own_start(source);
     let mut clause = None;
     let mut end = None;
     for head in written.heads(written.following_words) {
+        if head.span.start < own {
+            continue;
+        }
         end = Some(head.span.end);
         match head.kind {
             HeadKind::Clause(..) => clause = clause.or(Some(head.span.start)),
@@ -72,7 +76,7 @@ pub fn with_conjuncts(
     written: &Written,
     conjuncts: &Texts,
 ) -> Result<Filled, AllocError> {
-    let place = place_of(written).unwrap_or(0);
+    let place = place_of(source, written).unwrap_or(0);
     let mut made = Filled::new(alloc);
     made.source
         .extend_from_slice(source.get(..place).unwrap_or(&[]))?;

@@ -163,7 +163,7 @@ module _ (words : List Word) (erased : List Bool) where
   module _ (own : ℕ) where
     -- it has as many blocks
     mutual
-      blocks_same : (s : Statement) → count_of (without erased own s) ≡ count_of s
+      pub blocks_same : (s : Statement) → count_of (without erased own s) ≡ count_of s
       blocks_same (skip row) = refl
       blocks_same (assign row a) = by_flag (is_erased erased a.target)
         where

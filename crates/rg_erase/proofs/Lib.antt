@@ -1,10 +1,10 @@
 mod States
 mod Mentions
-mod Loops
+pub mod Loops
 mod Conjunctions
 mod Defined
 mod Typed
-mod Left
-mod Blocks
-mod Lifts
-mod ShadowRuns
+pub mod Left
+pub mod Blocks
+pub mod Lifts
+pub mod ShadowRuns

@@ -115,14 +115,14 @@ module _ (words : List Word) (erased : List Bool) (own : ℕ) where
       inside : OthersInside kept_rely (staying erased s) ys → OthersInside (holds rely) s steps
 
     -- the first step, with where it leads
-    record First (cs : List (List BlockTree)) (ks ks' : List ℕ) (s : State) (y : Step) : Type 0 where
-      after : State
-      stays : staying erased after ≡ y.after
-      pair : IsPair words s after
-      goes : PlacesGo 1 cs ks ks' s (record { who = y.who; after = after })
-      inside : (y.who ≡ 0 → Inside kept_rely (staying erased s) y.after) → y.who ≡ 0 → Inside (holds rely) s after
+    pub record First (cs : List (List BlockTree)) (ks ks' : List ℕ) (s : State) (y : Step) : Type 0 where
+      pub after : State
+      pub stays : staying erased after ≡ y.after
+      pub pair : IsPair words s after
+      pub goes : PlacesGo 1 cs ks ks' s (record { who = y.who; after = after })
+      pub inside : (y.who ≡ 0 → Inside kept_rely (staying erased s) y.after) → y.who ≡ 0 → Inside (holds rely) s after
 
-    first_step : (cs ds : List (List BlockTree)) (ks ks' : List ℕ) (s : State) (y : Step) → AreShadowCodes words erased own cs ds → IsState words s → IsPair (staying erased words) (staying erased s) y.after → PlacesGo 1 ds ks ks' (staying erased s) y → First cs ks ks' s y
+    pub first_step : (cs ds : List (List BlockTree)) (ks ks' : List ℕ) (s : State) (y : Step) → AreShadowCodes words erased own cs ds → IsState words s → IsPair (staying erased words) (staying erased s) y.after → PlacesGo 1 ds ks ks' (staying erased s) y → First cs ks ks' s y
     first_step cs ds ks ks' s y a st pair g =
         ⊎_elim
         (λ (b : Back 1 cs ks ks' s y). record { after = b.after; stays = b.stays; pair = b.pair; goes = b.goes; inside = λ h e. absurd (omega (arith, e, b.some)) })
@@ -153,7 +153,7 @@ module _ (words : List Word) (erased : List Bool) (own : ℕ) where
         }
 
 -- what shadows of code have alike
-same_zeros : (words : List Word) (erased : List Bool) (own : ℕ) (cs ds : List (List BlockTree)) → AreShadowCodes words erased own cs ds → zeros cs ≡ zeros ds
+pub same_zeros : (words : List Word) (erased : List Bool) (own : ℕ) (cs ds : List (List BlockTree)) → AreShadowCodes words erased own cs ds → zeros cs ≡ zeros ds
 same_zeros words erased own [] [] a = refl
 same_zeros words erased own [] (d ∷ ds) a = absurd a
 same_zeros words erased own (c ∷ cs) [] a = absurd a
@@ -213,7 +213,7 @@ module _ (erased : List Bool) (p : ProgramTree) (typed : IsTypedProgram p) (eras
   are_shadows = record { forth = shadow_forth; back = shadow_back; starts = shadow_start }
 
   -- a part that is left is what is left of a part
-  part_left : (n : ℕ) (ps : List PartTree) (k : ℕ) (q : PartTree) → slice_get (map (part_without erased n) ps) k ≡ Some q → (r : PartTree) × (slice_get ps k ≡ Some r) × (part_without erased n r ≡ q)
+  pub part_left : (n : ℕ) (ps : List PartTree) (k : ℕ) (q : PartTree) → slice_get (map (part_without erased n) ps) k ≡ Some q → (r : PartTree) × (slice_get ps k ≡ Some r) × (part_without erased n r ≡ q)
   part_left n [] k q h = cc h
   part_left n (r ∷ ps) zero q h = let same : part_without erased n r ≡ q = cc h in (r, refl, same)
   part_left n (r ∷ ps) (suc k) q h = part_left n ps k q h

@@ -2,7 +2,7 @@
 
 use crate::expansion::{Expansion, Line};
 use crate::print::{push_tight_tree, too_large};
-use rg_outline_syntax::{Fault, List, push_count, push_phrase};
+use rg_outline_syntax::{Fault, List, push_count, push_phrase, push_place};
 use rg_tree::line::Rule;
 use rg_words::limits::MOST_TEXT_BYTES;
 use std::alloc::AllocError;
@@ -120,12 +120,9 @@ impl Expansion<'_> {
     /// Adds the part of a line, and its statement's place and phrase.
     fn push_statement_place(&self, text: &mut Vec<u8>, line: Line) -> Result<(), Fault> {
         let span = self.statement(line.statement).span;
-        let position = span.position(self.scope.source);
         text.extend_from_slice(self.part_names.at(line.part))?;
         text.push(b' ')?;
-        push_count(text, position.line as u64)?;
-        text.push(b':')?;
-        push_count(text, position.column as u64)?;
+        push_place(text, self.scope.source, span)?;
         text.push(b' ')?;
         push_clipped(text, span.of(self.scope.source))?;
         text.push(b'\n')?;

@@ -2,7 +2,7 @@
 
 use crate::change::{Change, ChangeGroup, Edit, Replacement};
 use crate::edits::push_replacement;
-use rg_outline_syntax::{Span, push_count, push_phrase};
+use rg_outline_syntax::{Span, push_count, push_phrase, push_position};
 use std::alloc::{AllocError, Global};
 
 /// The most bytes of a piece that is shown.
@@ -55,7 +55,7 @@ fn push_replaced(
     push_quoted(text, " becomes ", &new)
 }
 
-/// Adds a change, `FILE:LINE:COLUMN: what is changed`, without a line's end. `source` is the outline before the change.
+/// Adds a change, `FILE:LINE:COLUMN: what is changed`, without a line's end. `source` is the outline before the change, and `name` that of its own file.
 ///
 /// # Errors
 ///
@@ -67,12 +67,7 @@ pub fn push_change(
     source: &[u8],
     change: &Change,
 ) -> Result<(), AllocError> {
-    let position = change.place.position(source);
-    push_text(text, name)?;
-    text.push(b':')?;
-    push_count(text, position.line as u64)?;
-    text.push(b':')?;
-    push_count(text, position.column as u64)?;
+    push_position(text, name.as_bytes(), source, change.place)?;
     push_text(text, ": ")?;
     push_change_alone(alloc, text, source, change)
 }

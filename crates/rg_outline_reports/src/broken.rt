@@ -3,9 +3,9 @@
 use crate::falsity::Falsity;
 use crate::reports::{Detail, Said};
 use crate::says::push_with_part;
-use crate::subject::line_of;
 use crate::values::{Moment, first_false, is_true, values_of};
 use rg_outline::Expansion;
+use rg_outline_syntax::Span;
 use rg_walk::{BreakingRun, Broken};
 use std::alloc::AllocError;
 
@@ -119,13 +119,13 @@ fn owner_text(expansion: &Expansion<'_>, owner: Owner) -> Result<Option<Vec<u8>>
     Ok(Some(text))
 }
 
-/// The line of an owner's formula; where it is made of several, that of the outermost name in it, or else of the conjunct that is false.
-fn owner_line(expansion: &Expansion<'_>, formula: usize, falsity: &Falsity<'_>) -> u64 {
+/// The place of an owner's formula; where it is made of several, that of the outermost name in it, or else of the conjunct that is false.
+fn owner_place(expansion: &Expansion<'_>, formula: usize, falsity: &Falsity<'_>) -> Span {
     let place = expansion.scope.forest.span(formula);
     if place.start == place.end {
-        return line_of(expansion, falsity.outermost(expansion));
+        return falsity.outermost(expansion);
     }
-    line_of(expansion, place)
+    place
 }
 
 /// What is false at the end of a run: a conjunct, the premises that hold, the names within which it stands, and then whose formula it is, where that
@@ -145,9 +145,9 @@ pub(crate) fn details_of(
     let falsity = Falsity::of(expansion, formula, moment)?;
     let mut details = falsity.details(expansion)?;
     if let Some(text) = owner_text(expansion, owner)? {
-        let line = owner_line(expansion, formula, &falsity);
+        let place = owner_place(expansion, formula, &falsity);
         let said = Said::Name;
-        details.push(Detail { said, text, line })?;
+        details.push(Detail { said, text, place })?;
     }
     Ok(details)
 }

@@ -1,6 +1,7 @@
 //! What a challenge found, as JSON: one value a line.
 
 use crate::files::OutlineSource;
+use crate::json::put_place;
 use crate::made::{JsonList, JsonObject, push_json_line, text_value};
 use rg_outline_syntax::Span;
 use std::alloc::{AllocError, Global};
@@ -50,12 +51,10 @@ pub fn push_json_of_change(
     outline: OutlineSource<'_>,
     told: ChangeTold<'_>,
 ) -> Result<(), AllocError> {
-    let position = told.place.position(outline.source);
     let mut object = JsonObject::new(alloc);
     object.put_text("kind", b"change");
-    object.put_text("file", outline.name.as_bytes());
-    object.put_count("line", position.line as u64);
-    object.put_count("column", position.column as u64);
+    let own = outline.name.as_bytes();
+    put_place(&mut object, own, outline.source, told.place);
     object.put_text("change", told.change);
     object.put_text("group", told.group.as_bytes());
     object.put_text("answer", told.answer.as_bytes());

@@ -9,7 +9,7 @@ use crate::reports::{Cause, Claim, Key, Moved, Reports};
 use crate::says::{given_and_due, place_of, push_says, statement_span};
 use crate::steady::report_unstable;
 use crate::step::report_step;
-use crate::subject::{Subject, line_of};
+use crate::subject::{Subject, push_line};
 use crate::values::{Moment, values_of};
 use rg_outline::{Action, Assertion, BlockRow, Expansion, Line, Origin};
 use rg_outline_syntax::{Span, push_count};
@@ -49,7 +49,7 @@ fn report_exit(
     words.add_tree(expansion, expansion.statement(line.statement).test)?;
     let mut sentence = Vec::new(expansion.scope.alloc);
     sentence.extend_from_slice(b"where this loop ends, the assertion of line ")?;
-    push_count(&mut sentence, line_of(expansion, line.after.span))?;
+    push_line(expansion, &mut sentence, line.after.span)?;
     sentence.extend_from_slice(b" can be false")?;
     let place = statement_span(expansion, line);
     let finding = Finding {
@@ -92,7 +92,7 @@ fn if_around(expansion: &Expansion<'_>, inner: usize) -> Option<Span> {
 fn not_followed(expansion: &Expansion<'_>, given: Assertion) -> Result<Vec<u8>, AllocError> {
     let mut sentence = Vec::new(expansion.scope.alloc);
     sentence.extend_from_slice(b"this assertion doesn't follow from what holds before it (line ")?;
-    push_count(&mut sentence, line_of(expansion, given.span))?;
+    push_line(expansion, &mut sentence, given.span)?;
     if given.origin == Origin::Carried {
         sentence.extend_from_slice(b", carried on")?;
     }
@@ -105,7 +105,7 @@ fn carried_past_if(expansion: &Expansion<'_>, due: Assertion) -> Result<Vec<u8>,
     let mut sentence = Vec::new(expansion.scope.alloc);
     let said = b"no assertion stands after this `if`, and the one of line ";
     sentence.extend_from_slice(said)?;
-    push_count(&mut sentence, line_of(expansion, due.span))?;
+    push_line(expansion, &mut sentence, due.span)?;
     sentence.extend_from_slice(b", which is carried on, can be false then")?;
     Ok(sentence)
 }

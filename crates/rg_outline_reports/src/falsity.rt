@@ -3,7 +3,6 @@
 use crate::meanings::push_meanings;
 use crate::reports::{Cause, Claim, Detail, Key, Moved, Reports, Said};
 use crate::show::{push_name, push_shown};
-use crate::subject::line_of;
 use crate::values::{Moment, Values};
 use crate::words::Words;
 use rg_outline::{Expansion, push_flat};
@@ -49,14 +48,14 @@ fn detail(
     level: u8,
 ) -> Result<Detail, AllocError> {
     let mut text = Vec::new(expansion.scope.alloc);
-    let mut line = 0;
+    let mut place = Span::NOWHERE;
     if said == Said::Name {
         push_name(expansion, &mut text, tree)?;
-        line = line_of(expansion, expansion.scope.forest.span(tree));
+        place = expansion.scope.forest.span(tree);
     } else {
         push_shown(expansion, &mut text, tree, level, said == Said::Premise)?;
     }
-    Ok(Detail { said, text, line })
+    Ok(Detail { said, text, place })
 }
 
 impl<'s> Falsity<'s> {
@@ -173,13 +172,13 @@ impl<'s> Falsity<'s> {
     }
 }
 
-/// The use of named statements, and its line.
+/// The use of named statements, and its place.
 fn use_detail(expansion: &Expansion<'_>, used: Span) -> Result<Detail, AllocError> {
     let shown = used.of(expansion.scope.source);
     Ok(Detail {
         said: Said::Name,
         text: Vec::from_slice(expansion.scope.alloc, shown)?,
-        line: line_of(expansion, used),
+        place: used,
     })
 }
 

@@ -1,6 +1,7 @@
 //! An outline as it is given, the files that it stands for, and what is found of them.
 
 use crate::Claim;
+use rg_outline_syntax::Fault;
 use std::alloc::AllocError;
 
 /// The files that an outline stands for, each as it is printed.
@@ -21,7 +22,7 @@ pub struct OutlineFiles {
 pub struct Places {
     /// Each word as the outline writes it, in the order of the text's words.
     pub words: Vec<Vec<u8>>,
-    /// The outline's line of each statement, by the statement's number in the text; 0 for a sequence, and as the first one, since numbers are from 1.
+    /// The line of each statement in the outline's own file, which of one in a used file is that of its use, by the statement's number in the text; 0 for a sequence, and as the first one, since numbers are from 1.
     pub lines: Vec<u64>,
 }
 
@@ -52,12 +53,13 @@ pub enum Format {
     Json,
 }
 
-/// An outline: its file, as places name it, with its bytes; how what is reported of it is printed; and whether it is to be warned of what it is perhaps
-/// not meant to say.
+/// An outline: its own file, as places name it; its bytes, with those of the files that it uses as `push_file` puts them; why one of these can't be used;
+/// how what is reported of it is printed; and whether it is to be warned of what it is perhaps not meant to say.
 #[derive(Clone, Copy)]
 pub struct OutlineSource<'a> {
     pub name: &'a str,
     pub source: &'a [u8],
+    pub fault: Option<Fault>,
     pub format: Format,
     pub has_warnings: bool,
 }

@@ -3,11 +3,10 @@
 use crate::faults::printable;
 use crate::files::NoFiles;
 use crate::inputs::Input;
-use crate::subject::push_place;
 use rg_outline::Expansion;
 use rg_outline_syntax::{
     Fault, FaultKind, Names, Span, Texts, TokenFault, push_carets, push_count, push_phrase,
-    push_sentence,
+    push_place, push_sentence,
 };
 use std::alloc::{AllocError, AllocFailed};
 

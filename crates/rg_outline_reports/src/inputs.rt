@@ -256,7 +256,7 @@ fn plain_in(
     kind: InputKind,
 ) -> Result<Plain, InputFault> {
     let alloc = expansion.scope.alloc;
-    let tokens = match Tokens::read(alloc, source) {
+    let tokens = match Tokens::read_alone(alloc, source) {
         Ok(tokens) => tokens,
         Err(fault) => return Err(InputFault::of_tokens(fault)),
     };

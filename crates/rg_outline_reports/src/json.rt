@@ -3,7 +3,7 @@
 use crate::made::{JsonList, JsonObject, push_json_line, text_value};
 use crate::reports::{Cause, Detail, Moved, Report, Said};
 use crate::subject::Subject;
-use rg_outline_syntax::Span;
+use rg_outline_syntax::{Span, file_of};
 use serde_json::Value;
 use std::alloc::{AllocError, Global};
 
@@ -26,23 +26,32 @@ fn values_kind(moved: Moved) -> &'static [u8] {
     }
 }
 
-/// A detail: its text, and of a name also the line of what it names.
-fn detail_value(alloc: Global, detail: &Detail) -> Result<Value, AllocError> {
+/// A detail: its text, and of a name also the line of what it names, with the file of that where it is a used one.
+fn detail_value(alloc: Global, source: &[u8], detail: &Detail) -> Result<Value, AllocError> {
     if detail.said != Said::Name {
         return text_value(alloc, &detail.text);
     }
     let mut object = JsonObject::new(alloc);
     object.put_text("name", &detail.text);
-    object.put_count("line", detail.line);
+    object.put_count("line", detail.place.position(source).line as u64);
+    let used = file_of(source, detail.place);
+    if !used.is_empty() {
+        object.put_text("file", used);
+    }
     object.value()
 }
 
 /// The details that are of this kind, as a list.
-fn details_value(alloc: Global, details: &[Detail], said: Said) -> Result<Value, AllocError> {
+fn details_value(
+    alloc: Global,
+    source: &[u8],
+    details: &[Detail],
+    said: Said,
+) -> Result<Value, AllocError> {
     let mut list = JsonList::new(alloc);
     for detail in details {
         if detail.said == said {
-            list.put(detail_value(alloc, detail));
+            list.put(detail_value(alloc, source, detail));
         }
     }
     list.value()
@@ -57,10 +66,18 @@ fn conjunct_value(alloc: Global, details: &[Detail]) -> Result<Value, AllocError
 }
 
 /// Puts the conjunct that is false, the premises that hold, and the names within which it stands.
-pub(crate) fn put_details(object: &mut JsonObject, alloc: Global, details: &[Detail]) {
+pub(crate) fn put_details(
+    object: &mut JsonObject,
+    alloc: Global,
+    source: &[u8],
+    details: &[Detail],
+) {
     object.put("conjunct", conjunct_value(alloc, details));
-    object.put("premises", details_value(alloc, details, Said::Premise));
-    object.put("within", details_value(alloc, details, Said::Name));
+    object.put(
+        "premises",
+        details_value(alloc, source, details, Said::Premise),
+    );
+    object.put("within", details_value(alloc, source, details, Said::Name));
 }
 
 /// The parts that meet a cause, as a list.
@@ -85,10 +102,11 @@ fn words_value(alloc: Global, report: &Report, subject: Subject<'_>) -> Result<V
     list.value()
 }
 
-/// Puts where something is: the file, the line and the column.
-fn put_place(object: &mut JsonObject, subject: Subject<'_>, place: Span) {
-    let position = place.position(subject.source);
-    object.put_text("file", subject.file);
+/// Puts where something is: the file, the line and the column. `own` is the name of the outline's own file.
+pub(crate) fn put_place(object: &mut JsonObject, own: &[u8], source: &[u8], place: Span) {
+    let position = place.position(source);
+    let used = file_of(source, place);
+    object.put_text("file", if used.is_empty() { own } else { used });
     object.put_count("line", position.line as u64);
     object.put_count("column", position.column as u64);
 }
@@ -106,13 +124,16 @@ pub(crate) fn push_json(
 ) -> Result<(), AllocError> {
     let mut object = JsonObject::new(alloc);
     object.put_text("kind", kind_of(report.key.cause));
-    put_place(&mut object, subject, report.place);
+    put_place(&mut object, subject.file, subject.source, report.place);
     object.put("parts", parts_value(alloc, report, subject));
     object.put_text("sentence", &report.sentence);
     object.put_text("values", values_kind(report.moved));
-    put_details(&mut object, alloc, &report.details);
+    put_details(&mut object, alloc, subject.source, &report.details);
     object.put("words", words_value(alloc, report, subject));
-    object.put("hints", details_value(alloc, &report.details, Said::Hint));
+    object.put(
+        "hints",
+        details_value(alloc, subject.source, &report.details, Said::Hint),
+    );
     push_json_line(text, alloc, object.value())
 }
 
@@ -126,7 +147,7 @@ pub(crate) fn push_json_of_fault(
 ) -> Result<(), AllocError> {
     let mut object = JsonObject::new(alloc);
     object.put_text("kind", b"refused");
-    put_place(&mut object, subject, place);
+    put_place(&mut object, subject.file, subject.source, place);
     object.put_text("sentence", sentence);
     push_json_line(text, alloc, object.value())
 }

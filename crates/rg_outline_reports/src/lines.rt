@@ -4,7 +4,7 @@ use crate::files::Format;
 use crate::json::push_json;
 use crate::reports::{Cause, Detail, Moved, Report, Reports, Said, Valued};
 use crate::subject::Subject;
-use rg_outline_syntax::{push_carets, push_count};
+use rg_outline_syntax::{Span, push_carets, push_count, push_line_of};
 use std::alloc::AllocError;
 
 /// Adds all reports, in the order of their places: as lines with an empty line between two, or each as a JSON value in a line of its own.
@@ -56,7 +56,7 @@ fn push_report(
     push_parts(text, report, subject)?;
     text.push(b'\n')?;
     push_carets(text, subject.source, report.place)?;
-    push_details(text, &report.details)?;
+    push_details(text, subject.source, &report.details)?;
     push_values(text, report, subject)?;
     push_hints(text, &report.details)
 }
@@ -81,7 +81,11 @@ fn push_parts(text: &mut Vec<u8>, report: &Report, subject: Subject<'_>) -> Resu
 }
 
 /// Adds rows with the conjunct that is false, the premises that hold, and the names within which it stands.
-pub(crate) fn push_details(text: &mut Vec<u8>, details: &[Detail]) -> Result<(), AllocError> {
+pub(crate) fn push_details(
+    text: &mut Vec<u8>,
+    source: &[u8],
+    details: &[Detail],
+) -> Result<(), AllocError> {
     let mut premise: &[u8] = b"   where ";
     let mut name: &[u8] = b"\n    it stands in ";
     let mut is_any = false;
@@ -99,7 +103,7 @@ pub(crate) fn push_details(text: &mut Vec<u8>, details: &[Detail]) -> Result<(),
         match detail.said {
             Said::Premise => premise = b" and ",
             Said::Name => {
-                push_line(text, detail.line)?;
+                push_line_in(text, source, detail.place)?;
                 name = b", in ";
             }
             _ => {}
@@ -111,10 +115,10 @@ pub(crate) fn push_details(text: &mut Vec<u8>, details: &[Detail]) -> Result<(),
     Ok(())
 }
 
-/// Adds a line of the outline.
-pub(crate) fn push_line(text: &mut Vec<u8>, line: u64) -> Result<(), AllocError> {
+/// Adds the line of a place in parentheses.
+fn push_line_in(text: &mut Vec<u8>, source: &[u8], place: Span) -> Result<(), AllocError> {
     text.extend_from_slice(b" (line ")?;
-    push_count(text, line)?;
+    push_line_of(text, source, place)?;
     text.push(b')')?;
     Ok(())
 }

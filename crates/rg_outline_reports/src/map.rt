@@ -2,9 +2,8 @@
 
 use crate::asked::{Asked, OfLine, OfParts, conditions_of};
 use crate::says::{place_of, push_says, push_with_part};
-use crate::subject::push_place;
 use rg_outline::Expansion;
-use rg_outline_syntax::push_count;
+use rg_outline_syntax::{push_count, push_place};
 use std::alloc::AllocError;
 
 /// What a condition of a line is called.

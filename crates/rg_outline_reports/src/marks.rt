@@ -2,7 +2,7 @@
 
 use crate::reports::{Reports, Warning};
 use crate::warnings::warn;
-use rg_outline_syntax::Span;
+use rg_outline_syntax::{Span, file_of};
 use std::alloc::{AllocError, Global};
 
 /// What a comment that is a mark begins with, after blanks.
@@ -12,8 +12,8 @@ const MARK: &[u8] = b"meant:";
 #[derive(Clone, Copy)]
 struct Mark {
     span: Span,
-    /// The line whose warnings are meant, from 1; 0 where there is none.
-    line: usize,
+    /// Where the line begins whose warnings are meant; none where there is no such line.
+    line: Option<usize>,
 }
 
 fn is_blank(byte: u8) -> bool {
@@ -44,7 +44,7 @@ fn before_mark(line: &[u8]) -> Option<usize> {
 /// Gives the marks from one on their line.
 fn give_line(marks: &mut Vec<Mark>, open: usize, line: usize) {
     for mark in marks.iter_mut().skip(open) {
-        mark.line = line;
+        mark.line = Some(line);
     }
 }
 
@@ -53,7 +53,7 @@ fn marks_of(alloc: Global, source: &[u8]) -> Result<Vec<Mark>, AllocError> {
     let mut marks = Vec::new(alloc);
     let mut open = 0usize;
     let mut start = 0usize;
-    for index in 0..source.len() {
+    for _ in 0..source.len() {
         let Some(rest) = source.get(start..) else {
             break;
         };
@@ -64,11 +64,14 @@ fn marks_of(alloc: Global, source: &[u8]) -> Result<Vec<Mark>, AllocError> {
             let start = start.saturating_add(before);
             marks.push(Mark {
                 span: Span { start, end },
-                line: 0,
+                line: None,
             })?;
         }
         if has_code(line) {
-            give_line(&mut marks, open, index.saturating_add(1));
+            if open < marks.len() {
+                let line = Span { start: end, end }.row_start(source);
+                give_line(&mut marks, open, line);
+            }
             open = marks.len();
         }
         start = end.saturating_add(1);
@@ -76,20 +79,20 @@ fn marks_of(alloc: Global, source: &[u8]) -> Result<Vec<Mark>, AllocError> {
     Ok(marks)
 }
 
-/// The lines of the reports' places, in their order.
+/// Where the lines of the reports' places begin, in their order.
 fn lines_of(source: &[u8], reports: &Reports) -> Result<Vec<usize>, AllocError> {
     let mut lines = Vec::new(reports.alloc);
     for report in &reports.listed {
-        lines.push(report.place.position(source).line)?;
+        lines.push(report.place.row_start(source))?;
     }
     Ok(lines)
 }
 
 /// Notes which warnings are at a line, as they are meant; whether there is one.
-fn mean(reports: &mut Reports, lines: &[usize], line: usize) -> bool {
+fn mean(reports: &mut Reports, lines: &[usize], line: Option<usize>) -> bool {
     let mut is_met = false;
     for (report, place) in reports.listed.iter_mut().zip(lines) {
-        if *place == line {
+        if Some(*place) == line {
             report.is_meant = true;
             is_met = true;
         }
@@ -97,12 +100,14 @@ fn mean(reports: &mut Reports, lines: &[usize], line: usize) -> bool {
     is_met
 }
 
-/// Takes the marks of an outline with the warnings that are reported: those at a mark's line aren't told, and a mark that meets none is warned of.
+/// Takes the marks of an outline with the warnings that are reported: those at a mark's line aren't told, and a mark that meets none is warned of; but
+/// not in a used file, of which another outline may use more.
 pub(crate) fn take_marks(source: &[u8], reports: &mut Reports) -> Result<(), AllocError> {
     let marks = marks_of(reports.alloc, source)?;
     let lines = lines_of(source, reports)?;
     for mark in &marks {
-        if !mean(reports, &lines, mark.line) {
+        let is_met = mean(reports, &lines, mark.line);
+        if !is_met && file_of(source, mark.span).is_empty() {
             let said = b"this mark meets no warning: take it out";
             warn(reports, Warning::MarkUnmet, mark.span, None, said)?;
         }

@@ -3,6 +3,7 @@
 use crate::reports::{Detail, Said};
 use crate::show::push_shown;
 use rg_outline::Expansion;
+use rg_outline_syntax::Span;
 use rg_outline_terms::FormKind;
 use std::alloc::AllocError;
 
@@ -88,7 +89,7 @@ pub(crate) fn push_meanings(
             details.push(Detail {
                 said,
                 text,
-                line: 0,
+                place: Span::NOWHERE,
             })?;
         }
     }

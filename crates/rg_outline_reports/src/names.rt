@@ -3,7 +3,7 @@
 use crate::reports::{Reports, Warning};
 use crate::warnings::warn;
 use rg_outline::Expansion;
-use rg_outline_syntax::{Expression, ExpressionKind, HeadKind, Span};
+use rg_outline_syntax::{Expression, ExpressionKind, HeadKind, Span, file_of};
 use std::alloc::AllocError;
 
 /// Whether a place lies where words are owned.
@@ -28,13 +28,16 @@ fn uses(expansion: &Expansion<'_>, expression: Expression, name: Span) -> bool {
     }
 }
 
-/// Reports a name, where nothing uses it.
+/// Reports a name, where nothing uses it and it doesn't stand in a used file, of which another outline may use more.
 fn report(
     expansion: &Expansion<'_>,
     reports: &mut Reports,
     said: &[u8],
     name: Span,
 ) -> Result<(), AllocError> {
+    if !file_of(expansion.scope.source, name).is_empty() {
+        return Ok(());
+    }
     for expression in &expansion.scope.written.expressions {
         if uses(expansion, *expression, name) {
             return Ok(());
@@ -46,7 +49,7 @@ fn report(
     warn(reports, Warning::Unused, name, None, &sentence)
 }
 
-/// Reports each name of a formula or a value, and each word, that nothing uses.
+/// Reports each name of a formula or a value, and each word, that nothing uses, but for those of used files.
 pub(crate) fn report_unused(
     expansion: &Expansion<'_>,
     reports: &mut Reports,

@@ -13,7 +13,7 @@ use crate::run::{push_run, push_walked};
 use crate::run_json::push_json_of_run;
 use crate::slots::{Member, Obligation, members_of, obligations_of};
 use crate::stuck::report_stuck;
-use crate::subject::{Subject, line_of};
+use crate::subject::{Subject, own_line};
 use crate::warnings::report_warnings;
 use rg_outline::{Expansion, push_derivation, push_map, push_text, work_out};
 use rg_outline_syntax::{Fault, Standing, Tokens, Written, parse};
@@ -38,10 +38,14 @@ fn read_in(alloc: Global, source: &[u8]) -> Result<ReadOutline, Fault> {
 ///
 /// # Errors
 ///
-/// - `NoFiles::Reported`, with the first fault of the tokens, else of the shape.
+/// - `NoFiles::Reported`, with the fault for which a file can't be used, else the first of the tokens, else of the shape.
 /// - `NoFiles::Memory` where memory is refused.
 pub fn read_outline(alloc: Global, outline: OutlineSource<'_>) -> Result<ReadOutline, NoFiles> {
-    match read_in(alloc, outline.source) {
+    let read = match outline.fault {
+        None => read_in(alloc, outline.source),
+        Some(fault) => Err(fault),
+    };
+    match read {
         Ok(read) => Ok(read),
         Err(fault) => Err(refused_source(alloc, outline, fault)),
     }
@@ -160,7 +164,7 @@ impl<'a> Outlined<'a> {
         }
         for statement in &expansion.statements {
             if let Some(slot) = lines.get_mut(statement.number) {
-                *slot = line_of(expansion, statement.span);
+                *slot = own_line(expansion, *statement);
             }
         }
         Ok(Places { words, lines })

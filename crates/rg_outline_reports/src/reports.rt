@@ -96,8 +96,8 @@ pub(crate) enum Said {
 pub(crate) struct Detail {
     pub(crate) said: Said,
     pub(crate) text: Vec<u8>,
-    /// The line of what a name names; else 0.
-    pub(crate) line: u64,
+    /// Where what a name names stands; else nowhere.
+    pub(crate) place: Span,
 }
 
 /// A word with its values.
@@ -201,7 +201,7 @@ impl Reports {
             report.details.push(Detail {
                 said: Said::Hint,
                 text,
-                line: 0,
+                place: Span::NOWHERE,
             })?;
         }
         Ok(())

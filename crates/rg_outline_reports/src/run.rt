@@ -7,7 +7,7 @@ use crate::places::statement_at;
 use crate::reports::Valued;
 use crate::run_json::{push_json_of_not_found, push_json_of_run};
 use crate::run_rows::{RunRows, Steps, rows_of};
-use crate::subject::line_of;
+use crate::subject::push_line;
 use rg_outline::Expansion;
 use rg_outline_syntax::{Span, push_count, push_phrase};
 use rg_walk::{Bound, BreakingRun, Broken, RunStep, Unbroken, Walked};
@@ -104,7 +104,7 @@ pub(crate) fn push_step(
             text.extend_from_slice(expansion.part_names.at(part))?;
             if let Some(statement) = statement_at(expansion, part, step.place)? {
                 text.extend_from_slice(b", line ")?;
-                push_count(text, line_of(expansion, statement.span))?;
+                push_line(expansion, text, statement.span)?;
                 text.extend_from_slice(b", ")?;
                 push_statement(expansion, text, statement.span)?;
             }
@@ -216,7 +216,8 @@ pub(crate) fn push_run(
     text.extend_from_slice(b"    ")?;
     push_broken(expansion, text, run)?;
     text.push(b'\n')?;
-    push_details(text, &details_of(expansion, run)?)
+    let details = details_of(expansion, run)?;
+    push_details(text, expansion.scope.source, &details)
 }
 
 /// Adds a count, and what is counted: one, or several.

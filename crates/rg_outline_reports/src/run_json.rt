@@ -61,7 +61,7 @@ pub(crate) fn push_json_of_run(
     object.put_text("start", &start);
     object.put("steps", steps_value(expansion, run));
     object.put_text("broken", &broken);
-    put_details(&mut object, alloc, &details);
+    put_details(&mut object, alloc, expansion.scope.source, &details);
     push_json_line(text, alloc, object.value())
 }
 

@@ -3,7 +3,7 @@
 
 use crate::places::statement_at;
 use crate::run::{push_changes, push_statement, push_step};
-use crate::subject::line_of;
+use crate::subject::{own_line, push_line};
 use crate::written::is_same_place;
 use rg_outline::{Action, Expansion, Statement};
 use rg_outline_syntax::{Span, Texts, push_count};
@@ -44,8 +44,9 @@ struct Shown {
     /// Its index among the steps of the run.
     index: usize,
     who: usize,
-    /// Its statement and the line of that; nowhere for the environment.
+    /// Its statement; nowhere for the environment.
     span: Span,
+    /// The line of that in the outline's own file.
     line: u64,
     is_quiet: bool,
 }
@@ -97,18 +98,19 @@ fn statement_of(
 fn shown_of(expansion: &Expansion<'_>, run: Steps<'_>) -> Result<Vec<Shown>, AllocError> {
     let mut shown = Vec::new(expansion.scope.alloc);
     for (index, step) in run.steps.iter().enumerate() {
-        let mut span = Span::NOWHERE;
+        let (mut span, mut line) = (Span::NOWHERE, 1);
         if let Some(statement) = statement_of(expansion, step.who, step.place)? {
             if is_missing_else(expansion, statement) {
                 continue;
             }
             span = statement.span;
+            line = own_line(expansion, statement);
         }
         shown.push(Shown {
             index,
             who: step.who,
             span,
-            line: line_of(expansion, span),
+            line,
             is_quiet: is_same_state(run.before(index), &step.after),
         })?;
     }
@@ -247,15 +249,16 @@ fn push_quiet(
 ) -> Result<usize, AllocError> {
     let start = text.len();
     let who = shown.first().map_or(0, |step| step.who);
-    let mut line = 0u64;
+    let source = expansion.scope.source;
+    let mut row = None;
     let mut count = 0usize;
     text.extend_from_slice(expansion.part_names.at(who.saturating_sub(1)))?;
     for step in shown {
         let end = text.len();
         text.extend_from_slice(if count == 0 { b", " } else { b"; " })?;
-        if step.line != line {
+        if row != Some(step.span.row_start(source)) {
             text.extend_from_slice(b"line ")?;
-            push_count(text, step.line)?;
+            push_line(expansion, text, step.span)?;
             text.extend_from_slice(b", ")?;
         }
         push_statement(expansion, text, step.span)?;
@@ -264,7 +267,7 @@ fn push_quiet(
             text.truncate(end);
             break;
         }
-        line = step.line;
+        row = Some(step.span.row_start(source));
         count = count.saturating_add(1);
     }
     text.extend_from_slice(b": no word changes")?;

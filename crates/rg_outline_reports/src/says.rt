@@ -2,9 +2,9 @@
 //! fails is made in `step.rt`, `steady.rt` and `failures.rt`.
 
 use crate::asked::{Asked, OfLine, OfParts};
-use crate::subject::line_of;
+use crate::subject::push_line;
 use rg_outline::{Assertion, Expansion, Line, push_clipped};
-use rg_outline_syntax::{Span, push_count};
+use rg_outline_syntax::Span;
 use std::alloc::AllocError;
 
 /// Where a line's statement stands.
@@ -66,7 +66,7 @@ fn push_assertion(
     text.push(b'`')?;
     push_clipped(text, assertion.span.of(expansion.scope.source))?;
     text.extend_from_slice(b"` (line ")?;
-    push_count(text, line_of(expansion, assertion.span))?;
+    push_line(expansion, text, assertion.span)?;
     text.push(b')')?;
     Ok(())
 }

@@ -5,10 +5,10 @@ use crate::falsity::{Falsity, Finding};
 use crate::reports::{Cause, Moved, Reports};
 use crate::says::push_with_part;
 use crate::show::{assigned_index, push_shown};
-use crate::subject::line_of;
+use crate::subject::push_line;
 use crate::values::{Moment, Values, is_true};
 use rg_outline::{Assertion, Expansion, Line, Origin, Statement, push_clipped};
-use rg_outline_syntax::{Span, push_count};
+use rg_outline_syntax::Span;
 use std::alloc::AllocError;
 
 /// A step of a line's statement from a state.
@@ -37,14 +37,14 @@ fn after(
 }
 
 /// Adds some words, then the line of a place.
-fn push_line(
+fn push_said_line(
     expansion: &Expansion<'_>,
     text: &mut Vec<u8>,
     said: &[u8],
     place: Span,
 ) -> Result<(), AllocError> {
     text.extend_from_slice(said)?;
-    push_count(text, line_of(expansion, place))
+    push_line(expansion, text, place)
 }
 
 /// Adds that an assertion can be false after the step.
@@ -55,13 +55,13 @@ fn push_unreached(
 ) -> Result<(), AllocError> {
     if due.origin != Origin::Written {
         let said = b"no assertion stands after this step, and the one of line ";
-        push_line(expansion, text, said, due.span)?;
+        push_said_line(expansion, text, said, due.span)?;
         return text.extend_from_slice(b" can be false then");
     }
     let mut shown = Vec::new(expansion.scope.alloc);
     push_shown(expansion, &mut shown, due.own, 0, true)?;
     let said = b"after this step the assertion of line ";
-    push_line(expansion, text, said, due.span)?;
+    push_said_line(expansion, text, said, due.span)?;
     text.extend_from_slice(b" can be false: { ")?;
     push_clipped(text, &shown)?;
     text.extend_from_slice(b" }")
@@ -137,7 +137,7 @@ fn report_lost(
         None => {
             let said = b"this step can lose the invariant, line ";
             let place = falsity.outermost(expansion);
-            push_line(expansion, &mut sentence, said, place)?;
+            push_said_line(expansion, &mut sentence, said, place)?;
         }
     }
     let cause = match due {
@@ -163,7 +163,7 @@ fn report_outside(
     let mut sentence = Vec::new(expansion.scope.alloc);
     sentence.extend_from_slice(b"this step can break ")?;
     push_owner(expansion, &mut sentence, owner)?;
-    push_line(expansion, &mut sentence, b", line ", place)?;
+    push_said_line(expansion, &mut sentence, b", line ", place)?;
     put(
         expansion,
         reports,

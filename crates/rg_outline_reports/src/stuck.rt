@@ -5,10 +5,10 @@ use crate::reports::{Reports, Warning};
 use crate::run::{push_start, push_statement};
 use crate::run_rows::{Steps, rows_of};
 use crate::show::push_shown;
-use crate::subject::line_of;
+use crate::subject::push_line;
 use crate::warnings::warn;
 use rg_outline::{Expansion, Statement};
-use rg_outline_syntax::{Span, push_count};
+use rg_outline_syntax::Span;
 use rg_walk::{StuckRun, Waiting};
 use std::alloc::AllocError;
 
@@ -37,7 +37,7 @@ fn wait_of(expansion: &Expansion<'_>, waiting: Waiting) -> Result<Vec<u8>, Alloc
     let mut text = Vec::from_slice(expansion.scope.alloc, expansion.part_names.at(part))?;
     if let Some(statement) = awaited(expansion, waiting)? {
         text.extend_from_slice(b", line ")?;
-        push_count(&mut text, line_of(expansion, statement.span))?;
+        push_line(expansion, &mut text, statement.span)?;
         text.extend_from_slice(b", ")?;
         push_statement(expansion, &mut text, statement.span)?;
         text.extend_from_slice(b": waits for ")?;

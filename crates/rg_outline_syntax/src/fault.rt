@@ -16,6 +16,8 @@ pub enum FaultKind {
     Token(TokenFault),
     Shape(ShapeFault),
     Meaning(MeaningFault),
+    /// A file that can't be used.
+    Use(UseFault),
     /// Memory was refused; nothing is reported of the outline.
     Memory,
 }
@@ -35,6 +37,25 @@ pub enum TokenFault {
     PrimeApart,
     /// A sign of other languages: what stands for it here.
     Foreign(&'static str),
+    /// A quote with no second one in its line.
+    QuoteOpen,
+}
+
+/// Why a file can't be used.
+#[derive(Clone, Copy)]
+pub enum UseFault {
+    /// There is none of this name.
+    NoFile,
+    /// It can't be read.
+    Unread,
+    /// Its name leads out of the folder of the file that uses it.
+    Outside,
+    /// It uses, perhaps through others, the file that uses it.
+    Circular,
+    /// The outline has too many files.
+    TooManyFiles,
+    /// A file, the outline's own or a used one, has the byte that separates files.
+    Separator,
 }
 
 /// A token that can't stand where it stands, or that a reader could take in two ways.
@@ -73,6 +94,10 @@ pub enum ShapeFault {
     ElseIfOpen,
     /// An assertion with no `;` before it.
     SemicolonMissing,
+    /// A `use` that doesn't stand at the beginning of its file.
+    UseLate,
+    /// What a used file doesn't have.
+    NotInUsedFile,
     /// Trees or blocks within one another, one too many.
     TooDeep,
 }
@@ -84,8 +109,8 @@ pub enum MeaningFault {
     NothingNamed(Option<Span>),
     /// A name that is no word's; perhaps this one is meant.
     NoWordNamed(Span, Option<Span>),
-    /// A name that is declared as a word already, in this line.
-    DeclaredAlready(usize),
+    /// A name that is declared as a word already, at this place.
+    DeclaredAlready(Span),
     /// A name that something else has here.
     NamedAlready,
     /// A parameter's name that an earlier parameter has.
@@ -199,6 +224,14 @@ impl Fault {
     pub fn meaning(fault: MeaningFault, span: Span) -> Fault {
         Fault {
             kind: FaultKind::Meaning(fault),
+            span,
+        }
+    }
+
+    /// A file that can't be used.
+    pub fn of_use(fault: UseFault, span: Span) -> Fault {
+        Fault {
+            kind: FaultKind::Use(fault),
             span,
         }
     }

@@ -5,13 +5,15 @@ use crate::infix::Infix;
 /// What a token is.
 #[derive(Clone, Copy, PartialEq, Eq)]
 pub enum Kind {
-    /// A name; `in`, `but`, `mod` and `aux` are names, too, which the grammar reads as words of its own where no name can stand.
+    /// A name; `in`, `but`, `mod`, `aux` and `use` are names, too, which the grammar reads as words of its own where no name can stand.
     Name,
     /// A number with its value.
     Number(u64),
     Keyword(Keyword),
     Symbol(Symbol),
-    /// The end of the outline, after its last token.
+    /// The name of a file, in quotes.
+    FileName,
+    /// The end of a file, after its last token.
     End,
 }
 

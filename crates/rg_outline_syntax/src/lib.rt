@@ -3,6 +3,7 @@
 
 mod expressions;
 mod fault;
+mod files;
 mod infix;
 mod kind;
 mod outlines;
@@ -16,12 +17,14 @@ mod texts;
 mod tokens;
 mod written;
 
-pub use fault::{Fault, FaultKind, MeaningFault, ShapeFault, TokenFault};
+pub use fault::{Fault, FaultKind, MeaningFault, ShapeFault, TokenFault, UseFault};
+pub use files::{MOST_FILES, SEPARATOR, file_of, own_start, push_file, uses_of, without_quotes};
 pub use infix::Infix;
 pub use kind::{Keyword, Kind, Symbol};
 pub use outlines::parse;
 pub use report::{
-    Binding, Names, push_carets, push_count, push_number, push_phrase, push_sentence, tell,
+    Binding, Names, push_carets, push_count, push_line_of, push_number, push_phrase, push_place,
+    push_position, push_sentence, tell,
 };
 pub use span::{Position, Span};
 pub use texts::Texts;

@@ -1,5 +1,6 @@
 //! The whole of an outline.
 
+use crate::files::USE;
 use crate::infix::{Infix, LEAF};
 use crate::parser::{DEEPEST, Parser};
 use crate::written::{
@@ -13,11 +14,16 @@ use std::alloc::Global;
 #[derive(Clone, Copy, PartialEq, Eq)]
 enum Section {
     BeforeWords,
+    /// After the words of a file that is used.
+    Used,
     Program,
     Part,
 }
 
-/// The outline that tokens spell. `source` is what the tokens were read from.
+/// What may stand before the words of an outline.
+const BEFORE_WORDS: &str = "`words` is wanted here or `let`, at the beginning of an outline";
+
+/// The outline that tokens spell, with all that the files which it uses have. `source` is what the tokens were read from.
 ///
 /// # Errors
 ///
@@ -49,39 +55,139 @@ fn may_stand(section: Section, keyword: Keyword) -> bool {
     match keyword {
         Keyword::Let => true,
         Keyword::Owns => section == Section::Part,
-        Keyword::Invariant => section == Section::Program,
-        _ => section != Section::BeforeWords && clause_of(keyword).is_some(),
+        Keyword::Invariant => matches!(section, Section::Used | Section::Program),
+        Keyword::Rely | Keyword::Guar => section != Section::BeforeWords,
+        Keyword::Pre | Keyword::Post => matches!(section, Section::Program | Section::Part),
+        _ => false,
     }
+}
+
+/// Adds the heads from an index on to others; whether memory was had for them.
+fn add_from(heads: &mut Vec<Head>, added: &[Head], start: usize) -> bool {
+    let added = added.get(start..).unwrap_or(&[]);
+    heads.extend_from_slice(added).is_ok()
 }
 
 impl Parser<'_> {
     fn outline(&mut self) {
-        self.written.before_words = self.heads(Section::BeforeWords);
-        self.want(
-            Kind::Keyword(Keyword::Words),
-            "`words` is wanted here or `let`, at the beginning of an outline",
-        );
-        self.declarations();
-        self.written.following_words = self.heads(Section::Program);
+        for _ in 0..self.tokens.len() {
+            if self.place >= self.tokens.own() {
+                break;
+            }
+            self.used_file();
+        }
+        self.own_file();
+        self.written.before_words = self.stored(Section::BeforeWords);
+        self.written.following_words = self.stored(Section::Program);
+        self.parts();
+    }
+
+    /// A file that is used, with its end.
+    fn used_file(&mut self) {
+        let has_uses = self.uses();
+        self.named_words(has_uses);
+        self.program_heads(Section::Used);
+        if !self.takes(Kind::End) {
+            self.refuse_late_use();
+            self.refuse(ShapeFault::NotInUsedFile);
+        }
+    }
+
+    /// The outline's own file, up to its parts.
+    fn own_file(&mut self) {
+        let has_uses = self.uses();
+        self.named_words(has_uses);
+        if self.written.declarations.is_empty() {
+            self.refuse_late_use();
+            self.refuse(ShapeFault::Wanted(BEFORE_WORDS));
+        }
+        self.program_heads(Section::Program);
         if !self.is_next(Kind::Keyword(Keyword::Part)) {
+            self.refuse_late_use();
             self.refuse(ShapeFault::Wanted(
                 "`let`, `invariant`, `pre`, `rely`, `guar`, `post` or `part` is wanted here",
             ));
         }
-        self.parts();
     }
 
-    /// The heads of a section.
-    fn heads(&mut self, section: Section) -> List {
-        let start = self.written.heads.len();
+    /// The names of the files that a file uses; whether there are any.
+    fn uses(&mut self) -> bool {
+        let start = self.place;
         for _ in 0..self.tokens.len() {
-            let Kind::Keyword(keyword) = self.token().kind else {
-                break;
-            };
-            if !may_stand(section, keyword) {
+            if !self.takes_word(USE) {
                 break;
             }
-            let head = self.head(keyword);
+            self.want(
+                Kind::FileName,
+                "the name of a file is wanted here, in quotes",
+            );
+        }
+        self.place > start
+    }
+
+    /// Refuses a `use` that stands elsewhere.
+    fn refuse_late_use(&mut self) {
+        if self.is_word(USE) && self.kind_after() == Kind::FileName {
+            self.refuse(ShapeFault::UseLate);
+        }
+    }
+
+    /// The names before the words of a file, and its words; a file that uses others may have none of its own, and then its names stand after the words
+    /// of those.
+    fn named_words(&mut self, has_uses: bool) {
+        let before = self.before_words.len();
+        self.program_heads(Section::BeforeWords);
+        if self.takes(Kind::Keyword(Keyword::Words)) {
+            self.declarations();
+        } else if has_uses {
+            let is_stored = add_from(&mut self.following_words, &self.before_words, before);
+            self.want_stored(is_stored);
+            self.before_words.truncate(before);
+        }
+    }
+
+    /// The heads of a section of a file.
+    fn program_heads(&mut self, section: Section) {
+        for _ in 0..self.tokens.len() {
+            let Some(head) = self.next_head(section) else {
+                break;
+            };
+            let stored = if section == Section::BeforeWords {
+                self.before_words.push(head)
+            } else {
+                self.following_words.push(head)
+            };
+            self.want_stored(stored.is_ok());
+        }
+    }
+
+    /// The heads of all files that stand before words, or those that follow them, as they are stored.
+    fn stored(&mut self, section: Section) -> List {
+        let start = self.written.heads.len();
+        let is_stored = if section == Section::BeforeWords {
+            add_from(&mut self.written.heads, &self.before_words, 0)
+        } else {
+            add_from(&mut self.written.heads, &self.following_words, 0)
+        };
+        self.want_stored(is_stored);
+        List::new(start, self.written.heads.len())
+    }
+
+    /// The next head of a section, where one stands there.
+    fn next_head(&mut self, section: Section) -> Option<Head> {
+        match self.token().kind {
+            Kind::Keyword(keyword) if may_stand(section, keyword) => Some(self.head(keyword)),
+            _ => None,
+        }
+    }
+
+    /// The heads of a part.
+    fn heads(&mut self) -> List {
+        let start = self.written.heads.len();
+        for _ in 0..self.tokens.len() {
+            let Some(head) = self.next_head(Section::Part) else {
+                break;
+            };
             let stored = self.written.heads.push(head);
             self.want_stored(stored.is_ok());
         }
@@ -175,15 +281,17 @@ impl Parser<'_> {
     }
 
     fn declarations(&mut self) {
+        let start = self.written.declarations.len();
         for _ in 0..self.tokens.len() {
             if !self.is_next(Kind::Name) && !self.is_next(Kind::Keyword(Keyword::Fixed)) {
                 break;
             }
+            self.refuse_late_use();
             let declaration = self.declaration();
             let stored = self.written.declarations.push(declaration);
             self.want_stored(stored.is_ok());
         }
-        if self.written.declarations.is_empty() {
+        if self.written.declarations.len() == start {
             self.name("the name of a word");
         }
         if matches!(self.token().kind, Kind::Keyword(_))
@@ -230,7 +338,7 @@ impl Parser<'_> {
     fn part(&mut self) -> PartWritten {
         let name = self.name("the name of a part");
         let index = self.part_index();
-        let heads = self.heads(Section::Part);
+        let heads = self.heads();
         let begin = self.span();
         self.want_opener(
             Keyword::Begin,

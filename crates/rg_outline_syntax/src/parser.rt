@@ -1,6 +1,6 @@
 //! What the parser has read, and the tokens before it. A fault is kept in the parser, and no call gives it back.
 
-use crate::written::{Expression, ExpressionKind, List, Written};
+use crate::written::{Expression, ExpressionKind, Head, List, Written};
 use crate::{Fault, FaultKind, Kind, ShapeFault, Span, Token, Tokens};
 use std::alloc::Global;
 
@@ -20,6 +20,9 @@ pub(crate) struct Parser<'a> {
     pub(crate) after_else: Option<Span>,
     /// The first keyword of the part whose `end` begins a line further to the left than its own.
     pub(crate) outdented: Option<Span>,
+    /// The heads of all files that stand before words, and those that follow them.
+    pub(crate) before_words: Vec<Head>,
+    pub(crate) following_words: Vec<Head>,
     /// The items of the lists that aren't closed yet.
     pending: Vec<usize>,
 }
@@ -34,6 +37,8 @@ impl<'a> Parser<'a> {
             fault: None,
             after_else: None,
             outdented: None,
+            before_words: Vec::new(alloc),
+            following_words: Vec::new(alloc),
             pending: Vec::new(alloc),
         }
     }

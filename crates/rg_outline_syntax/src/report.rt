@@ -1,6 +1,7 @@
 //! A fault as it is reported: its place, its sentence, the line and a row of carets.
 
 use crate::fault::Fault;
+use crate::files::file_of;
 use crate::scan::is_white_space;
 use crate::sentences::{Insert, inserts};
 use crate::span::Span;
@@ -67,6 +68,44 @@ pub fn push_phrase(text: &mut Vec<u8>, bytes: &[u8]) -> Result<(), AllocError> {
     Ok(())
 }
 
+/// Adds the file, the line and the column of a place, with colons between. `own` is the name of the outline's own file.
+pub fn push_position(
+    text: &mut Vec<u8>,
+    own: &[u8],
+    source: &[u8],
+    place: Span,
+) -> Result<(), AllocError> {
+    if file_of(source, place).is_empty() {
+        text.extend_from_slice(own)?;
+        text.push(b':')?;
+    }
+    push_place(text, source, place)
+}
+
+/// Adds the line and the column of a place, and before them the file where that is a used one.
+pub fn push_place(text: &mut Vec<u8>, source: &[u8], place: Span) -> Result<(), AllocError> {
+    let used = file_of(source, place);
+    if !used.is_empty() {
+        text.extend_from_slice(used)?;
+        text.push(b':')?;
+    }
+    let position = place.position(source);
+    push_count(text, position.line as u64)?;
+    text.push(b':')?;
+    push_count(text, position.column as u64)
+}
+
+/// Adds the line of a place, and in a used file `of` and the name of that.
+pub fn push_line_of(text: &mut Vec<u8>, source: &[u8], place: Span) -> Result<(), AllocError> {
+    push_count(text, place.position(source).line as u64)?;
+    let used = file_of(source, place);
+    if !used.is_empty() {
+        text.extend_from_slice(b" of ")?;
+        text.extend_from_slice(used)?;
+    }
+    Ok(())
+}
+
 /// Adds bytes between backticks.
 fn push_quoted(text: &mut Vec<u8>, bytes: &[u8]) -> Result<(), AllocError> {
     text.push(b'`')?;
@@ -108,6 +147,7 @@ fn push_insert(text: &mut Vec<u8>, insert: Insert, names: Names<'_>) -> Result<(
     match insert {
         Insert::Text(said) => text.extend_from_slice(said.as_bytes()),
         Insert::Number(number) => push_number(text, number),
+        Insert::Line(span) => push_line_of(text, names.source, span),
         Insert::Quoted(span) if span.start == span.end => {
             text.extend_from_slice(b"the end of the file")
         }
@@ -178,7 +218,7 @@ fn push_uses(text: &mut Vec<u8>, names: Names<'_>) -> Result<(), AllocError> {
         text.extend_from_slice(b"  in ")?;
         push_quoted(text, span.of(names.source))?;
         text.extend_from_slice(b" at line ")?;
-        push_count(text, span.position(names.source).line as u64)?;
+        push_line_of(text, names.source, *span)?;
         text.push(b'\n')?;
     }
     Ok(())
@@ -196,12 +236,7 @@ pub fn tell(
     fault: Fault,
     names: Names<'_>,
 ) -> Result<(), AllocError> {
-    let position = fault.span.position(names.source);
-    text.extend_from_slice(file)?;
-    text.push(b':')?;
-    push_count(text, position.line as u64)?;
-    text.push(b':')?;
-    push_count(text, position.column as u64)?;
+    push_position(text, file, names.source, fault.span)?;
     text.extend_from_slice(b": ")?;
     push_sentence(text, fault, names)?;
     text.push(b'\n')?;

@@ -234,6 +234,19 @@ fn number_at(bytes: &[u8]) -> Scanned {
     (length.saturating_add(before), number)
 }
 
+/// The name of a file in quotes, which ends in the line in which it begins.
+fn quoted_at(bytes: &[u8]) -> Scanned {
+    let inner = bytes.get(1..).unwrap_or(&[]);
+    let length = inner
+        .iter()
+        .take_while(|byte| **byte != b'"' && **byte != b'\n')
+        .count();
+    match inner.get(length) {
+        Some(b'"') => (length.saturating_add(2), Ok(Kind::FileName)),
+        _ => (1, Err(TokenFault::QuoteOpen)),
+    }
+}
+
 /// What stands at the front of these bytes; of no bytes, nothing of length 1.
 pub(crate) fn scan(bytes: &[u8]) -> Scanned {
     let first = bytes.first().copied().unwrap_or(0);
@@ -241,6 +254,8 @@ pub(crate) fn scan(bytes: &[u8]) -> Scanned {
         word_at(bytes)
     } else if first.is_ascii_digit() {
         number_at(bytes)
+    } else if first == b'"' {
+        quoted_at(bytes)
     } else {
         sign_at(bytes)
     }

@@ -1,7 +1,7 @@
 //! The sentence of each fault: a template, in which each `{}` is a gap, and what is inserted at the gaps, in their order.
 
-use crate::fault::{Fault, FaultKind, MeaningFault, ShapeFault, TokenFault};
-use crate::sentences::Insert::{Bindings, Byte, Member, Number, Part, Quoted, Text, Word};
+use crate::fault::{Fault, FaultKind, MeaningFault, ShapeFault, TokenFault, UseFault};
+use crate::sentences::Insert::{Bindings, Byte, Line, Member, Number, Part, Quoted, Text, Word};
 use crate::span::Span;
 
 /// The most gaps of a template.
@@ -12,6 +12,8 @@ const MOST_INSERTS: usize = 5;
 pub(crate) enum Insert {
     Text(&'static str),
     Number(i128),
+    /// The line of a place; in another file also the name of that.
+    Line(Span),
     /// What stands in the outline, between backticks; `the end of the file` where nothing stands there.
     Quoted(Span),
     /// The byte that begins no token.
@@ -36,6 +38,7 @@ impl FaultKind {
             Self::Token(kind) => kind.template(),
             Self::Shape(kind) => kind.template(),
             Self::Meaning(kind) => kind.template(),
+            Self::Use(kind) => kind.template(),
             Self::Memory => "memory was refused",
         }
     }
@@ -50,6 +53,23 @@ impl TokenFault {
             Self::NumberTooLarge => "a number is below 2 to the power of 64",
             Self::PrimeApart => "a prime stands directly behind what it primes",
             Self::Foreign(_) => "{} is no sign here: {}",
+            Self::QuoteOpen => "this quote has no second one in its line",
+        }
+    }
+}
+
+impl UseFault {
+    fn template(self) -> &'static str {
+        match self {
+            Self::NoFile => "there is no file {}; its name is read from the folder of this file",
+            Self::Unread => "the file {} can't be read",
+            Self::Outside => {
+                "a used file stands in the folder of this file or in one below it: {} has a step that leads elsewhere"
+            }
+            Self::Circular =>
+                "{} uses this file, directly or through others: files don't use one another in a circle",
+            Self::TooManyFiles => "an outline has 64 files at most",
+            Self::Separator => "the byte 28 stands in no outline",
         }
     }
 }
@@ -91,6 +111,10 @@ impl ShapeFault {
             }
             Self::SemicolonMissing => {
                 "`end` is wanted here; or a `;` is missing behind the statement before the assertion"
+            }
+            Self::UseLate => "`use` stands at the beginning of a file, before all else",
+            Self::NotInUsedFile => {
+                "a used file has `let`, `words`, `invariant`, `rely` and `guar`, and then ends; {} stands in the file that uses it"
             }
             Self::TooDeep => "this is nested too deeply: put a part of it under a name by `let`",
         }
@@ -204,7 +228,7 @@ impl MeaningFault {
             | Self::IsValue(name)
             | Self::IsWord(name)
             | Self::IsNoWord(name) => filled(&[Quoted(name)]),
-            Self::DeclaredAlready(line) => filled(&[found, Number(line as i128)]),
+            Self::DeclaredAlready(place) => filled(&[found, Line(place)]),
             Self::NumberWanted(what) => filled(&[Text(what)]),
             Self::CountDiffers(name, what, wanted, given) => {
                 let (wanted, given) = (Number(wanted as i128), Number(given as i128));

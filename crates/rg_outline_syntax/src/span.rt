@@ -1,5 +1,7 @@
 //! Places in a source.
 
+use crate::files::{file_start, line_len, own_start};
+
 /// A piece of a source: the index of its first byte, from 0, and the index after its last byte.
 #[derive(Clone, Copy)]
 pub struct Span {
@@ -41,9 +43,20 @@ impl Span {
         source.get(self.start..self.end).unwrap_or(&[])
     }
 
-    /// Where it begins.
+    /// The byte at which it begins; of no place, where the outline's own file begins.
+    fn beginning(self, source: &[u8]) -> usize {
+        if self.start == 0 {
+            return own_start(source);
+        }
+        self.start
+    }
+
+    /// Where it begins in its file.
     pub fn position(self, source: &[u8]) -> Position {
-        let before = source.get(..self.start).unwrap_or(source);
+        let place = self.beginning(source);
+        let file = source.get(file_start(source, place)..).unwrap_or(&[]);
+        let passed = source.len().saturating_sub(file.len());
+        let before = file.get(..place.saturating_sub(passed)).unwrap_or(file);
         let before = before.get(mark_len(before)..).unwrap_or(before);
         let column = before.iter().rev().take_while(|b| **b != b'\n').count();
         Position {
@@ -56,13 +69,17 @@ impl Span {
         }
     }
 
+    /// The byte at which the line begins in which it begins.
+    pub fn row_start(self, source: &[u8]) -> usize {
+        let column = self.position(source).column;
+        let place = self.beginning(source);
+        place.saturating_sub(column.saturating_sub(1))
+    }
+
     /// The line in which it begins, without its end.
     pub fn row(self, source: &[u8]) -> &[u8] {
-        let column = self.position(source).column;
-        let start = self.start.saturating_sub(column.saturating_sub(1));
-        let rest = source.get(start..).unwrap_or(&[]);
-        let length = rest.iter().take_while(|b| **b != b'\n').count();
-        let row = rest.get(..length).unwrap_or(rest);
+        let rest = source.get(self.row_start(source)..).unwrap_or(&[]);
+        let row = rest.get(..line_len(rest)).unwrap_or(rest);
         row.strip_suffix(b"\r").unwrap_or(row)
     }
 }

@@ -130,9 +130,7 @@ impl Scope<'_> {
     pub fn refuse_taken(&mut self, name: Span) {
         if let Some(named) = self.find(name) {
             let fault = match named.meaning {
-                Meaning::Family(_) => {
-                    MeaningFault::DeclaredAlready(named.name.position(self.source).line)
-                }
+                Meaning::Family(_) => MeaningFault::DeclaredAlready(named.name),
                 _ => MeaningFault::NamedAlready,
             };
             self.refuse(fault, name);

@@ -10,7 +10,7 @@ use Rattle.rg_tree.specs.Meaning.{holds}
 use Rattle.rg_tree.specs.Statements.{Specification, PartTree, ProgramTree}
 use Rattle.rg_tree.specs.Traces.{State, holds_at, ViewStep, Own, Env, Step, last, last_of, view_step, view, IsTrace, IsTraceOf, Inside, EnvInside}
 use Rattle.rg_tree.specs.Runs.{runs}
-use Rattle.rg_tree.specs.Programs.{nth, ViewsRun, all_true, OthersInside, PartsInside, IsSatisfied}
+use Rattle.rg_tree.specs.Programs.{nth, ViewsRun, all_true, IsRun, OthersInside, PartsInside, IsSatisfied, PartsSatisfy}
 use Rattle.rg_tree.specs.RuleConditions.{reaches, allows, IsMet, AllMet, AllHold, StepsInside}
 use Rattle.rg_tree.proofs.Guards.{Guards, StatementSound}
 use Rattle.rg_tree.proofs.Asked.{inside_more, met_front, met_back}
@@ -40,13 +40,13 @@ env_on R s i x ms h env = by_test (x.who == i) (eqb_tells x.who i)
     by_test true d = env
     by_test false d = ⊎_elim (λ l. cc (l.0)) (λ r. (h r.1, env)) d
 
-last_view : (s : State) (i : ℕ) (xs : List Step) → last s (view i xs) ≡ last_of s xs
+pub last_view : (s : State) (i : ℕ) (xs : List Step) → last s (view i xs) ≡ last_of s xs
 last_view s i [] = refl
 last_view s i (x ∷ xs) =
     let rest = last_view x.after i xs in
     elim (x.who == i) as (λ b. last s ((if b then Own x.after else Env x.after) ∷ view i xs) ≡ last_of x.after xs) [ true ↦ rest | false ↦ rest ]
 
-trace_view : (words : List Word) (n : ℕ) (s : State) (i : ℕ) (xs : List Step) → IsTraceOf words n s xs → IsTrace words s (view i xs)
+pub trace_view : (words : List Word) (n : ℕ) (s : State) (i : ℕ) (xs : List Step) → IsTraceOf words n s xs → IsTrace words s (view i xs)
 trace_view words n s i [] tr = tr
 trace_view words n s i (x ∷ xs) tr =
     let rest = trace_view words n x.after i xs tr.2 in
@@ -237,3 +237,11 @@ parallel_sound program sound conditions =
 pub parallel_rule : ParallelRule
 parallel_rule program satisfy met =
     parallel_sound program (λ i p e. Satisfies-Sound program.words p.spec p.body (satisfy i p e)) met
+
+-- in a run from the pre, with steps of the environment inside the rely, each part begins in its own pre, and all steps but its own are inside its rely
+pub part_relies : (program : ProgramTree) → PartsSatisfy program → AllMet program.words (parallel_conditions program.spec program.parts) → (s : State) (xs : List Step) (ended : Bool) → IsRun program s xs ended → holds_at program.spec.pre s ≡ true → OthersInside (holds program.spec.rely) s xs → (i : ℕ) (p : PartTree) → nth program.parts i ≡ Some p → (holds_at p.spec.pre s ≡ true) × EnvInside (holds p.spec.rely) s (view i xs)
+part_relies program satisfy met s xs ended run at env i p e =
+    let words = program.words in let spec = program.spec in let parts = program.parts in
+    let fits = fits_of words spec parts met in
+    let guards = guards_at_first words spec parts fits (λ j q f. Satisfies-Sound words q.spec q.body (satisfy j q f)) s xs run.flags run.trace run.views at in
+    (fits.pre i p e s (first_state words spec parts fits s xs run.trace) (at, tt), (all_inside words spec parts fits s xs run.trace guards env).1 i p e)

@@ -35,7 +35,7 @@ cross_plain all i [] = tt
 cross_plain all i (p ∷ ps) =
     plain_append (other_conditions i p.spec.rely 1 all) (cross_conditions all (suc i) ps) (other_plain i p.spec.rely 1 all) (cross_plain all (suc i) ps)
 
-parallel_plain : (spec : Specification) (parts : List PartTree) → ArePlain (parallel_conditions spec parts)
+pub parallel_plain : (spec : Specification) (parts : List PartTree) → ArePlain (parallel_conditions spec parts)
 parallel_plain spec parts =
     let a = pre_conditions spec.pre parts in
     let b = rely_conditions spec.rely parts in

@@ -49,7 +49,7 @@ step_sound words spec act c =
     atomic_sound words _ _ _ _ always (assigned act) (λ s st at b. c.0 s st (at, tt)) (λ s st pair at b. c.1.0 s st pair (at, tt)) c.1.1.0 c.1.1.1.0
 
 module _ (words : List Word) (all : List Statement) (inner : (n : ℕ) (s : Statement) → slice_get all n ≡ Some s → Stands all n (statements s)) (lines : List LineTree) where
-  line_true : (rest : List LineTree) (k : ℕ) (line : LineTree) → slice_get rest k ≡ Some line → AllMet words (conditions_asked all lines rest) → AllMet words (conditions_of_line all lines line)
+  pub line_true : (rest : List LineTree) (k : ℕ) (line : LineTree) → slice_get rest k ≡ Some line → AllMet words (conditions_asked all lines rest) → AllMet words (conditions_of_line all lines line)
   line_true [] k line h c = cc h
   line_true (x ∷ rest) zero line h c =
       let same : x ≡ line = cc h in

@@ -42,7 +42,7 @@ at_plain : (words : List Word) (lines : List LineTree) (line : LineTree) (o : Op
 at_plain words lines line None h = tt
 at_plain words lines line (Some s) h = rule_plain words lines line.spec line.premises line.rule s h
 
-lines_plain : (words : List Word) (all : List Statement) (lines rest : List LineTree) → AreTypedLines words rest → ArePlain (conditions_asked all lines rest)
+pub lines_plain : (words : List Word) (all : List Statement) (lines rest : List LineTree) → AreTypedLines words rest → ArePlain (conditions_asked all lines rest)
 lines_plain words all lines [] h = tt
 lines_plain words all lines (line ∷ rest) h =
     plain_append (conditions_of_line all lines line) (conditions_asked all lines rest) (at_plain words lines line (nth all line.number) h.0) (lines_plain words all lines rest h.1)

@@ -34,8 +34,8 @@ failure_text words first second =
 abbrev pub judged_text : List Word → Judged → List ℕ
 judged_text words (Fails first second) = codes " " ++ failure_text words first second
 judged_text words GaveUp = codes " gave up\n"
-judged_text words TooLarge = codes ": its proof is too large\n"
-judged_text words (Holds lines) = codes ": its proof is too large\n"
+judged_text words TooLarge = codes ": no proof within the 16777216 bytes of a file was found; a smaller condition may help\n"
+judged_text words (Holds lines) = codes ": no proof within the 16777216 bytes of a file was found; a smaller condition may help\n"
 
 -- the name of a number, from 1; no text where there is none
 abbrev pub name_at : List (List ℕ) → ℕ → List ℕ

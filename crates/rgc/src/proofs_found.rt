@@ -473,7 +473,10 @@ fn reported_of(alloc: Global, words: &Layout, judged: &Judged) -> Result<String,
             format!(in alloc; " {states}")
         }
         Judged::GaveUp => String::from_str(alloc, " gave up\n"),
-        _ => String::from_str(alloc, ": its proof is too large\n"),
+        _ => String::from_str(
+            alloc,
+            ": no proof within the 16777216 bytes of a file was found; a smaller condition may help\n",
+        ),
     }
 }
 

@@ -16,6 +16,6 @@ found_text words TooLarge = codes "gave up\n"
 -- why the search gave up: its steps were used up, or it found a proof that is too large; nothing where it didn't
 abbrev pub reason_text : Judged → List ℕ
 reason_text GaveUp = codes "no answer was found within the bounds of the search\n"
-reason_text TooLarge = codes "its proof is too large to be kept\n"
+reason_text TooLarge = codes "no proof within the 16777216 bytes of a file was found; a smaller condition may help\n"
 reason_text (Holds lines) = []
 reason_text (Fails first second) = []

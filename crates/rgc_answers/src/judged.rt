@@ -32,7 +32,8 @@ pub fn reason(judged: &Judged) -> &'static str
 {
     match judged {
         Judged::GaveUp => "no answer was found within the bounds of the search\n",
-        Judged::TooLarge => "its proof is too large to be kept\n",
+        Judged::TooLarge =>
+            "no proof within the 16777216 bytes of a file was found; a smaller condition may help\n",
         _ => "",
     }
 }

@@ -70,8 +70,8 @@ pub record IsCodeForm (settings : Settings) (form : Shown) : Type 0 where
 
 -- the kinds are those that the program's words have in C: each step is done at once, and no two parties meet at a plain word outside of critical sections
 pub record IsPlan (kinds : List Kind) (p : ProgramTree) : Type 0 where
-  pub is : kinds ≡ kinds_of p
-  pub possible : unplanned p ≡ None
+  pub is : kinds ≡ kinds_of p []
+  pub possible : unplanned p [] ≡ None
   pub sound : IsSound kinds p
 
 -- a program and its code are printed so

@@ -1,5 +1,5 @@
 -- What is left of an accepted program where words are erased, or all of it.
-use Rattle.std.specs.Prelude.{◌≡◌, ◌⊎◌, ℕ, Bool, true, false, List, Option, Some, None}
+use Rattle.std.specs.Prelude.{◌≡◌, ◌⊎◌, ℕ, Bool, true, false, List, [], Option, Some, None}
 use Rattle.std.specs.List.{list_any}
 use Rattle.std.specs.Borrow.{Bor}
 use Rattle.rg_words.specs.Layout.{Word}
@@ -51,7 +51,7 @@ IsLeftBy erased p code q blocks = IsLeft (list_any (λ b. b) erased) erased p co
 
 -- a step of a program can't be done at once in C, as these lines report
 abbrev pub LacksPlan : ProgramTree → List ℕ → Type 0
-LacksPlan p lines = (step : Unplanned) × (unplanned p ≡ Some step) × (lines ≡ unplanned_line p.words step)
+LacksPlan p lines = (step : Unplanned) × (unplanned p [] ≡ Some step) × (lines ≡ unplanned_line p.words step)
 
 -- the same of a step of what is left
 pub record HasNoC (IsLeft : ProgramTree → List (List BlockTree) → Type 0) (lines : List ℕ) : Type 0 where

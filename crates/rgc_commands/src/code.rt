@@ -175,7 +175,7 @@ fn kinds_of(alloc: Global, program: &Program) -> Result<Vec<Kind>, Stop>
     ensures kinds { IfOk result (λ kinds. IsPlan kinds.items (program_tree program.now)) }
     ensures stopped { IfErr result (IsFaultStop (LacksPlan (program_tree program.now))) }
 {
-    match plan(alloc, program)? {
+    match plan(alloc, program, &[])? {
         Ok(plan) => Ok(plan.kinds),
         Err(step) => Err(Stop::Fault(unplanned_line(alloc, &program.layout, step)?)),
     }

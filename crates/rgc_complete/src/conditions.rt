@@ -48,6 +48,7 @@ pub(crate) fn nameless(source: &[u8]) -> OutlineSource<'_> {
     OutlineSource {
         name: "",
         source,
+        fault: None,
         format: Format::Plain,
         has_warnings: false,
     }

@@ -4,7 +4,7 @@ use crate::search::Failure;
 use crate::subject::Subject;
 use rg_complete::Slot;
 use rg_outline_reports::{Demand, Format, Outlined};
-use rg_outline_syntax::{ItemKind, Span, push_count};
+use rg_outline_syntax::{ItemKind, Span, file_of, push_count, push_line_of, push_position};
 use serde_json::json;
 use std::alloc::{AllocError, Global};
 
@@ -40,19 +40,19 @@ fn push_state(text: &mut Vec<u8>, words: &[Vec<u8>], state: &[u64]) -> Result<()
 
 /// What is reported.
 #[derive(Drop)]
-struct Unfound {
-    line: u64,
-    column: u64,
+struct Unfound<'s> {
+    source: &'s [u8],
+    place: Span,
     part: Vec<u8>,
     /// Whether an assertion is written there.
     is_written: bool,
     says: &'static str,
-    /// The line of the assertion that isn't given, if it is written.
-    due: Option<u64>,
+    /// Where the assertion that isn't given stands, if it is written.
+    due: Option<Span>,
     state: Vec<u8>,
     tried: u64,
-    /// The line of a use of named statements in the part.
-    used: Option<u64>,
+    /// A use of named statements in the part.
+    used: Option<Span>,
 }
 
 /// The place at which a condition fails.
@@ -80,31 +80,26 @@ fn tried_at(subject: &Subject, slot: Option<Slot>) -> usize {
     family.map_or(0, |family| family.atoms.count())
 }
 
-/// The line of a byte.
-fn line_of(source: &[u8], start: usize) -> u64 {
-    Span { start, end: start }.position(source).line as u64
-}
-
-/// The line of what a step or a test is to lead to, where that is written.
-fn due_of(subject: &Subject, source: &[u8], failure: &Failure) -> Option<u64> {
+/// Where what a step or a test is to lead to stands, where that is written.
+fn due_of(subject: &Subject, failure: &Failure) -> Option<Span> {
     if failure.duty.demand != Demand::Leads {
         return None;
     }
     let place = failure.duty.due?.place;
-    let near = subject.base.nears.get(place).copied()?;
+    let start = subject.base.nears.get(place).copied()?;
     if place < subject.base.slots.len() {
         return None;
     }
-    Some(line_of(source, near))
+    Some(Span { start, end: start })
 }
 
 /// What is reported of a condition that no candidate makes hold.
-fn unfound_of(
+fn unfound_of<'s>(
     alloc: Global,
     subject: &Subject,
-    outlined: &Outlined<'_>,
+    outlined: &Outlined<'s>,
     failure: &Failure,
-) -> Result<Unfound, AllocError> {
+) -> Result<Unfound<'s>, AllocError> {
     let source = outlined.outline.source;
     let place = place_of(subject, failure);
     let slot = place.and_then(|place| subject.base.slots.get(place).copied());
@@ -114,47 +109,59 @@ fn unfound_of(
     let name = part.map_or(Span::NOWHERE, |part| part.name);
     let whole = part.map_or(Span::NOWHERE, |part| part.span);
     let start = near.unwrap_or(name.start);
-    let position = Span { start, end: start }.position(source);
     let places = outlined.places()?;
     let mut state = Vec::new(alloc);
     push_state(&mut state, &places.words, &failure.state)?;
     Ok(Unfound {
-        line: position.line as u64,
-        column: position.column as u64,
+        source,
+        place: Span { start, end: start },
         part: Vec::from_slice(alloc, name.of(source))?,
         is_written: slot.is_none(),
         says: said(failure.duty.demand),
-        due: due_of(subject, source, failure),
+        due: due_of(subject, failure),
         state,
         tried: tried_at(subject, slot) as u64,
-        used: used_in(outlined, whole).map(|used| line_of(source, used.start)),
+        used: used_in(outlined, whole),
     })
 }
 
 /// Adds what isn't given, in words.
-fn push_missing(text: &mut Vec<u8>, unfound: &Unfound) -> Result<(), AllocError> {
+fn push_missing(text: &mut Vec<u8>, unfound: &Unfound<'_>) -> Result<(), AllocError> {
     if unfound.is_written {
         text.extend_from_slice(b"what is written here doesn't give ")?;
     } else {
         text.extend_from_slice(b"no assertion is found here that gives ")?;
     }
     text.extend_from_slice(unfound.says.as_bytes())?;
-    if let Some(line) = unfound.due {
+    if let Some(due) = unfound.due {
         text.extend_from_slice(b", as line ")?;
-        push_count(text, line)?;
+        push_line_of(text, unfound.source, due)?;
         text.extend_from_slice(b" has it")?;
     }
     Ok(())
 }
 
+/// The name of the file in which it stands: `own` in the outline's own file.
+fn named_file(alloc: Global, own: &str, unfound: &Unfound<'_>) -> Result<Vec<u8>, AllocError> {
+    let used = file_of(unfound.source, unfound.place);
+    if used.is_empty() {
+        return Vec::from_slice(alloc, own.as_bytes());
+    }
+    Vec::from_slice(alloc, used)
+}
+
 /// It as a JSON value in a line of its own.
-fn json_line(alloc: Global, file: &str, unfound: &Unfound) -> Result<Vec<u8>, AllocError> {
+fn json_line(alloc: Global, own: &str, unfound: &Unfound<'_>) -> Result<Vec<u8>, AllocError> {
     let part = str::from_utf8(&unfound.part).unwrap_or("");
     let state = str::from_utf8(&unfound.state).unwrap_or("");
     let mut missing = Vec::new(alloc);
     push_missing(&mut missing, unfound)?;
     let says = str::from_utf8(&missing).unwrap_or("");
-    let (line, column, tried) = (unfound.line, unfound.column, unfound.tried);
+    let named = named_file(alloc, own, unfound)?;
+    let file = str::from_utf8(&named).unwrap_or("");
+    let position = unfound.place.position(unfound.source);
+    let (line, column) = (position.line as u64, position.column as u64);
+    let tried = unfound.tried;
     let value =
         json!(in alloc; {"column": column, "file": file, "kind": "unfound", "line": line, "part": part, "says": says, "state": state, "tried": tried})?;
     let mut text = value.to_string(alloc)?;
@@ -174,11 +181,8 @@ pub(crate) fn unfound_report(
     if outlined.outline.format == Format::Json {
         return json_line(alloc, name, &unfound);
     }
-    let mut text = Vec::from_slice(alloc, name.as_bytes())?;
-    text.push(b':')?;
-    push_count(&mut text, unfound.line)?;
-    text.push(b':')?;
-    push_count(&mut text, unfound.column)?;
+    let mut text = Vec::new(alloc);
+    push_position(&mut text, name.as_bytes(), unfound.source, unfound.place)?;
     text.extend_from_slice(b": ")?;
     text.extend_from_slice(&unfound.part)?;
     text.extend_from_slice(b": ")?;
@@ -191,9 +195,9 @@ pub(crate) fn unfound_report(
         text.extend_from_slice(b" formulas, alone and after a premise")?;
     }
     text.push(b'\n')?;
-    if let Some(line) = unfound.used {
+    if let Some(used) = unfound.used {
         text.extend_from_slice(b"    within named statements, as those of line ")?;
-        push_count(&mut text, line)?;
+        push_line_of(&mut text, unfound.source, used)?;
         text.extend_from_slice(b", none is looked for: what is needed there has to be written\n")?;
     }
     Ok(text)

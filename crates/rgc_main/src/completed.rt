@@ -5,6 +5,7 @@ use crate::replace::{Output, write_outputs};
 use crate::terminal::Terminal;
 use crate::{Means, done_with, is_strict, performed, reported, shown, tell};
 use rg_outline_reports::{OutlineSource, Outlined, read_outline};
+use rg_outline_syntax::own_start;
 use rg_words::{Refusal, RefusalNumber};
 use rgc_commands::{Context, Expanded, Files, Sides};
 use rgc_complete::{Completed, Completion, complete, complete_with_invariant};
@@ -56,6 +57,11 @@ pub fn verifying<'a>(line: &Line<'a>) -> Line<'a> {
     }
 }
 
+/// The outline's own file, without those that it uses.
+fn own_file(source: &[u8]) -> &[u8] {
+    source.get(own_start(source)..).unwrap_or(&[])
+}
+
 /// What is said of the assertions, and of the conjuncts of the invariant, that were found.
 fn said_of(rt: &HostRuntime, line: &Line<'_>, found: &Completion) -> Result<Vec<u8>, AllocError> {
     match line.settings.format {
@@ -87,13 +93,13 @@ fn delivered<R: Threads + Wait + Sync>(
             }
             let output = Output {
                 name: outline,
-                bytes: &found.source,
+                bytes: own_file(&found.source),
                 what: "outline",
             };
             write_outputs(rt, &[output])
         }
         _ => {
-            let status = shown(rt, format, &found.source, 0);
+            let status = shown(rt, format, own_file(&found.source), 0);
             reported(rt, verdict);
             reported(rt, &said);
             Ok(status)
@@ -166,7 +172,7 @@ fn done_again<R: Threads + Wait + Sync>(
         ..outline
     };
     let files = Files {
-        text: Some(&found.source),
+        text: Some(own_file(&found.source)),
         ..files
     };
     match read_outline(alloc, outline) {

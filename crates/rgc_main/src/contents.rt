@@ -15,7 +15,7 @@ use std::io::Read;
 pub(crate) const INPUT: &str = "-";
 
 /// A file's bytes, or those of standard input, but no more than one past the limit: that one shows that there are too many.
-fn read(rt: &HostRuntime, name: &str, most: usize) -> io::Result<Vec<u8>> {
+pub(crate) fn read(rt: &HostRuntime, name: &str, most: usize) -> io::Result<Vec<u8>> {
     let mut bytes = Vec::new(rt.alloc());
     let limit = (most as u64).saturating_add(1);
     if name == INPUT {

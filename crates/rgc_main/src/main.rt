@@ -14,6 +14,7 @@ mod screen;
 mod sides;
 mod stack;
 mod terminal;
+mod used;
 mod version;
 
 ghost use Rattle.std.specs.Prelude.{◌≡◌};
@@ -24,7 +25,7 @@ use completed::{completes, done_completed, verifying};
 use contents::{Contents, lent, reads_input_twice};
 use largest::{Kind, largest_told};
 use memory::Memory;
-use mentions::clash_of;
+use mentions::{clash_of, clash_with, report_clash};
 use paint::painted;
 use pieces::{PieceNames, cut_proofs};
 use replace::{Output, write_outputs};
@@ -45,6 +46,7 @@ use std::sync::Wait;
 use std::thread::{Builder, Threads, available_parallelism};
 use std::{env, io, thread};
 use terminal::{Terminal, Time, report_over};
+use used::{Joined, joined_of};
 use version::proved_at;
 
 /// Prints what is wrong with the words, or the help that they ask for; the status.
@@ -454,22 +456,24 @@ fn format_of(line: &Line<'_>) -> OutlineFormat {
     }
 }
 
-/// Does the command over the outline of this name, which is worked out once where it can be read; the status.
+/// Does the command over the outline of this name, with the files that it uses, which is worked out once where it can be read; the status.
 fn done_over<'a, R: Threads + Wait + Sync>(
     means: &Means<'_, '_, '_, R>,
     line: &Line<'_>,
     files: Files<'a>,
     name: &'a str,
+    joined: &'a Option<Joined>,
 ) -> Result<u8, AllocError> {
     // (what can't be read, or stands for nothing, is reported as by `verify`)
     let asked = verifying(line);
-    let Some(source) = files.text else {
+    let Some(joined) = joined else {
         return done_and_drawn(means, &asked, &files);
     };
     let alloc = means.rt.alloc();
     let outline = OutlineSource {
         name,
-        source,
+        source: &joined.text,
+        fault: joined.fault,
         format: format_of(line),
         has_warnings: line.settings.warnings != Some(NO_WARNINGS),
     };
@@ -645,10 +649,8 @@ fn run<R: Threads + Wait + Sync>(
         let _ = eprintln!(rt; "error: {words}");
         return Ok(Ended::MISFIT);
     }
-    if let Some((earlier, output)) = clash_of(rt, line, names)? {
-        let (one, other, name) = (earlier.option, output.option, output.name);
-        let said = format!(in rt.alloc(); "error: {one} and {other} name one file: {name}\n")?;
-        reported(rt, said.as_bytes());
+    if let Some(clash) = clash_of(rt, line, names)? {
+        report_clash(rt, clash)?;
         return Ok(Ended::MISFIT);
     }
     let mut contents = Contents::empty();
@@ -656,6 +658,27 @@ fn run<R: Threads + Wait + Sync>(
     let derivation = lent(rt, &contents.derivation)?;
     let proofs = lent(rt, &contents.proofs)?;
     let files = contents.files(&derivation, &proofs);
+    run_with(rt, threads, time, line, names, files)
+}
+
+/// Does the command over these files, and those that its outline uses.
+fn run_with<R: Threads + Wait + Sync>(
+    rt: &HostRuntime,
+    threads: &R,
+    time: &Time,
+    line: &Line<'_>,
+    names: &PieceNames<'_>,
+    files: Files<'_>,
+) -> Result<Ended, AllocError> {
+    let joined = joined_of(rt, outline_of(line), files.text)?;
+    let used: &[String] = match &joined {
+        Some(joined) => joined.used(),
+        None => &[],
+    };
+    if let Some(clash) = clash_with(rt, line, names, used)? {
+        report_clash(rt, clash)?;
+        return Ok(Ended::MISFIT);
+    }
     let means = Means {
         rt,
         threads,
@@ -668,7 +691,7 @@ fn run<R: Threads + Wait + Sync>(
     };
     let is_read = files.text.is_some();
     let status = match outline_of(line) {
-        Some(name) => done_over(&means, line, files, name)?,
+        Some(name) => done_over(&means, line, files, name, &joined)?,
         None => done_and_drawn(&means, line, &files)?,
     };
     Ok(Ended {

@@ -3,8 +3,12 @@
 use crate::contents::INPUT;
 use crate::pieces::PieceNames;
 use crate::place::{INPUT_FILE, Identity, identity_of};
+use crate::reported;
 use rgc_line::{Command, Line};
 use std::alloc::{AllocError, Global};
+
+/// How a file is named that an outline uses.
+const USED: &str = "`use`";
 
 /// A file as it is named: by an option, or at a place of the line.
 #[derive(Clone, Copy)]
@@ -172,4 +176,53 @@ pub fn clash_of<'a>(
         }
     }
     Ok(None)
+}
+
+/// Whether a file is one of these, which the outline uses.
+fn is_used(rt: &HostRuntime, used: &[String], file: &Seen<'_>) -> Result<bool, AllocError> {
+    for name in used {
+        let identity = identity_of(rt, name.as_str())?;
+        let mention = Mention {
+            option: USED,
+            name: name.as_str(),
+        };
+        if is_one(&Seen { mention, identity }, file) {
+            return Ok(true);
+        }
+    }
+    Ok(false)
+}
+
+/// As `clash_of`, of files that are read as the outline uses them.
+pub fn clash_with<'a>(
+    rt: &HostRuntime,
+    line: &Line<'a>,
+    names: &PieceNames<'a>,
+    used: &[String],
+) -> Result<Option<(Mention<'a>, Mention<'a>)>, AllocError> {
+    if used.is_empty() {
+        return Ok(None);
+    }
+    let mut mentions = Vec::new(rt.alloc());
+    add_outputs(&mut mentions, line, names)?;
+    let outputs = all_seen(rt, &mentions, 0)?;
+    for output in &outputs {
+        if is_used(rt, used, output)? {
+            let read = Mention {
+                option: USED,
+                name: output.mention.name,
+            };
+            return Ok(Some((read, output.mention)));
+        }
+    }
+    Ok(None)
+}
+
+/// Reports that a file that a command would write is one which it reads, or writes before.
+pub fn report_clash(rt: &HostRuntime, clash: (Mention<'_>, Mention<'_>)) -> Result<(), AllocError> {
+    let (earlier, output) = clash;
+    let (one, other, name) = (earlier.option, output.option, output.name);
+    let said = format!(in rt.alloc(); "error: {one} and {other} name one file: {name}\n")?;
+    reported(rt, said.as_bytes());
+    Ok(())
 }

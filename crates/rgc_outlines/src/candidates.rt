@@ -35,6 +35,7 @@ pub(crate) fn nameless(source: &[u8], format: Format) -> OutlineSource<'_> {
     OutlineSource {
         name: "",
         source,
+        fault: None,
         format,
         has_warnings: false,
     }

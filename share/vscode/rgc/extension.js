@@ -33,12 +33,31 @@ function verdictOf(values, error) {
   return values.some((it) => it.kind === 'refused') ? 'rgc: refused' : 'rgc: not verified';
 }
 
+// The used files in which reports of an outline stood last, by the outline's own file.
+const usedBy = new Map();
+
+// Shows the reports of an outline in the files in which they stand, its own and those that it uses.
+function show(document, values, reports) {
+  const own = document.fileName;
+  const listed = new Map([own, ...(usedBy.get(own) || [])].map((file) => [file, []]));
+  for (const value of values) {
+    const report = reportOf(value);
+    if (report !== undefined) {
+      listed.set(value.file, [...(listed.get(value.file) || []), report]);
+    }
+  }
+  usedBy.set(own, [...listed.keys()].filter((file) => file !== own && listed.get(file).length > 0));
+  for (const [file, all] of listed) {
+    reports.set(file === own ? document.uri : vscode.Uri.file(file), all);
+  }
+}
+
 function verify(document, reports) {
   const settings = vscode.workspace.getConfiguration('rgc');
   return new Promise((done) => {
     execFile(settings.get('program'), ['verify', '--format', 'json', document.fileName], { maxBuffer: 1 << 26 }, (error, out, err) => {
       const values = valuesOf(`${out}\n${err}`);
-      reports.set(document.uri, values.map(reportOf).filter((it) => it !== undefined));
+      show(document, values, reports);
       vscode.window.setStatusBarMessage(verdictOf(values, error), 10000);
       done();
     });

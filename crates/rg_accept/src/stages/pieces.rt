@@ -9,7 +9,7 @@ ghost use Rattle.rg_parse.specs.Derivations.{SpellsDerivation, IsDerivationTextR
 ghost use Rattle.rg_accept.specs.Pieces.{AreSpelledInPieces, FitsInPieces, IsPieceRefusal, IsPiecesRefusal};
 ghost use Rattle.rg_pool.specs.ProofPieces.{AreProvedBy, AreProofsRefused};
 ghost use Rattle.rg_accept.specs.Accepted.{conditions_of};
-ghost use Rattle.rg_accept.specs.Stages.{parsed_program, derived_program, derived_lines, accepted_program};
+ghost use Rattle.rg_accept.specs.Stages.{parsed_program, derived_program, derived_lines, accepted_program, accepted_lines};
 
 use super::{Accepted, Derived, Parsed};
 use rg_parse::{derivation, one_derivation};
@@ -86,6 +86,7 @@ impl Derived {
         proofs: &[&[u8]],
     ) -> Result<Accepted, Refusal>
         ensures program { IfOk result (λ a. accepted_program a ≡ derived_program self) }
+        ensures lines { IfOk result (λ a. accepted_lines a ≡ derived_lines self) }
         ensures proved { OnOk result (AreProvedBy (conditions_of (derived_program self) (derived_lines self)) (map (λ piece. piece.now) proofs.now)) }
         ensures satisfied { IfOk result (λ a. IsSatisfied (accepted_program a)) }
         ensures refused { IfErr result (AreProofsRefused (conditions_of (derived_program self) (derived_lines self)) (map (λ piece. piece.now) proofs.now)) }
@@ -97,8 +98,15 @@ impl Derived {
             Ok(()) => {}
             Err(refusal) => return Err(refusal),
         }
-        let Derived { program, .. } = self;
-        Ok(Accepted { program })
+        let Derived {
+            program,
+            derivation,
+            ..
+        } = self;
+        Ok(Accepted {
+            program,
+            derivation,
+        })
     }
 }
 

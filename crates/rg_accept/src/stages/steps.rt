@@ -7,14 +7,14 @@ ghost use Rattle.rg_tree.specs.Conditions.{condition_tree};
 ghost use Rattle.rg_tree.specs.RuleConditions.{AllConditionsHold};
 ghost use Rattle.rg_tree.specs.Programs.{IsSatisfied};
 ghost use Rattle.rg_tree.specs.Statements.{ProgramTree};
-ghost use Rattle.rg_tree.specs.Lines.{LineTree};
+ghost use Rattle.rg_tree.specs.Lines.{LineTree, line_tree, AreTypedLines};
 ghost use Rattle.rg_hints.specs.Proved.{AreProved, IsProofsRefusal};
 ghost use Rattle.rg_code.specs.Code.{HasRunsOf, program_code};
 ghost use Rattle.rg_rules.specs.Reading.{FitsProgram, IsDerivationRefusal};
-ghost use Rattle.rg_accept.specs.Accepted.{conditions_of};
+ghost use Rattle.rg_accept.specs.Accepted.{conditions_of, IsProvedBy};
 ghost use Rattle.rg_accept.specs.Names.{names_of_conditions};
 ghost use Rattle.rg_parse.specs.Programs.{SpellsProgram, IsProgramRefusal};
-ghost use Rattle.rg_accept.specs.Stages.{parsed_program, derived_program, derived_lines, accepted_program, emitted_program, emitted_blocks};
+ghost use Rattle.rg_accept.specs.Stages.{parsed_program, derived_program, derived_lines, accepted_program, accepted_lines, emitted_program, emitted_lines, emitted_blocks};
 
 use super::{Accepted, Derived, Emitted, Parsed};
 use rg_code::compile::compile;
@@ -24,6 +24,7 @@ use rg_par::names::add_names;
 use rg_parse::program;
 use rg_rules::Derivation;
 use rg_tree::condition::Condition;
+use rg_tree::line::DerivationLine;
 use rg_tree::program::Program;
 use rg_words::Refusal;
 use std::alloc::{AllocError, Global};
@@ -142,6 +143,7 @@ impl Derived {
     ) -> Result<Accepted, Refusal>
         requires { P.can_prove prover.now }
         ensures program { IfOk result (λ a. accepted_program a ≡ derived_program self) }
+        ensures lines { IfOk result (λ a. accepted_lines a ≡ derived_lines self) }
         ensures proved { OnOk result (AreProved (conditions_of (derived_program self) (derived_lines self)) proofs.now) }
         ensures satisfied { IfOk result (λ a. IsSatisfied (accepted_program a)) }
         ensures refused { IfErr result (IsProofsRefusal (conditions_of (derived_program self) (derived_lines self)) proofs.now) }
@@ -152,8 +154,15 @@ impl Derived {
             Ok(()) => {}
             Err(refusal) => return Err(refusal),
         }
-        let Derived { program, .. } = self;
-        Ok(Accepted { program })
+        let Derived {
+            program,
+            derivation,
+            ..
+        } = self;
+        Ok(Accepted {
+            program,
+            derivation,
+        })
     }
 
     /// The program, where the proofs prove all its conditions. It then satisfies its specification.
@@ -163,6 +172,7 @@ impl Derived {
     /// The first fault of the proofs, as `rg_hints::prove` reports it.
     pub fn prove(self, alloc: Global, proofs: &[u8]) -> Result<Accepted, Refusal>
         ensures program { IfOk result (λ a. accepted_program a ≡ derived_program self) }
+        ensures lines { IfOk result (λ a. accepted_lines a ≡ derived_lines self) }
         ensures proved { OnOk result (AreProved (conditions_of (derived_program self) (derived_lines self)) proofs.now) }
         ensures satisfied { IfOk result (λ a. IsSatisfied (accepted_program a)) }
         ensures refused { IfErr result (IsProofsRefusal (conditions_of (derived_program self) (derived_lines self)) proofs.now) }
@@ -187,14 +197,34 @@ impl Accepted {
     /// Only where memory is refused.
     pub fn emit(self, alloc: Global) -> Result<Emitted, Refusal>
         ensures program { IfOk result (λ e. emitted_program e ≡ accepted_program self) }
+        ensures lines { IfOk result (λ e. emitted_lines e ≡ accepted_lines self) }
         // Exactly these blocks.
         ensures blocks { IfOk result (λ e. emitted_blocks e ≡ program_code (accepted_program self).parts) }
         // A trace with its flag is a run of the code if and only if it is a run of the program, with any steps of the environment.
         ensures runs { IfOk result (λ e. HasRunsOf (accepted_program self) (emitted_blocks e)) }
         ensures refused { IfErr result (λ e. e ≡ no_memory) }
     {
-        let Accepted { program, .. } = self;
+        let Accepted {
+            program,
+            derivation,
+            ..
+        } = self;
         let code = compile(alloc, &program)?;
-        Ok(Emitted { program, code })
+        Ok(Emitted {
+            program,
+            derivation,
+            code,
+        })
+    }
+}
+
+impl Emitted {
+    /// The lines that derive the program's parts, and whose conditions are proved.
+    pub fn lines(&self) -> &[DerivationLine]
+        ensures lines { map line_tree result.now ≡ emitted_lines self.now }
+        ensures typed { AreTypedLines (emitted_program self.now).words (emitted_lines self.now) }
+        ensures proved { ∥ IsProvedBy (emitted_program self.now) (emitted_lines self.now) ∥₁ }
+    {
+        self.derivation.lines.as_slice()
     }
 }

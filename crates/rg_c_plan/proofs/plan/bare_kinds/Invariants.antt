@@ -6,4 +6,4 @@ use Rattle.rg_c_plan.proofs.plan.bare_kinds.Given as goal
 
 -- those so far, and those of the rest
 abbrev pub invariant-loop-word : goal.invariant-loop-word
-invariant-loop-word l = l.list.items ++ map (bare_kind (program_tree l.program)) (range_with_len l.word (length l.program.layout - l.word)) ≡ bare_kinds (program_tree l.program)
+invariant-loop-word l = l.list.items ++ map (bare_kind (program_tree l.program) l.apart) (range_with_len l.word (length l.program.layout - l.word)) ≡ bare_kinds (program_tree l.program) l.apart

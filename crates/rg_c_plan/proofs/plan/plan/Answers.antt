@@ -9,6 +9,7 @@ use Rattle.rg_c_plan.proofs.plan.plan.Goals as goal
 pub returns-clause-sound : goal.returns-clause-sound
 returns-clause-sound c =
     let p = program_tree c.args.program.now in
-    let none : unplanned p ≡ None = search rules in
-    let all : c.in_ok-kinds.kinds.items ≡ kinds_of p = search rules in
-    subst (λ (kinds : List Kind). IsSound kinds p) (sym all) (chosen_sound p none)
+    let apart = c.args.apart.now in
+    let none : unplanned p apart ≡ None = search rules in
+    let all : c.in_ok-kinds.kinds.items ≡ kinds_of p apart = search rules in
+    subst (λ (kinds : List Kind). IsSound kinds p) (sym all) (chosen_sound p apart none)

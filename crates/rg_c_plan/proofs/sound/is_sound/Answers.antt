@@ -1,10 +1,10 @@
-use Rattle.std.proofs.Common.{◌≡◌, ◌∙◌, Option, Some, None, true, length, sym, ap, arith, rules}
+use Rattle.std.proofs.Common.{◌≡◌, ◌∙◌, Option, Some, None, true, length, sym, arith, rules}
 use Rattle.rg_tree.specs.ProgramTrees.{program as program_tree}
 use Rattle.rg_c_plan.specs.declared.planned.Unplanned.{Unplanned}
 use Rattle.rg_c_plan.specs.Views.{views}
 use Rattle.rg_c_plan.specs.Kinds.{failing}
 use Rattle.rg_c_plan.specs.Inner.Tests.{are_words_sound}
-use Rattle.rg_c_plan.proofs.Checked.{sound_from_tests, words_pass, none_is_failing}
+use Rattle.rg_c_plan.proofs.Checked.{sound_from_tests, words_pass}
 use Rattle.rg_c_plan.proofs.sound.is_sound.Goals as goal
 
 pub returns-then-not-branch : goal.returns-then-not-branch
@@ -18,7 +18,7 @@ returns-in-Some c =
     let p = program_tree c.args.program.now in
     let kinds = c.args.kinds.now in
     let found : failing (views p kinds) ≡ Some c.in-Some.field-0 = search rules in
-    (λ e. cc e, λ sound. let none : (let u : Option Unplanned = None in u) ≡ Some c.in-Some.field-0 = sym (none_is_failing (views p kinds) sound.steps) ∙ found in cc none)
+    (λ e. cc e, λ sound. let none : (let u : Option Unplanned = None in u) ≡ Some c.in-Some.field-0 = sym sound.steps ∙ found in cc none)
 
 pub returns : goal.returns
 returns c =

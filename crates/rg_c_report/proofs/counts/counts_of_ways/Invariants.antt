@@ -1,5 +1,6 @@
 use Rattle.std.proofs.Common.{◌≡◌, ◌+◌, ◌≤◌, length, drop}
-use Rattle.rg_c_report.specs.Counts.{is_direct, is_load, is_store, is_exchange, is_select, is_section, count_of}
+use Rattle.rg_c_plan.specs.Apart.{is_store}
+use Rattle.rg_c_report.specs.Counts.{is_direct, is_load, is_exchange, is_select, is_section, count_of}
 use Rattle.rg_c_report.proofs.counts.counts_of_ways.Given as goal
 
 -- those so far, and those of the rest

@@ -3,6 +3,7 @@ use Rattle.rg_accept.proofs.stages.Accepted.emit.Goals as goal
 
 pub invariant_of-result : goal.invariant_of-result
 invariant_of-result c = record {
+  proved = c.args.self.proved;
   law = ∥∥₁_map c.args.self.satisfied (λ s. record {
     satisfied = s;
     runs = c.in_ok-code.ensures.runs;

@@ -4,9 +4,11 @@ use Rattle.std.proofs.lemmas.List.{length-map}
 use Rattle.rg_tree.specs.ConditionTrees.{ConditionTree}
 use Rattle.rg_tree.specs.Conditions.{condition_tree}
 use Rattle.rg_tree.specs.declared.condition.Condition.{Condition}
+use Rattle.rg_tree.specs.RuleConditions.{AllConditionsHold}
 use Rattle.rg_pool.specs.ProofPieces.{ArePartRefused}
 use Rattle.rg_accept.specs.Accepted.{conditions_of}
 use Rattle.rg_accept.specs.Stages.{derived_program, derived_lines}
+use Rattle.rg_accept.proofs.Asked.{proved_by}
 use Rattle.rg_accept.proofs.stages.Derived.prove_pieces.Goals as goal
 
 pub returns-in-Err-clause-refused : goal.returns-in-Err-clause-refused
@@ -20,6 +22,9 @@ returns-in-Err-clause-refused g c =
     (subst (λ (cs : List ConditionTree). ArePartRefused (length all) 0 cs pieces c.in-Err.refusal) same c.in-Err.ensures.refused)
 
 pub invariant_of-result : goal.invariant_of-result
-invariant_of-result g c = record {
-  satisfied = merely (c.in_ok-conditions.ensures.sound (search rules));
-}
+invariant_of-result g c =
+    let held : AllConditionsHold (map condition_tree c.in_ok-conditions.conditions.items) = search rules in
+    record {
+      proved = proved_by _ _ c.args.self.typed c.args.self.derives (subst (λ (cs : List ConditionTree). AllConditionsHold cs) c.in_ok-conditions.ensures.list held);
+      satisfied = merely (c.in_ok-conditions.ensures.sound held);
+    }

@@ -1,0 +1,8 @@
+mod Among
+mod Lifted
+mod Typed
+mod TypedVisits
+mod Visited
+mod Meeting
+mod Erased
+mod Kept

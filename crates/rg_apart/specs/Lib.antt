@@ -1,0 +1,4 @@
+pub mod Lifted
+pub mod Conditions
+pub mod Laws
+pub mod Inner
