@@ -35,12 +35,23 @@ impl Scope<'_> {
         };
         match self.find(name).map(|named| named.meaning) {
             Some(Meaning::Family(family)) => self.target_in(family, listed, span),
-            Some(Meaning::Tree(tree)) => match self.forest.root(tree) {
-                Root::Word { word, .. } => Target::Word(word),
-                _ => Target::Word(self.no_word(name, span)),
-            },
+            Some(Meaning::Tree(tree)) => Target::Word(self.word_passed(name, listed, tree, span)),
             _ => Target::Word(self.no_word(name, span)),
         }
+    }
+
+    /// The word for which an assigned parameter stands, which has no index and isn't primed.
+    fn word_passed(&mut self, name: Span, listed: List, tree: usize, span: Span) -> usize {
+        if !listed.is_empty() {
+            self.refuse(MeaningFault::IsValue(name), span);
+        }
+        let Root::Word { word, is_primed } = self.forest.root(tree) else {
+            return self.no_word(name, span);
+        };
+        if is_primed {
+            self.refuse(MeaningFault::PrimeHere, span);
+        }
+        word
     }
 
     /// What an assignment to a member of a family writes. The index speaks of one state.
