@@ -8,7 +8,7 @@ use Rattle.rg_apart.specs.Conditions.{VisitTree, visits_by, visits}
 use Rattle.rg_apart.specs.Inner.View.{visit}
 use Rattle.std.specs.Prelude.{option_map, slice_get}
 use Rattle.std.specs.Borrow.{Bor}
-use Rattle.core.specs.Slice.{IsItemAt}
+use Rattle.std.specs.Slice.{IsItemAt}
 use Rattle.std.proofs.lemmas.Option.{slice_get-get_or, slice_get_past}
 use Rattle.rg_tree.specs.declared.numbered.Numbered.{Numbered}
 use Rattle.rg_apart.proofs.Visited.{visits_here, visits_past}
