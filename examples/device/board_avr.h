@@ -25,7 +25,9 @@ static inline void board_on(uint8_t state)
 #define RGC_ENTER(w) const uint8_t board_state = board_off()
 #define RGC_LEAVE(w) board_on(board_state)
 
+/* The compiler keeps `volatile` accesses in their order, also those of words at which parts are kept apart. */
 #define RGC_ATOMIC(type) volatile type
+#define RGC_APART(type) volatile type
 #define RGC_LOAD(at) (sizeof *(at) == 1 ? *(at) : board_load((at), sizeof *(at)))
 #define RGC_STORE(at, value) (sizeof *(at) == 1 ? (void)(*(at) = (value)) : board_store((at), (value), sizeof *(at)))
 #define RGC_CAS(at, old, value) board_exchange((at), &(old), (value), sizeof *(at))

@@ -1,6 +1,6 @@
 /* One Cortex-M core, M0 too, which has no atomic operations in C: parts in the main loop and in interrupt handlers. An access of up to 32 bits is one
  * instruction; an exchange is a few with interrupts off, and so is a critical section. There are no barriers: a handler sees the accesses of the
- * core that it interrupts in their order, and `volatile` keeps the compiler to it. */
+ * core that it interrupts in their order, and `volatile` keeps the compiler to it: also of words at which parts are kept apart. */
 #ifndef BOARD_SINGLE_CORE_H
 #define BOARD_SINGLE_CORE_H
 #include <stdbool.h>
@@ -26,6 +26,7 @@ static inline void board_on(uint32_t mask)
 /* An access of more than 32 bits doesn't compile. */
 #define BOARD_FITS(at) ((void)sizeof(char[sizeof *(at) <= 4 ? 1 : -1]))
 #define RGC_ATOMIC(type) volatile type
+#define RGC_APART(type) volatile type
 #define RGC_LOAD(at) (BOARD_FITS(at), *(at))
 #define RGC_STORE(at, value) ((void)(BOARD_FITS(at), *(at) = (value)))
 #define RGC_CAS(at, old, value) (BOARD_FITS(at), board_exchange((at), &(old), (value), sizeof *(at)))

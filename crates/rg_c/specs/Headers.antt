@@ -28,13 +28,13 @@ use Rattle.rg_c.specs.Printed.{name_of, type_of, printed}
 use Rattle.rg_c.specs.Functions.{goes_round, function_name}
 use Rattle.rg_c.specs.Bodies.{PageTree, in_c, looped}
 use Rattle.rg_c.specs.Starts.{start_text}
-use Rattle.rg_c.specs.Heads.{top_open, promise_head, promise_line, apart_lines, rests_text, guard_open, atomics_open, lock_free_line, atomics_close, hooks_text, sections_text, struct_open, field_line, item_line, struct_close, assertion_text, part_open, round_open, guard_close}
+use Rattle.rg_c.specs.Heads.{top_open, promise_head, promise_line, apart_lines, rests_text, guard_open, atomics_open, lock_free_line, atomics_close, hooks_text, apart_type, sections_text, struct_open, field_line, item_line, struct_close, assertion_text, part_open, round_open, guard_close}
 
 -- how a word of this kind is declared
 abbrev pub kind_before : Kind → List ℕ
 kind_before Fixed = codes "const "
 kind_before Own = []
-kind_before Apart = []
+kind_before Apart = codes "RGC_APART("
 kind_before Published = codes "RGC_ATOMIC("
 kind_before Atomic = codes "RGC_ATOMIC("
 kind_before Guarded = []
@@ -42,7 +42,7 @@ kind_before Guarded = []
 abbrev pub kind_after : Kind → List ℕ
 kind_after Fixed = []
 kind_after Own = []
-kind_after Apart = []
+kind_after Apart = codes ")"
 kind_after Published = codes ")"
 kind_after Atomic = codes ")"
 kind_after Guarded = []
@@ -64,9 +64,11 @@ abbrev pub is_fixed_kind : Kind → Bool
 is_fixed_kind Fixed = true
 is_fixed_kind kind = false
 
--- how an array is declared whose items have these kinds: as an atomic word, if an item has atomic accesses; as a fixed one, if all are fixed
+-- how an array is declared whose items have these kinds: as an atomic word, if an item has atomic accesses; as a fixed one, if all are fixed; as one at which parts
+-- are kept apart, if they are at an item
 abbrev pub kind_of_items : List Kind → Kind
-kind_of_items kinds = if list_any has_atomic_accesses kinds then Atomic else if list_all is_fixed_kind kinds then Fixed else Own
+kind_of_items kinds =
+    if list_any has_atomic_accesses kinds then Atomic else if list_all is_fixed_kind kinds then Fixed else if list_any is_apart_kind kinds then Apart else Own
 
 -- the kinds of n words, from the j-th one on
 abbrev pub kinds_from : List Kind → ℕ → ℕ → List Kind
@@ -139,9 +141,13 @@ lock_free_texts words kinds =
 unfoldable pub atomics_text : List Word → List Kind → List ℕ
 atomics_text words kinds = atomics_open ++ (lock_free_texts words kinds ++ atomics_close)
 
+-- how words are declared at which parts are kept apart, if there are any
+abbrev pub apart_hook : List Kind → List ℕ
+apart_hook kinds = if list_any is_apart_kind kinds then apart_type else []
+
 -- what stands before the struct: where a word is touched in sections, the device has to say what these are
 unfoldable pub macros_text : List ℕ → List Word → List Kind → List ℕ
-macros_text name words kinds = guard_open name ++ (atomics_text words kinds ++ (hooks_text ++ (if list_any is_guarded kinds then sections_text else [])))
+macros_text name words kinds = guard_open name ++ (atomics_text words kinds ++ (hooks_text ++ (apart_hook kinds ++ (if list_any is_guarded kinds then sections_text else []))))
 
 -- a function that tells whether a formula holds
 unfoldable pub asserted : List ℕ → List ℕ → List Word → List Kind → Proposition → List ℕ

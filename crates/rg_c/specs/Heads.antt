@@ -82,6 +82,13 @@ hooks_text = joined (
     ∷ codes "#define RGC_SKIP(line) ((void)0)\n"
     ∷ codes "#endif\n" ∷ [])
 
+-- how a word is declared at which parts are kept apart, unless the device says so
+unfoldable pub apart_type : List ℕ
+apart_type = joined (
+    codes "#ifndef RGC_APART\n"
+    ∷ codes "#define RGC_APART(type) type\n"
+    ∷ codes "#endif\n" ∷ [])
+
 -- that the device has to say what a section is
 unfoldable pub sections_text : List ℕ
 sections_text = joined (

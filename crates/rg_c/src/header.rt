@@ -11,7 +11,7 @@ ghost use Rattle.rg_c_plan.specs.Accesses.{places};
 ghost use Rattle.rg_c_plan.specs.Apart.{is_apart_kind};
 ghost use Rattle.rg_c_plan.specs.Ways.{kind_at, has_atomic_accesses, is_guarded};
 ghost use Rattle.rg_c_values.specs.Arrays.{array_length, array_name, indexed, member_of};
-ghost use Rattle.rg_c.specs.Headers.{kind_before, kind_after, bits_text, note_text, own_field, is_fixed_kind, kind_of_items, kinds_from, array_field, item_note, field_text, struct_text, conjunct_lines, promise_text, promises_text, counts_text, apart_text, top_text, has_atomic, lock_free_text, lock_free_texts, atomics_text, macros_text, asserted, function_text, run_text, round_text, is_always, body_text, part_text, parts_text, header_text};
+ghost use Rattle.rg_c.specs.Headers.{kind_before, kind_after, bits_text, note_text, own_field, is_fixed_kind, kind_of_items, kinds_from, array_field, item_note, field_text, struct_text, conjunct_lines, promise_text, promises_text, counts_text, apart_text, top_text, has_atomic, lock_free_text, lock_free_texts, atomics_text, apart_hook, macros_text, asserted, function_text, run_text, round_text, is_always, body_text, part_text, parts_text, header_text};
 ghost use Rattle.rg_c.specs.Functions.{goes_round, function_name};
 ghost use Rattle.rg_c.specs.CStatements.{calls};
 ghost use Rattle.rg_c.specs.Bodies.{in_c, looped};
@@ -19,10 +19,10 @@ ghost use Rattle.rg_c.specs.Fitting.{StatementFits, SpecificationFits, PartsFit}
 ghost use Rattle.rg_c.specs.View.{page, on};
 
 use crate::heads::{
-    promise_head, push_apart_lines, push_assertion_text, push_atomics_close, push_atomics_open,
-    push_field_line, push_guard_close, push_guard_open, push_hooks_text, push_item_line,
-    push_lock_free_line, push_part_open, push_promise_line, push_rests_text, push_round_open,
-    push_sections_text, push_struct_close, push_struct_open, push_top_open,
+    promise_head, push_apart_lines, push_apart_type, push_assertion_text, push_atomics_close,
+    push_atomics_open, push_field_line, push_guard_close, push_guard_open, push_hooks_text,
+    push_item_line, push_lock_free_line, push_part_open, push_promise_line, push_rests_text,
+    push_round_open, push_sections_text, push_struct_close, push_struct_open, push_top_open,
 };
 use crate::print::{
     Piece, inner, push_closing, push_code, push_digits, push_line, push_opening, push_word_name,
@@ -67,7 +67,8 @@ fn kind_before(kind: Kind) -> &'static str
     match kind {
         Kind::Fixed => "const ",
         Kind::Published | Kind::Atomic => "RGC_ATOMIC(",
-        Kind::Own | Kind::Apart | Kind::Guarded => "",
+        Kind::Apart => "RGC_APART(",
+        Kind::Own | Kind::Guarded => "",
     }
 }
 
@@ -75,8 +76,8 @@ fn kind_after(kind: Kind) -> &'static str
     ensures { result.now ≡ kind_after kind }
 {
     match kind {
-        Kind::Published | Kind::Atomic => ")",
-        Kind::Fixed | Kind::Own | Kind::Apart | Kind::Guarded => "",
+        Kind::Published | Kind::Atomic | Kind::Apart => ")",
+        Kind::Fixed | Kind::Own | Kind::Guarded => "",
     }
 }
 
@@ -167,6 +168,8 @@ fn kind_of_items(kinds: &[Kind]) -> Kind
         Kind::Atomic
     } else if all_fixed(kinds) {
         Kind::Fixed
+    } else if is_apart(kinds) {
+        Kind::Apart
     } else {
         Kind::Own
     }
@@ -491,6 +494,16 @@ fn push_atomics(
     push_atomics_close(text)
 }
 
+/// Adds how words are declared at which parts are kept apart, if there are any.
+fn push_apart_hook(text: &mut String, kinds: &[Kind]) -> Result<(), AllocError>
+    ensures { OnOk result (string_bytes text.new ≡ string_bytes text.old ++ apart_hook kinds.now) }
+{
+    if is_apart(kinds) {
+        push_apart_type(text)?;
+    }
+    Ok(())
+}
+
 /// Whether a word is touched in sections.
 fn is_guarded(kinds: &[Kind]) -> bool
     ensures { result ≡ list_any is_guarded kinds.now }
@@ -512,6 +525,7 @@ fn push_macros(
     push_guard_open(text, name)?;
     push_atomics(alloc, text, layout, kinds)?;
     push_hooks_text(text)?;
+    push_apart_hook(text, kinds)?;
     if is_guarded(kinds) {
         push_sections_text(text)?;
     }

@@ -2,7 +2,7 @@
 
 ghost use Rattle.std.specs.Prelude.{◌≡◌, ◌++◌, string_bytes, IfOk, OnOk};
 ghost use Rattle.std.specs.List.{flat_map};
-ghost use Rattle.rg_c.specs.Heads.{top_open, promise_head, promise_line, apart_lines, rests_text, guard_open, atomics_open, lock_free_line, atomics_close, hooks_text, sections_text, struct_open, field_line, item_line, struct_close, start_lines, assertion_text, part_open, round_open, guard_close};
+ghost use Rattle.rg_c.specs.Heads.{top_open, promise_head, promise_line, apart_lines, rests_text, guard_open, atomics_open, lock_free_line, atomics_close, hooks_text, apart_type, sections_text, struct_open, field_line, item_line, struct_close, start_lines, assertion_text, part_open, round_open, guard_close};
 
 use std::alloc::{AllocError, Global};
 
@@ -167,6 +167,21 @@ pub(crate) fn push_hooks_text(text: &mut String) -> Result<(), AllocError>
             "#endif\n",
             "#ifndef RGC_SKIP\n",
             "#define RGC_SKIP(line) ((void)0)\n",
+            "#endif\n",
+        ],
+    )
+}
+
+/// Adds how a word is declared at which parts are kept apart, unless the device says so.
+#[tactic(auto, unfolding(crate::specs::Heads::apart_type))]
+pub(crate) fn push_apart_type(text: &mut String) -> Result<(), AllocError>
+    ensures { OnOk result (string_bytes text.new ≡ string_bytes text.old ++ apart_type) }
+{
+    push_all(
+        text,
+        &[
+            "#ifndef RGC_APART\n",
+            "#define RGC_APART(type) type\n",
             "#endif\n",
         ],
     )

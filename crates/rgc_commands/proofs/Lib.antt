@@ -1,4 +1,5 @@
 pub mod Answering
+mod Apart
 mod Lost
 pub mod Outlining
 mod Places

@@ -11,9 +11,9 @@ use Rattle.rgc.specs.Pieces.{bytes_of, IsBuiltInPieces}
 use Rattle.rgc_answers.specs.Accepted.{IsOver}
 use Rattle.rgc_answers.proofs.Listings.{lawful_over}
 use Rattle.rgc_line.specs.declared.command.Settings.{Settings}
-use Rattle.rgc_commands.specs.Answers.{HasCode, IsLeftOfFiles, IsLeftOfOutline, IsReady}
+use Rattle.rgc_commands.specs.Answers.{HasCode, IsLeftOfFiles, IsLeftOfOutline, IsReady, NoneAreApart}
 use Rattle.rgc_commands.specs.Flagged.{is_left_out}
-use Rattle.rgc_commands.specs.Code.{Shown, coded_program, coded_code, coded_blocks, IsPrinted}
+use Rattle.rgc_commands.specs.Code.{Shown, AreAmong, coded_program, coded_code, coded_blocks, IsPrinted}
 use Rattle.rgc_commands.specs.Left.{LacksPlan, LacksCode}
 use Rattle.rgc_commands.specs.Of.{Pieces, OfText, OfPieces, OfThree, IsRead}
 use Rattle.rgc_commands.specs.Stops.{LacksCodeOfFiles, LacksCodeOfOutline}
@@ -21,6 +21,7 @@ use Rattle.rgc_commands.specs.declared.code.Ready.{Ready}
 use Rattle.rgc_commands.specs.declared.code.Coded.{Coded}
 use Rattle.rgc_commands.specs.declared.code.Coded.TheVariants.{Whole, Left}
 use Rattle.rgc_commands.specs.declared.files.Files.{Files}
+use Rattle.rgc_commands.proofs.Apart.{among_none}
 
 -- code is over the words of its program
 pub coded_over : (c : Coded) → ∥ IsOver (coded_program c) (coded_code c) ∥₁
@@ -39,10 +40,10 @@ of_three P Q files follows = by_files files.text files.derivation files.proofs
 
 -- the text of the code of files
 pub files_code : (names : Option (Bor (List ℕ))) (files : Files) (c : Coded) (form : Shown) (text : List ℕ)
-    → OfThree files (λ t d p. IsLeftOfFiles names t d p (coded_program c) (coded_blocks c)) → IsPrinted form c text → OfThree files (λ t d p. HasCode (IsLeftOfFiles names t d p) form text)
-files_code names files c form text left printed =
-    of_three (λ t d p. IsLeftOfFiles names t d p (coded_program c) (coded_blocks c)) (λ t d p. HasCode (IsLeftOfFiles names t d p) form text) files
-    (λ t d p l. record { coded = c; left = l; over = coded_over c; printed = printed }) left
+    → OfThree files (λ t d p. IsLeftOfFiles names t d p (coded_program c) (coded_blocks c)) → (flags : List Bool) → AreAmong flags [] → IsPrinted form flags c text → OfThree files (λ t d p. HasCode (IsLeftOfFiles names t d p) NoneAreApart form text)
+files_code names files c form text left flags among printed =
+    of_three (λ t d p. IsLeftOfFiles names t d p (coded_program c) (coded_blocks c)) (λ t d p. HasCode (IsLeftOfFiles names t d p) NoneAreApart form text) files
+    (λ t d p l. record { coded = c; left = l; over = coded_over c; apart = flags; are_apart = among_none flags among; printed = printed }) left
 
 -- code of files that is ready to run
 pub ready_files : (names : Option (Bor (List ℕ))) (files : Files) (ready : Ready) (start moves : Option (Bor (List ℕ))) (limit : ℕ)

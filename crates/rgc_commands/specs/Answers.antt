@@ -26,6 +26,7 @@ use Rattle.rgc.specs.Pieces.{AreDerived, AreAcceptedInPieces, IsBuiltInPieces}
 use Rattle.rgc.specs.Proofs.{AreUnproved, IsRange, in_range}
 use Rattle.rgc.specs.Valid.{HasClauses, IsProved, IsShown, ShownHolds}
 use Rattle.rgc.specs.declared.proofs_found.Unproved.{Unproved as UnprovedCondition}
+use Rattle.rg_apart.specs.Laws.{PartsAreApart}
 use Rattle.rgc_answers.specs.Accepted.{IsOver}
 use Rattle.rgc_answers.specs.declared.proof_lines.Range.{Range}
 use Rattle.rgc_answers.specs.declared.proof_lines.Range.TheVariants.{All, Part}
@@ -129,12 +130,18 @@ pub record IsLeftOfOutline (names : Option (Bor (List ℕ))) (keeps_aux : Bool) 
   pub built : IsBuiltOutline outline program whole
   pub is_left : IsLeftBy (flags_for program.words names (auxiliary_of keeps_aux outline)) program whole left blocks
 
--- the text of code that is left so is printed in this form
-pub record HasCode (IsLeft : ProgramTree → List (List BlockTree) → Type 0) (form : Shown) (text : List ℕ) : Type 0 where
+-- no part is apart from another at a word: what is printed rests on no assertion
+abbrev pub NoneAreApart : ProgramTree → List Bool → Type 0
+NoneAreApart p apart = apart ≡ []
+
+-- the text of code that is left so is printed in this form, its parts being apart so
+pub record HasCode (IsLeft : ProgramTree → List (List BlockTree) → Type 0) (AreApart : ProgramTree → List Bool → Type 0) (form : Shown) (text : List ℕ) : Type 0 where
   pub coded : Coded
   pub left : IsLeft (coded_program coded) (coded_blocks coded)
   pub over : ∥ IsOver (coded_program coded) (coded_code coded) ∥₁
-  pub printed : IsPrinted form coded text
+  pub apart : List Bool
+  pub are_apart : AreApart (coded_program coded) apart
+  pub printed : IsPrinted form apart coded text
 
 -- code that is left so is ready to run, with a start and with moves where the command names such files
 pub record IsReady {A : Type 0} (IsLeft : ProgramTree → List (List BlockTree) → Type 0) (files : Files) (start moves : Option A) (limit : ℕ) (ready : Ready) : Type 0 where
@@ -153,7 +160,7 @@ pub record IsVerified (conditions : ℕ) (files : OutlineFiles) : Type 0 where
 
 -- after a verdict is printed how each step is done in C, where that is asked for
 abbrev pub HasMore : Settings → OutlineFiles → List ℕ → Type 0
-HasMore s outline more = s.has_accesses ≡ true → HasCode (IsLeftOfOutline s.erase s.keeps_aux outline) accesses more
+HasMore s outline more = s.has_accesses ≡ true → HasCode (IsLeftOfOutline s.erase s.keeps_aux outline) PartsAreApart accesses more
 
 -- an outline's text is printed, or goes to a file
 abbrev pub IsTextOf : Bool → OutlineFiles → List ℕ → Type 0
@@ -187,12 +194,12 @@ IsAnswer s (command.Find _ _ (Some chosen)) files (Found condition found) =
     OfTwo files (λ text derivation. IsChosen text derivation chosen.condition (condition_tree condition) × IsJudged (condition_tree condition) found)
 IsAnswer s (command.Explain number) files (Explained explained entry) = explained ≡ number
 IsAnswer s (command.Emit _ _ _) files (Code code) =
-    (form : Shown) × IsCodeForm s form × OfThree files (λ text derivation proofs. HasCode (IsLeftOfFiles s.erase text derivation proofs) form (string_bytes code))
+    (form : Shown) × IsCodeForm s form × OfThree files (λ text derivation proofs. HasCode (IsLeftOfFiles s.erase text derivation proofs) NoneAreApart form (string_bytes code))
 IsAnswer s (command.EmitOutline _) files (Code code) =
-    (form : Shown) × IsCodeForm s form × OfOutline files (λ outline. HasCode (IsLeftOfOutline s.erase s.keeps_aux outline) form (string_bytes code))
+    (form : Shown) × IsCodeForm s form × OfOutline files (λ outline. HasCode (IsLeftOfOutline s.erase s.keeps_aux outline) PartsAreApart form (string_bytes code))
 IsAnswer s (command.Accesses _ _ _) files (Code code) =
-    OfThree files (λ text derivation proofs. HasCode (IsLeftOfFiles s.erase text derivation proofs) accesses (string_bytes code))
-IsAnswer s (command.AccessesOutline _) files (Code code) = OfOutline files (λ outline. HasCode (IsLeftOfOutline s.erase s.keeps_aux outline) accesses (string_bytes code))
+    OfThree files (λ text derivation proofs. HasCode (IsLeftOfFiles s.erase text derivation proofs) NoneAreApart accesses (string_bytes code))
+IsAnswer s (command.AccessesOutline _) files (Code code) = OfOutline files (λ outline. HasCode (IsLeftOfOutline s.erase s.keeps_aux outline) PartsAreApart accesses (string_bytes code))
 IsAnswer s (command.Run _ _ _ start moves limit _) files (Run ready) =
     OfThree files (λ text derivation proofs. IsReady (IsLeftOfFiles s.erase text derivation proofs) files start moves limit ready)
 IsAnswer s (command.RunOutline _ start moves limit _) files (Run ready) = OfOutline files (λ outline. IsReady (IsLeftOfOutline None true outline) files start moves limit ready)

@@ -1,5 +1,5 @@
 -- The code that a command is about, and what is printed of it.
-use Rattle.std.specs.Prelude.{◌≡◌, ◌++◌, ℕ, Bool, true, false, List, [], Option, Some, None, codes, if◌then◌else◌}
+use Rattle.std.specs.Prelude.{◌≡◌, ◌++◌, ℕ, Bool, true, false, List, [], ◌∷◌, Option, Some, None, codes, if◌then◌else◌}
 use Rattle.std.specs.Borrow.{Bor}
 use Rattle.serde_json.specs.Written.{compact_text}
 use Rattle.rg_tree.specs.ProgramTrees.{program}
@@ -68,18 +68,25 @@ pub record IsCodeForm (settings : Settings) (form : Shown) : Type 0 where
   pub is : form ≡ (if settings.is_c then header (title_of settings.prefix) settings.is_traced else listing)
   pub titled : settings.is_c ≡ true → is_title (title_of settings.prefix) ≡ true
 
--- the kinds are those that the program's words have in C: each step is done at once, and no two parties meet at a plain word outside of critical sections
-pub record IsPlan (kinds : List Kind) (p : ProgramTree) : Type 0 where
-  pub is : kinds ≡ kinds_of p []
-  pub possible : unplanned p [] ≡ None
+-- these flags are some of those: no more, and one that is set is set there
+abbrev pub AreAmong : List Bool → List Bool → Type 0
+AreAmong [] those = Unit {0}
+AreAmong (f ∷ fs) [] = ⊥
+AreAmong (f ∷ fs) (b ∷ bs) = (f ≡ true → b ≡ true) × AreAmong fs bs
+
+-- the kinds are those that the program's words have in C where its parts are apart at these: each step is done at once, and no two parties meet at a plain word outside of critical sections, but
+-- for parts that are apart
+pub record IsPlan (kinds : List Kind) (apart : List Bool) (p : ProgramTree) : Type 0 where
+  pub is : kinds ≡ kinds_of p apart
+  pub possible : unplanned p apart ≡ None
   pub sound : IsSound kinds p
 
--- a program and its code are printed so
-abbrev pub IsPrintedAs : Shown → ProgramTree → Code → List ℕ → Type 0
-IsPrintedAs listing p code text = text ≡ compact_text (listing_data code) ++ codes "\n"
-IsPrintedAs (header name traced) p code text = (kinds : List Kind) × IsPlan kinds p × (text ≡ header_text name traced kinds p)
-IsPrintedAs accesses p code text = (kinds : List Kind) × IsPlan kinds p × (text ≡ report_text p kinds)
+-- a program, whose parts are apart at these words, and its code are printed so
+abbrev pub IsPrintedAs : Shown → List Bool → ProgramTree → Code → List ℕ → Type 0
+IsPrintedAs listing apart p code text = text ≡ compact_text (listing_data code) ++ codes "\n"
+IsPrintedAs (header name traced) apart p code text = (kinds : List Kind) × IsPlan kinds apart p × (text ≡ header_text name traced kinds p)
+IsPrintedAs accesses apart p code text = (kinds : List Kind) × IsPlan kinds apart p × (text ≡ report_text p kinds)
 
 -- code is printed so
-abbrev pub IsPrinted : Shown → Coded → List ℕ → Type 0
-IsPrinted form c text = IsPrintedAs form (coded_program c) (coded_code c) text
+abbrev pub IsPrinted : Shown → List Bool → Coded → List ℕ → Type 0
+IsPrinted form apart c text = IsPrintedAs form apart (coded_program c) (coded_code c) text

@@ -1,11 +1,12 @@
 //! The code that a command is about: of files that are accepted or of an outline that is verified, without the words that are erased.
 
-ghost use Rattle.std.specs.Prelude.{◌≡◌, true, string_bytes, IfOk, IfErr};
+ghost use Rattle.std.specs.Prelude.{◌≡◌, Bool, true, List, [], string_bytes, IfOk, IfErr};
 ghost use Rattle.std.specs.List.{list_any};
 ghost use Rattle.rg_tree.specs.ProgramTrees.{program as program_tree};
 ghost use Rattle.rg_accept.specs.Stages.{emitted_program, emitted_blocks};
+ghost use Rattle.rg_apart.specs.Laws.{IsLeftOf, PartsAreApart};
 ghost use Rattle.rgc_commands.specs.Flagged.{flags_for};
-ghost use Rattle.rgc_commands.specs.Code.{coded_program, coded_blocks, is_in_c, IsCodeForm, IsPlan, IsPrinted, IsPrintedAs, shown, title_of};
+ghost use Rattle.rgc_commands.specs.Code.{AreAmong, coded_program, coded_blocks, is_in_c, IsCodeForm, IsPlan, IsPrinted, IsPrintedAs, shown, title_of};
 ghost use Rattle.rgc_commands.specs.Left.{IsLeftBy, NamesStranger, CantBeErased, HaveToStay, LacksPlan};
 ghost use Rattle.rgc_commands.specs.Inner.Stops.{IsFaultStop, IsFormStop};
 
@@ -14,6 +15,8 @@ use crate::sentences::{fault_line, push_lost, unknown_line, unplanned_line};
 use crate::stops::Stop;
 use crate::titles::is_title;
 use rg_accept::Emitted;
+use rg_apart::laws::parts_stand_where_they_stood;
+use rg_apart::search::{Search, find_apart};
 use rg_c::header::{Options, header};
 use rg_c_plan::kind::Kind;
 use rg_c_plan::plan::plan;
@@ -22,6 +25,7 @@ use rg_code::checked::Checked;
 use rg_erase::{Erased, erase};
 use rg_tree::program::Program;
 use rg_tree::typing::typed_trees_fit;
+use rg_watch::Watcher;
 use rg_words::Layout;
 use rgc_answers::{Run, listing_text};
 use rgc_line::Settings;
@@ -129,24 +133,48 @@ fn lost_lines(
     Ok(lines)
 }
 
-/// What is left of an accepted program without these words, all of it where none is flagged; what is lost is noted.
-fn left_of(
+/// A flag for each word of what is left of an accepted program at which a search finds that its parts are apart; none where none is made.
+fn apart_of<P: Watcher + Copy>(
+    alloc: Global,
+    emitted: &Emitted,
+    left: &Program,
+    erased: &[bool],
+    search: Option<Search<'_, P>>,
+) -> Result<Vec<bool>, AllocError>
+    requires { IsLeftOf erased.now (emitted_program emitted.now) (program_tree left.now) }
+    ensures { IfOk result (λ apart. PartsAreApart (program_tree left.now) apart.items) }
+{
+    match search {
+        Some(search) => find_apart(alloc, emitted, left, erased, search),
+        None => Ok(Vec::new(alloc)),
+    }
+}
+
+/// What is left of an accepted program without these words, all of it where none is flagged, with flags of the words at which the search finds that its parts are
+/// apart; what is lost is noted.
+fn left_of<P: Watcher + Copy>(
     alloc: Global,
     emitted: Emitted,
     flags: &[bool],
+    search: Option<Search<'_, P>>,
     notes: &mut Vec<u8>,
-) -> Result<Coded, Stop>
-    ensures left { IfOk result (λ c. IsLeftBy flags.now (emitted_program emitted) (emitted_blocks emitted) (coded_program c) (coded_blocks c)) }
+) -> Result<(Coded, Vec<bool>), Stop>
+    ensures left { IfOk result (λ r. IsLeftBy flags.now (emitted_program emitted) (emitted_blocks emitted) (coded_program r.0) (coded_blocks r.0)) }
+    ensures apart { IfOk result (λ r. PartsAreApart (coded_program r.0) r.1.items) }
     ensures stopped { IfErr result (IsFaultStop (CantBeErased flags.now (emitted_program emitted))) }
 {
+    // The parts of what is left stand where the program's parts stand.
+    parts_stand_where_they_stood();
     if !has_flag(flags) {
-        return Ok(Coded::Whole(emitted));
+        let apart = apart_of(alloc, &emitted, emitted.program(), &[], search)?;
+        return Ok((Coded::Whole(emitted), apart));
     }
     match erase(alloc, &emitted, flags)? {
         Ok(left) => {
             let lost = lost_lines(alloc, emitted.program(), left.program(), flags)?;
             notes.extend_from_slice(&lost)?;
-            Ok(Coded::Left(left))
+            let apart = apart_of(alloc, &emitted, left.program(), flags, search)?;
+            Ok((Coded::Left(left), apart))
         }
         Err(fault) => {
             let line = fault_line(alloc, &emitted.program().layout, fault)?;
@@ -155,24 +183,26 @@ fn left_of(
     }
 }
 
-/// What is left of an accepted program without the words of these names and those that are flagged; what is lost is noted.
-pub(crate) fn left_with(
+/// What is left of an accepted program without the words of these names and those that are flagged, with flags as `left_of` gives them; what is lost is noted.
+pub(crate) fn left_with<P: Watcher + Copy>(
     alloc: Global,
     emitted: Emitted,
     names: Option<&str>,
     flagged: &[bool],
+    search: Option<Search<'_, P>>,
     notes: &mut Vec<u8>,
-) -> Result<Coded, Stop>
-    ensures left { IfOk result (λ c. IsLeftBy (flags_for (emitted_program emitted).words names.entry flagged.now) (emitted_program emitted) (emitted_blocks emitted) (coded_program c) (coded_blocks c)) }
+) -> Result<(Coded, Vec<bool>), Stop>
+    ensures left { IfOk result (λ r. IsLeftBy (flags_for (emitted_program emitted).words names.entry flagged.now) (emitted_program emitted) (emitted_blocks emitted) (coded_program r.0) (coded_blocks r.0)) }
+    ensures apart { IfOk result (λ r. PartsAreApart (coded_program r.0) r.1.items) }
     ensures stopped { IfErr result (IsFaultStop (HaveToStay names.entry flagged.now (emitted_program emitted))) }
 {
     let flags = flags_of(alloc, &emitted.program().layout, names, flagged)?;
-    left_of(alloc, emitted, &flags, notes)
+    left_of(alloc, emitted, &flags, search, notes)
 }
 
-/// A kind for each word of a program.
-fn kinds_of(alloc: Global, program: &Program) -> Result<Vec<Kind>, Stop>
-    ensures kinds { IfOk result (λ kinds. IsPlan kinds.items (program_tree program.now)) }
+/// A kind for each word of a program of which no parts are apart.
+fn plain_kinds(alloc: Global, program: &Program) -> Result<Vec<Kind>, Stop>
+    ensures kinds { IfOk result (λ kinds. IsPlan kinds.items [] (program_tree program.now)) }
     ensures stopped { IfErr result (IsFaultStop (LacksPlan (program_tree program.now))) }
 {
     match plan(alloc, program, &[])? {
@@ -181,32 +211,74 @@ fn kinds_of(alloc: Global, program: &Program) -> Result<Vec<Kind>, Stop>
     }
 }
 
-/// The text of a checked program in a form.
-fn form_text<E: Checked>(alloc: Global, left: &E, form: Form<'_>) -> Result<String, Stop>
-    ensures printed { IfOk result (λ text. IsPrintedAs (shown form.entry) (program_tree (E.program_of left.now)) (E.code_of left.now) (string_bytes text)) }
+/// Clears the flag of a word, and answers whether it was set.
+fn clear(flags: &mut [bool], word: usize) -> bool
+    ensures { (those : List Bool) → AreAmong flags.old those → AreAmong flags.new those }
+{
+    if word >= flags.len() {
+        return false;
+    }
+    let was = flags[word];
+    flags[word] = false;
+    was
+}
+
+/// A kind for each word of a program whose parts are apart at these: the flag of a word at which a step isn't done at once is cleared, and where no flag is in the
+/// way of a step, all are.
+fn kinds_of(alloc: Global, program: &Program, apart: &[bool]) -> Result<Vec<Kind>, Stop>
+    ensures kinds { IfOk result (λ kinds. (some : List Bool) × AreAmong some apart.now × IsPlan kinds.items some (program_tree program.now)) }
+    ensures stopped { IfErr result (IsFaultStop (LacksPlan (program_tree program.now))) }
+{
+    let mut some = Vec::from_slice(alloc, apart)?;
+    for _ in 0..apart.len() {
+        match plan(alloc, program, &some)? {
+            Ok(plan) => return Ok(plan.kinds),
+            Err(step) => {
+                if !clear(&mut some, step.word) {
+                    return plain_kinds(alloc, program);
+                }
+            }
+        }
+    }
+    plain_kinds(alloc, program)
+}
+
+/// The text of a checked program, whose parts are apart at these words, in a form.
+fn form_text<E: Checked>(
+    alloc: Global,
+    left: &E,
+    apart: &[bool],
+    form: Form<'_>,
+) -> Result<String, Stop>
+    ensures printed { IfOk result (λ text. (some : List Bool) × AreAmong some apart.now × IsPrintedAs (shown form.entry) some (program_tree (E.program_of left.now)) (E.code_of left.now) (string_bytes text)) }
     ensures stopped { IfErr result (IsFaultStop (λ lines. (is_in_c (shown form.entry) ≡ true) × LacksPlan (program_tree (E.program_of left.now)) lines)) }
 {
     let program = left.program();
     match form {
         Form::Listing => Ok(listing_text(alloc, left.code())?),
         Form::C(options) => {
-            let kinds = kinds_of(alloc, program)?;
+            let kinds = kinds_of(alloc, program, apart)?;
             Ok(header(alloc, program, &kinds, &options)?)
         }
         Form::Accesses => {
-            let kinds = kinds_of(alloc, program)?;
+            let kinds = kinds_of(alloc, program, apart)?;
             Ok(report(alloc, program, &kinds)?)
         }
     }
 }
 
-/// The text of code in a form.
-pub(crate) fn code_text(alloc: Global, code: &Coded, form: Form<'_>) -> Result<String, Stop>
-    ensures printed { IfOk result (λ text. IsPrinted (shown form.entry) code.now (string_bytes text)) }
+/// The text of code, whose parts are apart at these words, in a form.
+pub(crate) fn code_text(
+    alloc: Global,
+    code: &Coded,
+    apart: &[bool],
+    form: Form<'_>,
+) -> Result<String, Stop>
+    ensures printed { IfOk result (λ text. (some : List Bool) × AreAmong some apart.now × IsPrinted (shown form.entry) some code.now (string_bytes text)) }
     ensures stopped { IfErr result (IsFaultStop (λ lines. (is_in_c (shown form.entry) ≡ true) × LacksPlan (coded_program code.now) lines)) }
 {
     match code {
-        Coded::Whole(emitted) => form_text(alloc, emitted, form),
-        Coded::Left(erased) => form_text(alloc, erased, form),
+        Coded::Whole(emitted) => form_text(alloc, emitted, apart, form),
+        Coded::Left(erased) => form_text(alloc, erased, apart, form),
     }
 }

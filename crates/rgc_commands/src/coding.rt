@@ -4,7 +4,8 @@ ghost use Rattle.std.specs.Prelude.{◌≡◌, ℕ, Bool, List, Option, string_b
 ghost use Rattle.std.specs.Borrow.{Bor};
 ghost use Rattle.rgc_line.specs.declared.command.Command.TheVariants.{Emit, EmitOutline, Accesses, AccessesOutline, Run as the_run, RunOutline};
 ghost use Rattle.rgc_outlines.specs.Proved.{IsProvedOf};
-ghost use Rattle.rgc_commands.specs.Answers.{auxiliary_of, HasCode, IsAnswer, IsLeftOfFiles, IsLeftOfOutline};
+ghost use Rattle.rg_apart.specs.Laws.{PartsAreApart};
+ghost use Rattle.rgc_commands.specs.Answers.{auxiliary_of, HasCode, IsAnswer, IsLeftOfFiles, IsLeftOfOutline, NoneAreApart};
 ghost use Rattle.rgc_commands.specs.Code.{coded_program, coded_blocks, is_in_c, shown};
 ghost use Rattle.rgc_commands.specs.Inner.Stops.{IsFilesStop, IsOutlineStop, IsProofStop};
 ghost use Rattle.rgc_commands.specs.Of.{OfOutline, OfThree};
@@ -16,9 +17,10 @@ use crate::code::{Coded, Form, Ready, code_form, code_text, left_with};
 use crate::files::{Files, inputs, three_files};
 use crate::outlines::{MOST_STEPS, expanded_of, outlined_of, prove};
 use crate::stops::Stop;
+use rg_apart::search::Search;
 use rg_code::checked::Checked;
 use rg_outline_reports::Outlined;
-use rg_watch::Watcher;
+use rg_watch::{Unwatched, Watcher};
 use rgc::{InThreads, build_in_pieces};
 use rgc_answers::{Context, Run};
 use rgc_line::Settings;
@@ -26,6 +28,9 @@ use rgc_outlines::{Proved, naming_of};
 use std::alloc::Global;
 use std::sync::Wait;
 use std::thread::Threads;
+
+/// The most decisions of each search that looks for words at which parts are apart.
+const MOST_STEPS_FOR_WORDS: u64 = 10_000;
 
 /// Flags of the auxiliary words of an outline; none where they stay.
 fn auxiliary_of<'a>(keeps_aux: bool, outlined: &'a Outlined<'_>) -> &'a [bool]
@@ -53,24 +58,65 @@ fn left_of_files<R: Threads + Wait + Sync, P>(
         threads: context.threads,
     };
     let emitted = build_in_pieces(&checker, context.alloc, text, derivation, proofs)?;
-    left_with(context.alloc, emitted, settings.erase, &[], notes)
+    let search: Option<Search<'_, Unwatched>> = None;
+    let (code, _) = left_with(context.alloc, emitted, settings.erase, &[], search, notes)?;
+    Ok(code)
 }
 
-/// What is left of the code of an outline, without the words that the settings name, and without auxiliary ones unless they stay; what is lost is noted.
-pub(crate) fn left_of_outline<R: Threads + Wait + Sync, P>(
+/// How it is looked for words at which parts are apart: only where C is asked for.
+fn search_for<'a, P>(form: Form<'_>, watcher: &'a P) -> Option<Search<'a, P>> {
+    match form {
+        Form::Listing => None,
+        Form::C(_) | Form::Accesses => Some(Search {
+            steps: MOST_STEPS_FOR_WORDS,
+            watcher,
+        }),
+    }
+}
+
+/// What is left of the code of an outline, without the words that the settings name, and without auxiliary ones unless they stay, with flags of the words at which
+/// its parts are found to be apart; what is lost is noted.
+fn left_of_outline<R: Threads + Wait + Sync, P: Watcher + Copy>(
     context: &Context<'_, R, P>,
     settings: &Settings<'_>,
+    form: Form<'_>,
     outlined: &Outlined<'_>,
     proved: Proved,
     notes: &mut Vec<u8>,
-) -> Result<Coded, Stop>
+) -> Result<(Coded, Vec<bool>), Stop>
     requires { IsProvedOf outlined.now.files proved }
-    ensures left { IfOk result (λ c. IsLeftOfOutline settings.now.erase settings.now.keeps_aux outlined.now.files (coded_program c) (coded_blocks c)) }
+    ensures left { IfOk result (λ r. IsLeftOfOutline settings.now.erase settings.now.keeps_aux outlined.now.files (coded_program r.0) (coded_blocks r.0)) }
+    ensures apart { IfOk result (λ r. PartsAreApart (coded_program r.0) r.1.items) }
     ensures stopped { (steps : ℕ) → (in_c : Bool) → IfErr result (IsProofStop outlined.now.files steps (λ lines. LacksCodeOfOutline settings.now in_c lines outlined.now.files)) }
 {
     let emitted = proved.code(context)?;
     let auxiliary = auxiliary_of(settings.keeps_aux, outlined);
-    left_with(context.alloc, emitted, settings.erase, auxiliary, notes)
+    let search = search_for(form, context.watcher);
+    left_with(
+        context.alloc,
+        emitted,
+        settings.erase,
+        auxiliary,
+        search,
+        notes,
+    )
+}
+
+/// The text of the code of an outline that is proved, in a form.
+pub(crate) fn proved_text<R: Threads + Wait + Sync, P: Watcher + Copy>(
+    context: &Context<'_, R, P>,
+    settings: &Settings<'_>,
+    form: Form<'_>,
+    outlined: &Outlined<'_>,
+    proved: Proved,
+    notes: &mut Vec<u8>,
+) -> Result<String, Stop>
+    requires { IsProvedOf outlined.now.files proved }
+    ensures text { IfOk result (λ text. HasCode (IsLeftOfOutline settings.now.erase settings.now.keeps_aux outlined.now.files) PartsAreApart (shown form.entry) (string_bytes text)) }
+    ensures stopped { (steps : ℕ) → IfErr result (IsProofStop outlined.now.files steps (λ lines. LacksCodeOfOutline settings.now (is_in_c (shown form.entry)) lines outlined.now.files)) }
+{
+    let (code, apart) = left_of_outline(context, settings, form, outlined, proved, notes)?;
+    code_text(context.alloc, &code, &apart, form)
 }
 
 /// The text of the code of files, in a form.
@@ -81,11 +127,11 @@ fn files_text<R: Threads + Wait + Sync, P>(
     files: &Files<'_>,
     notes: &mut Vec<u8>,
 ) -> Result<String, Stop>
-    ensures text { IfOk result (λ text. OfThree files.now (λ t d p. HasCode (IsLeftOfFiles settings.now.erase t d p) (shown form.entry) (string_bytes text))) }
+    ensures text { IfOk result (λ text. OfThree files.now (λ t d p. HasCode (IsLeftOfFiles settings.now.erase t d p) NoneAreApart (shown form.entry) (string_bytes text))) }
     ensures stopped { IfErr result (IsFilesStop settings.now (is_in_c (shown form.entry)) files.now) }
 {
     let code = left_of_files(context, settings, files, notes)?;
-    code_text(context.alloc, &code, form)
+    code_text(context.alloc, &code, &[], form)
 }
 
 /// The text of the code of an outline, in a form.
@@ -96,13 +142,12 @@ fn outline_text<R: Threads + Wait + Sync, P: Watcher + Copy + Sync>(
     files: &Files<'_>,
     notes: &mut Vec<u8>,
 ) -> Result<String, Stop>
-    ensures text { IfOk result (λ text. OfOutline files.now (λ o. HasCode (IsLeftOfOutline settings.now.erase settings.now.keeps_aux o) (shown form.entry) (string_bytes text))) }
+    ensures text { IfOk result (λ text. OfOutline files.now (λ o. HasCode (IsLeftOfOutline settings.now.erase settings.now.keeps_aux o) PartsAreApart (shown form.entry) (string_bytes text))) }
     ensures stopped { IfErr result (IsOutlineStop files.now (LacksCodeOfOutline settings.now (is_in_c (shown form.entry)))) }
 {
     let outlined = outlined_of(context.alloc, files)?;
     let proved = prove(context, outlined, MOST_STEPS, None)?;
-    let code = left_of_outline(context, settings, outlined, proved, notes)?;
-    code_text(context.alloc, &code, form)
+    proved_text(context, settings, form, outlined, proved, notes)
 }
 
 /// The code of files as the settings ask for it.

@@ -14,8 +14,8 @@ ghost use Rattle.rgc_commands.specs.Inner.Stops.{IsDevice, IsFaultStop, IsNoOutl
 ghost use Rattle.rgc_commands.specs.Stops.{IsStop, LacksCodeOfOutline, outline_line, search_steps};
 
 use crate::answers::{Answer, Verified};
-use crate::code::{Form, code_text};
-use crate::coding::left_of_outline;
+use crate::code::Form;
+use crate::coding::proved_text;
 use crate::files::{Expanded, Files};
 use crate::sides::Sides;
 use crate::stops::Stop;
@@ -194,7 +194,7 @@ fn verified_outline<'a>(
 }
 
 /// What is printed after a verdict: how each step is done in C, where that is asked for.
-fn more_of<R: Threads + Wait + Sync, P>(
+fn more_of<R: Threads + Wait + Sync, P: Watcher + Copy>(
     context: &Context<'_, R, P>,
     settings: &Settings<'_>,
     outlined: &Outlined<'_>,
@@ -209,8 +209,7 @@ fn more_of<R: Threads + Wait + Sync, P>(
     if !settings.has_accesses {
         return Ok(Vec::new(context.alloc));
     }
-    let code = left_of_outline(context, settings, outlined, proved, notes)?;
-    let text = code_text(context.alloc, &code, Form::Accesses)?;
+    let text = proved_text(context, settings, Form::Accesses, outlined, proved, notes)?;
     Ok(text.into_bytes())
 }
 

@@ -1,9 +1,5 @@
-use Rattle.std.proofs.Common.{None, [], inl}
-use Rattle.std.proofs.lemmas.Result.{err_from_is_err_and, IfOk-weaker, IfErr-weaker}
-use Rattle.rgc_commands.specs.Of.{OfThree}
-use Rattle.rgc_commands.specs.Answers.{IsLeftOfFiles}
-use Rattle.rgc_commands.specs.Code.{coded_program, coded_blocks}
-use Rattle.rgc_commands.specs.Inner.Stops.{IsFilesStop}
+use Rattle.std.proofs.Common.{None, inl}
+use Rattle.std.proofs.lemmas.Result.{err_from_is_err_and}
 use Rattle.rgc_commands.proofs.Stopping.{code_stop, files_stop}
 use Rattle.rgc_commands.proofs.coding.left_of_files.Goals as goal
 
@@ -17,12 +13,7 @@ returns-in_err-emitted-clause-stopped g c = λ in_c.
     let p = err_from_is_err_and c.from_residual-in_err-emitted.result c.from_residual-in_err-emitted.ensures.1 in
     rw (p.1, p.2, c.in_ok-text.ensures.text, c.in_ok-text.ensures.derivation, c.in_ok-text.ensures.proofs) (inl c.in_err-emitted.ensures.refused)
 
-pub returns-clause-left : goal.returns-clause-left
-returns-clause-left g c =
-    IfOk-weaker c.left_with.result _ (λ k. OfThree c.args.files.now (λ text derivation proofs. IsLeftOfFiles c.args.settings.now.erase text derivation proofs (coded_program k) (coded_blocks k)))
-    (λ k left. rw (c.in_ok-text.ensures.text, c.in_ok-text.ensures.derivation, c.in_ok-text.ensures.proofs) (record { program = _; whole = _; built = c.in_ok-emitted.ensures.built; is_left = left })) c.left_with.ensures.left
-
-pub returns-clause-stopped : goal.returns-clause-stopped
-returns-clause-stopped g c = λ in_c.
-    IfErr-weaker c.left_with.result _ (IsFilesStop c.args.settings.now in_c c.args.files.now)
-    (λ stop h. code_stop c.args.settings.now in_c c.args.files.now _ stop (λ lines stay. rw (c.in_ok-text.ensures.text, c.in_ok-text.ensures.derivation, c.in_ok-text.ensures.proofs) (record { program = _; whole = _; built = c.in_ok-emitted.ensures.built; why = inl stay })) h) c.left_with.ensures.stopped
+pub returns-in_err-code-clause-stopped : goal.returns-in_err-code-clause-stopped
+returns-in_err-code-clause-stopped g c = λ in_c.
+    let p = err_from_is_err_and c.from_residual-in_err-code.result c.from_residual-in_err-code.ensures.1 in
+    rw (p.1, p.2) (code_stop c.args.settings.now in_c c.args.files.now _ _ (λ lines stay. rw (c.in_ok-text.ensures.text, c.in_ok-text.ensures.derivation, c.in_ok-text.ensures.proofs) (record { program = _; whole = _; built = c.in_ok-emitted.ensures.built; why = inl stay })) c.in_err-code.ensures.stopped)

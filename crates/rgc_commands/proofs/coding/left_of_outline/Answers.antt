@@ -14,8 +14,8 @@ returns-in_err-emitted-clause-stopped g c = λ steps in_c.
 
 pub returns-clause-left : goal.returns-clause-left
 returns-clause-left g c =
-    IfOk-weaker c.left_with.result _ (λ k. IsLeftOfOutline c.args.settings.now.erase c.args.settings.now.keeps_aux c.args.outlined.now.files (coded_program k) (coded_blocks k))
-    (λ k left. record { program = _; whole = _; built = c.in_ok-emitted.ensures.built _ c.requires; is_left = rw c.auxiliary_of-auxiliary.ensures at left }) c.left_with.ensures.left
+    IfOk-weaker c.left_with.result _ (λ r. IsLeftOfOutline c.args.settings.now.erase c.args.settings.now.keeps_aux c.args.outlined.now.files (coded_program r.0) (coded_blocks r.0))
+    (λ r left. record { program = _; whole = _; built = c.in_ok-emitted.ensures.built _ c.requires; is_left = rw c.auxiliary_of-auxiliary.ensures at left }) c.left_with.ensures.left
 
 pub returns-clause-stopped : goal.returns-clause-stopped
 returns-clause-stopped g c = λ steps in_c.

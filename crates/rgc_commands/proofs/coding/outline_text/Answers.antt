@@ -1,13 +1,14 @@
 use Rattle.std.proofs.lemmas.Result.{err_from_is_err_and, IfOk-weaker, IfErr-weaker}
+use Rattle.rg_apart.specs.Laws.{PartsAreApart}
 use Rattle.rgc_commands.specs.Of.{OfOutline}
 use Rattle.rgc_commands.specs.Answers.{HasCode, IsLeftOfOutline}
 use Rattle.std.specs.Prelude.{string_bytes}
 use Rattle.rgc_commands.specs.Code.{is_in_c, shown}
 use Rattle.rgc_commands.specs.Inner.Stops.{IsOutlineStop, NoFault}
 use Rattle.rgc_commands.specs.Stops.{LacksCodeOfOutline}
+use Rattle.rgc_commands.specs.declared.outlines.TheConstants.{MOST_STEPS}
 use Rattle.rgc_commands.proofs.Outlining.{no_outline}
-use Rattle.rgc_commands.proofs.Printing.{coded_over, outline_lacks}
-use Rattle.rgc_commands.proofs.Stopping.{proof_stop, proof_stop_more, proof_code_stop}
+use Rattle.rgc_commands.proofs.Stopping.{proof_stop, proof_stop_more}
 use Rattle.rgc_commands.proofs.coding.outline_text.Goals as goal
 
 pub returns-in_err-outlined-clause-stopped : goal.returns-in_err-outlined-clause-stopped
@@ -22,20 +23,14 @@ returns-in_err-proved-clause-stopped g c =
     (proof_stop c.args.files.now _ (LacksCodeOfOutline c.args.settings.now (is_in_c (shown c.args.form))) _ c.in_ok-outlined.ensures.files
     (proof_stop_more _ _ NoFault _ _ (λ lines none. absurd none) c.in_err-proved.ensures.stopped))
 
-pub returns-in_err-code-clause-stopped : goal.returns-in_err-code-clause-stopped
-returns-in_err-code-clause-stopped g c =
-    let p = err_from_is_err_and c.from_residual-in_err-code.result c.from_residual-in_err-code.ensures.1 in
-    rw (p.1, p.2) (proof_stop c.args.files.now _ (LacksCodeOfOutline c.args.settings.now (is_in_c (shown c.args.form))) _ c.in_ok-outlined.ensures.files (c.in_err-code.ensures.stopped _ _))
-
 pub returns-clause-text : goal.returns-clause-text
 returns-clause-text g c =
-    IfOk-weaker c.code_text.result _ (λ text. OfOutline c.args.files.now (λ o. HasCode (IsLeftOfOutline c.args.settings.now.erase c.args.settings.now.keeps_aux o) (shown c.args.form) (string_bytes text)))
-    (λ text printed. rw c.in_ok-outlined.ensures.files (record { coded = c.in_ok-code.code; left = c.in_ok-code.ensures.left; over = coded_over c.in_ok-code.code; printed = printed })) c.code_text.ensures.printed
+    IfOk-weaker c.proved_text.result _ (λ text. OfOutline c.args.files.now (λ o. HasCode (IsLeftOfOutline c.args.settings.now.erase c.args.settings.now.keeps_aux o) PartsAreApart (shown c.args.form) (string_bytes text)))
+    (λ text has. rw c.in_ok-outlined.ensures.files has) c.proved_text.ensures.text
 
 pub returns-clause-stopped : goal.returns-clause-stopped
 returns-clause-stopped g c =
     let in_c = is_in_c (shown c.args.form) in
     let outline = c.in_ok-outlined.outlined.now.files in
-    IfErr-weaker c.code_text.result _ (IsOutlineStop c.args.files.now (LacksCodeOfOutline c.args.settings.now in_c))
-    (λ stop h. proof_stop c.args.files.now outline (LacksCodeOfOutline c.args.settings.now in_c) stop c.in_ok-outlined.ensures.files
-    (proof_code_stop outline _ _ _ c.in_ok-proved.ensures.proved (λ lines lacks. outline_lacks c.args.settings.now in_c outline _ _ c.in_ok-code.ensures.left lacks.0 lines lacks.1) stop h)) c.code_text.ensures.stopped
+    IfErr-weaker c.proved_text.result _ (IsOutlineStop c.args.files.now (LacksCodeOfOutline c.args.settings.now in_c))
+    (λ stop h. proof_stop c.args.files.now outline (LacksCodeOfOutline c.args.settings.now in_c) stop c.in_ok-outlined.ensures.files h) (c.proved_text.ensures.stopped MOST_STEPS)
