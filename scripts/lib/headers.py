@@ -56,7 +56,7 @@ def check_loops(text):
 
 def declared(text, name):
     """The members of the struct in order, each item of an array by itself: the name, as `head` or `slot[0]`, a kind, and the comment. The kind is `const`, `atomic`
-    or `plain`, or `world` for an atomic one that others than parts write."""
+    or `plain`, `apart` for a plain one at which assertions keep the parts apart, or `world` for an atomic one that others than parts write."""
     found = re.search(rf"^struct {name} \{{\n(.*?)^\}};", text, re.M | re.S)
     demand(found, f"there is no struct {name}")
     others = dict(re.findall(r"^ +/\* (\w+\[\d+\]): (.*?) \*/$", found[1], re.M))
@@ -64,7 +64,7 @@ def declared(text, name):
     for it, array, count, comment in re.findall(r"^ +([^/*\s][^;\n]*?)\b(\w+)(?:\[(\d+)\])?;(?: */\*(.*?)\*/)?", found[1], re.M | re.S):
         for member in [f"{array}[{item}]" for item in range(int(count))] if count else [array]:
             note = others.pop(member, comment)
-            kind = "const" if it.startswith("const ") else "plain" if "RGC_ATOMIC(" not in it else "world" if "outside" in note else "atomic"
+            kind = "const" if it.startswith("const ") else "apart" if "RGC_APART(" in it else "plain" if "RGC_ATOMIC(" not in it else "world" if "outside" in note else "atomic"
             members.append((member, kind, note))
     demand(not others, f"{[*others][:1]} is no item of an array")
     return members
