@@ -1,10 +1,11 @@
 /* Runs with a switch at each access: RUNS SEED TURNS STEPS VALUES.., where the values are those of the words at the start. In each of its turns a
  * part that is drawn at random goes on to its next access. A line is printed of states in which no part is inside a step: the parts' places and
- * the words. After so many turns the parts make their steps to the end. A part makes so many steps at most. */
+ * the words. After so many turns the parts make their steps to the end. A part makes so many steps at most. With RANKS some parts run on one core:
+ * one of a lower rank interrupts the others; those of rank -1 have a core of their own. */
 #include "coroutines.h"
 
-static int held;
-#define RGC_ENTER(w) do { pause_here(); while (held) { pause_here(); } held = 1; } while (0)
+static int held, holder;
+#define RGC_ENTER(w) do { pause_here(); while (held) { pause_here(); } held = 1; holder = now; } while (0)
 #define RGC_LEAVE(w) do { pause_here(); held = 0; } while (0)
 #define RGC_WAIT(w) pause_here()
 #define RGC_ATOMIC(type) type
@@ -37,6 +38,28 @@ static bool is_inside(int part)
     return place[part] == INSIDE;
 }
 
+static bool interrupts(int part, int other)
+{
+#ifdef RANKS
+    static const int ranks[PARTS] = RANKS;
+    return ranks[part] >= 0 && ranks[part] < ranks[other];
+#else
+    (void)part, (void)other;
+    return false;
+#endif
+}
+
+/* While a part is inside a step, those that it interrupts stand still; and a section holds off those that interrupt the part in it. */
+static bool stands_still(int part)
+{
+    for (int other = 0; other < PARTS; other++) {
+        if (is_inside(other) && interrupts(other, part)) {
+            return true;
+        }
+    }
+    return held && interrupts(part, holder);
+}
+
 static bool goes_on(int part)
 {
     return is_inside(part) || (place[part] != ENDED && made_by[part] < most);
@@ -66,7 +89,7 @@ static void settle(void)
 {
     while (any(is_inside)) {
         for (int part = 0; part < PARTS; part++) {
-            if (is_inside(part)) {
+            if (is_inside(part) && !stands_still(part)) {
                 resume(part);
             }
         }
@@ -81,7 +104,7 @@ static void run(long turns)
         if (!often || !draw(1 << often) || !goes_on(part)) {
             part = draw(PARTS);
         }
-        if (goes_on(part)) {
+        if (goes_on(part) && !stands_still(part)) {
             resume(part);
         }
         if (!draw(32)) {

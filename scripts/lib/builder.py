@@ -76,6 +76,18 @@ def locked(path, waiting, tell):
         yield
 
 
+def write_commit(commit):
+    """Writes beside the program at which commit it was proved: `rgc --version` prints it. Where the repository has no commit there is no such file."""
+    path = f"{project.OUT}/proved_at"
+    if commit == "-":
+        if os.path.exists(path):
+            os.remove(path)
+        return
+    said = f"proved from files that differ from commit {commit[:-1]}" if commit.endswith("+") else f"proved at commit {commit}"
+    with open(path, "w") as it:
+        it.write(f"{said}\n")
+
+
 def shown(path):
     """Returns a path as a reader in this folder would write it."""
     short = os.path.relpath(path)

@@ -54,7 +54,7 @@ class Case:
         self.count = sum(self.ends)
         self.numbers = sorted({0, 1, *map(int, re.findall(r'"num (\d+)"', json.dumps(self.code)))})
         self.over = " ".join("-1" for _ in blocks) + " "
-        self.starts, self.formulas, self.known = [], (None, None), {}
+        self.starts, self.formulas, self.known, self.words = [], (None, None), {}, []
 
     def spelled(self, state):
         """The values of the words that the header has."""
@@ -185,7 +185,9 @@ def case_of(name, room, program, words, code, rng):
     write(f"{room}/plain/{NAME}.h", plain)
     write(f"{room}/plain/{SECOND}.h", run(program, *words, "--name", SECOND))
     write(f"{room}/traced/{NAME}.h", traced)
-    return Case(name, room, headers.read(plain, NAME, code), code, rng.randrange(1 << 30))
+    case = Case(name, room, headers.read(plain, NAME, code), code, rng.randrange(1 << 30))
+    case.words = [program, *words]
+    return case
 
 
 def ways(source, code, rng):
@@ -196,8 +198,9 @@ def ways(source, code, rng):
 
 
 def check_outline(case, program, words):
-    """Sees that the C of an outline is that of the files that stand for it, besides the comments, unless its assertions keep parts apart at a word."""
-    bare = lambda text: re.sub(r"/\*.*?\*/", "", text, flags=re.S)
+    """Sees that the C of an outline is that of the files that stand for it, besides the comments and what stands for a `skip`, unless its assertions keep parts
+    apart at a word."""
+    bare = lambda text: [it for it in re.sub(r"/\*.*?\*/|\bRGC_SKIP\(\d+\);", "", text, flags=re.S).split("\n") if it.strip()]
     is_same = bare(run(program, *words, "--name", NAME)) == bare(case.header.text)
     headers.demand(is_same or "apart" in case.header.kinds.values(), "emit --outline prints other C than emit of its text")
 

@@ -249,7 +249,7 @@ CASES = (
     Case("emit, large values as C", [*EMIT, "--format", "c"], large_values, 20, says="#endif"),
     Case("accesses, large values", ["accesses", *THREE, "--threads", "1"], large_values, 20, says="w0: 64 bits"),
     Case("run, sixteen words a step", RUN, of_16_words, 12_500, says="limit\n", largest=1_000_000),
-    Case("run, sixteen words a step, as JSON", [*RUN, "--format", "json"], of_16_words, 4_000, says='"why":"limit"}\n', largest=1_000_000, known="all records are in memory before the first is printed"),
+    Case("run, sixteen words a step, as JSON", [*RUN, "--format", "json"], of_16_words, 4_000, says='"why":"limit"}\n', largest=1_000_000),
     Case("run, moves of 64 words", ["run", *THREE, "--moves", "moves"], moves_of_64_words, 250, says="stuck\n", largest=3_000),
     Case("outline, quantifiers in each other", OUTLINE, quantifiers, 20, says="end\n"),
     Case("outline, numbers left out", OUTLINE, left_out, 8_000, says="end\n"),

@@ -1,5 +1,5 @@
 -- The text of a header.
-use Rattle.std.specs.Prelude.{ℕ, zero, suc, ◌+◌, nat_eq, Bool, true, false, ◌&&◌, List, [], ◌∷◌, ◌++◌, codes, length, take, drop, slice_index, if◌then◌else◌}
+use Rattle.std.specs.Prelude.{ℕ, zero, suc, ◌+◌, nat_eq, Bool, true, false, ◌&&◌, List, [], ◌∷◌, ◌++◌, codes, length, take, drop, slice_index, Option, if◌then◌else◌}
 use Rattle.std.specs.List.{list_any, list_all, flat_map}
 use Rattle.std.specs.Option.{option_map_or}
 use Rattle.std.specs.Str.{bytes_eq}
@@ -9,11 +9,13 @@ use Rattle.rg_words.specs.declared.operators.Connective.TheVariants.{And, Or, Im
 use Rattle.rg_tree.specs.Trees.{Proposition, truth, negation, connected, compared}
 use Rattle.rg_tree.specs.Printed.{formula_text}
 use Rattle.rg_tree.specs.Statements.{Statement, skip, assign, await, sequence, branch, loop, Specification, PartTree, ProgramTree}
+use Rattle.rg_c_plan.specs.declared.order.Rank.{Rank}
 use Rattle.rg_c_plan.specs.declared.kind.Kind.{Kind}
-use Rattle.rg_c_plan.specs.declared.kind.Kind.TheVariants.{Fixed, Own, Apart, Published, Atomic, Guarded}
+use Rattle.rg_c_plan.specs.declared.kind.Kind.TheVariants.{Fixed, Own, Apart, Published, Sheltered, Atomic, Guarded}
 use Rattle.rg_c_plan.specs.Accesses.{places}
 use Rattle.rg_c_plan.specs.Apart.{is_apart_kind}
 use Rattle.rg_c_plan.specs.Ways.{kind_at, has_atomic_accesses, is_atomic, is_guarded}
+use Rattle.rg_c_plan.specs.Orders.{is_always}
 use Rattle.rg_c_plan.specs.Views.{kinds_for}
 use Rattle.rg_c_values.specs.Translation.{container, test_in_c}
 use Rattle.rg_c_values.specs.Printed.{test_text}
@@ -28,6 +30,7 @@ use Rattle.rg_c.specs.Printed.{name_of, type_of, printed}
 use Rattle.rg_c.specs.Functions.{goes_round, function_name}
 use Rattle.rg_c.specs.Bodies.{PageTree, in_c, looped}
 use Rattle.rg_c.specs.Starts.{start_text}
+use Rattle.rg_c.specs.Orders.{order_text}
 use Rattle.rg_c.specs.Heads.{top_open, promise_head, promise_line, apart_lines, rests_text, guard_open, atomics_open, lock_free_line, atomics_close, hooks_text, apart_type, sections_text, struct_open, field_line, item_line, struct_close, assertion_text, part_open, round_open, guard_close}
 
 -- how a word of this kind is declared
@@ -36,6 +39,7 @@ kind_before Fixed = codes "const "
 kind_before Own = []
 kind_before Apart = codes "RGC_APART("
 kind_before Published = codes "RGC_ATOMIC("
+kind_before Sheltered = codes "RGC_ATOMIC("
 kind_before Atomic = codes "RGC_ATOMIC("
 kind_before Guarded = []
 
@@ -44,6 +48,7 @@ kind_after Fixed = []
 kind_after Own = []
 kind_after Apart = codes ")"
 kind_after Published = codes ")"
+kind_after Sheltered = codes ")"
 kind_after Atomic = codes ")"
 kind_after Guarded = []
 
@@ -120,8 +125,9 @@ abbrev pub apart_text : List Kind → List ℕ
 apart_text kinds = if list_any is_apart_kind kinds then apart_lines else []
 
 -- the comment at the top
-unfoldable pub top_text : List ℕ → List Kind → ProgramTree → List ℕ
-top_text name kinds p = top_open name ++ (promises_text p.words p.spec ++ (counts_text (counts_of p kinds) ++ (apart_text kinds ++ rests_text)))
+unfoldable pub top_text : List ℕ → List (Option Rank) → List Kind → ProgramTree → List ℕ
+top_text name order kinds p =
+    top_open name ++ (promises_text p.words p.spec ++ (counts_text (counts_of p order kinds) ++ (apart_text kinds ++ (order_text p order ++ rests_text))))
 
 -- some atomic word has a type of so many bits
 abbrev pub has_atomic : List Word → List Kind → ℕ → Bool
@@ -167,27 +173,24 @@ round_text name part p row f s =
     function_text p.words (round_open name part) (in_c p 1 s)
     ++ function_text p.words (part_open name part) (looped p 0 row f (calls (function_name name (goes_round part))))
 
--- the formula is the constant true
-abbrev pub is_always : Proposition → Bool
-is_always (truth b) = b
-is_always f = false
-
 abbrev pub body_text : List ℕ → List ℕ → PageTree → Statement → List ℕ
 body_text name part p (loop row f s) = if is_always f then round_text name part p row f s else run_text name part p (loop row f s)
 body_text name part p s = run_text name part p s
 
 -- a part at its place, from 0, by the kinds of words as it sees them
-abbrev pub part_text : List ℕ → ProgramTree → List Kind → Bool → ℕ → PartTree → List ℕ
-part_text name p kinds traced i part = body_text name part.name (record { words = p.words; kinds = kinds_for p kinds i; part = i; traced = traced }) part.body
+abbrev pub part_text : List ℕ → ProgramTree → List (Option Rank) → List Kind → Bool → List ℕ → ℕ → PartTree → List ℕ
+part_text name p order kinds traced lines i part =
+    body_text name part.name (record { words = p.words; kinds = kinds_for p order kinds i; part = i; traced = traced; lines = lines }) part.body
 
 -- the parts from the i-th one on
-abbrev pub parts_text : List ℕ → ProgramTree → List Kind → Bool → ℕ → List PartTree → List ℕ
-parts_text name p kinds traced i [] = []
-parts_text name p kinds traced i (part ∷ parts) = part_text name p kinds traced i part ++ parts_text name p kinds traced (i + 1) parts
+abbrev pub parts_text : List ℕ → ProgramTree → List (Option Rank) → List Kind → Bool → List ℕ → ℕ → List PartTree → List ℕ
+parts_text name p order kinds traced lines i [] = []
+parts_text name p order kinds traced lines i (part ∷ parts) =
+    part_text name p order kinds traced lines i part ++ parts_text name p order kinds traced lines (i + 1) parts
 
--- a program under this name, with these kinds of words, its steps marked or not
-abbrev pub header_text : List ℕ → Bool → List Kind → ProgramTree → List ℕ
-header_text name traced kinds program =
-    top_text name kinds program ++ (macros_text name program.words kinds ++ (struct_text name program kinds
+-- a program under this name, whose parts interrupt each other so, with these kinds of words, its steps marked or not, and these lines for those of its text
+abbrev pub header_text : List ℕ → Bool → List ℕ → List (Option Rank) → List Kind → ProgramTree → List ℕ
+header_text name traced lines order kinds program =
+    top_text name order kinds program ++ (macros_text name program.words kinds ++ (struct_text name program kinds
     ++ (start_text name program ++ (asserted name (codes "pre") program.words kinds program.spec.pre ++ (asserted name (codes "post") program.words kinds program.spec.post
-    ++ (parts_text name program kinds traced 0 program.parts ++ guard_close))))))
+    ++ (parts_text name program order kinds traced lines 0 program.parts ++ guard_close))))))

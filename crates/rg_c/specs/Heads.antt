@@ -30,6 +30,13 @@ apart_lines = joined (
     ∷ codes " * Where assertions keep the parts of a plain word apart, it is proved that no two parts ever stand at\n"
     ∷ codes " * steps that both access the word, and of which one writes it.\n" ∷ [])
 
+-- what is presumed of parts on one core
+unfoldable pub order_open : List ℕ
+order_open = joined (
+    codes " *\n"
+    ∷ codes " * What is presumed of parts that run on one coreany e that interrupts others is called by an interrupt, or is a\n"
+    ∷ codes " * task that doesn't wait: while it runs the others stand still, and in their critical sections it is kept away.\n" ∷ [])
+
 -- what the promise rests on
 unfoldable pub rests_text : List ℕ
 rests_text = joined (

@@ -15,4 +15,5 @@ pub mod Laws
 pub mod Functions
 pub mod Heads
 pub mod Starts
+pub mod Orders
 pub mod Headers

@@ -80,7 +80,7 @@ piece words reads (Contrary a) = contrary_text words reads (question a)
 
 -- where statements are written: what their text depends on, and the text of one
 abbrev pub page : Sheet → PageTree
-page s = record { words = s.layout.now; kinds = s.kinds.now; part = s.part; traced = s.is_traced }
+page s = record { words = s.layout.now; kinds = s.kinds.now; part = s.part; traced = s.is_traced; lines = s.lines.now }
 
 abbrev pub of : Sheet → Code → CStatement
 of s c = statement s.layout.now s.kinds.now c

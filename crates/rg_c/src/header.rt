@@ -11,7 +11,7 @@ ghost use Rattle.rg_c_plan.specs.Accesses.{places};
 ghost use Rattle.rg_c_plan.specs.Apart.{is_apart_kind};
 ghost use Rattle.rg_c_plan.specs.Ways.{kind_at, has_atomic_accesses, is_guarded};
 ghost use Rattle.rg_c_values.specs.Arrays.{array_length, array_name, indexed, member_of};
-ghost use Rattle.rg_c.specs.Headers.{kind_before, kind_after, bits_text, note_text, own_field, is_fixed_kind, kind_of_items, kinds_from, array_field, item_note, field_text, struct_text, conjunct_lines, promise_text, promises_text, counts_text, apart_text, top_text, has_atomic, lock_free_text, lock_free_texts, atomics_text, apart_hook, macros_text, asserted, function_text, run_text, round_text, is_always, body_text, part_text, parts_text, header_text};
+ghost use Rattle.rg_c.specs.Headers.{kind_before, kind_after, bits_text, note_text, own_field, is_fixed_kind, kind_of_items, kinds_from, array_field, item_note, field_text, struct_text, conjunct_lines, promise_text, promises_text, counts_text, apart_text, top_text, has_atomic, lock_free_text, lock_free_texts, atomics_text, apart_hook, macros_text, asserted, function_text, run_text, round_text, body_text, part_text, parts_text, header_text};
 ghost use Rattle.rg_c.specs.Functions.{goes_round, function_name};
 ghost use Rattle.rg_c.specs.CStatements.{calls};
 ghost use Rattle.rg_c.specs.Bodies.{in_c, looped};
@@ -24,6 +24,7 @@ use crate::heads::{
     push_item_line, push_lock_free_line, push_part_open, push_promise_line, push_rests_text,
     push_round_open, push_sections_text, push_struct_close, push_struct_open, push_top_open,
 };
+use crate::orders::push_order;
 use crate::print::{
     Piece, inner, push_closing, push_code, push_digits, push_line, push_opening, push_word_name,
     type_of,
@@ -33,6 +34,7 @@ use crate::start::push_start;
 use crate::statements::{At, push_loop, push_statement};
 use crate::tree::{Code, Line, Sheet};
 use rg_c_plan::kind::Kind;
+use rg_c_plan::order::{Rank, is_always};
 use rg_c_plan::views::kinds_for;
 use rg_c_plan::way::{has_atomic_accesses, kind_at};
 use rg_c_report::counts::{Counts, counts_of, push_counts_first, push_counts_second};
@@ -66,7 +68,7 @@ fn kind_before(kind: Kind) -> &'static str
 {
     match kind {
         Kind::Fixed => "const ",
-        Kind::Published | Kind::Atomic => "RGC_ATOMIC(",
+        Kind::Published | Kind::Sheltered | Kind::Atomic => "RGC_ATOMIC(",
         Kind::Apart => "RGC_APART(",
         Kind::Own | Kind::Guarded => "",
     }
@@ -76,7 +78,7 @@ fn kind_after(kind: Kind) -> &'static str
     ensures { result.now ≡ kind_after kind }
 {
     match kind {
-        Kind::Published | Kind::Atomic | Kind::Apart => ")",
+        Kind::Published | Kind::Sheltered | Kind::Atomic | Kind::Apart => ")",
         Kind::Fixed | Kind::Own | Kind::Guarded => "",
     }
 }
@@ -140,10 +142,7 @@ fn push_own_field(
 fn is_fixed_kind(kind: Kind) -> bool
     ensures { result ≡ is_fixed_kind kind }
 {
-    match kind {
-        Kind::Fixed => true,
-        Kind::Own | Kind::Apart | Kind::Published | Kind::Atomic | Kind::Guarded => false,
-    }
+    matches!(kind, Kind::Fixed)
 }
 
 /// Whether a word of one of these kinds has atomic accesses.
@@ -394,17 +393,19 @@ fn push_top(
     alloc: Global,
     text: &mut String,
     name: &str,
+    order: &[Option<Rank>],
     kinds: &[Kind],
     program: &Program,
 ) -> Result<(), AllocError>
     requires { SpecificationFits (length program.now.layout) (specification program.now.spec) }
-    ensures { OnOk result (string_bytes text.new ≡ string_bytes text.old ++ top_text name.now kinds.now (program_tree program.now)) }
+    ensures { OnOk result (string_bytes text.new ≡ string_bytes text.old ++ top_text name.now order.now kinds.now (program_tree program.now)) }
 {
-    let counts = counts_of(alloc, program, kinds)?;
+    let counts = counts_of(alloc, program, order, kinds)?;
     push_top_open(text, name)?;
     push_promises(alloc, text, &program.layout, &program.spec)?;
     push_counts(text, &counts)?;
     push_apart(text, kinds)?;
+    push_order(alloc, text, program, order)?;
     push_rests_text(text)
 }
 
@@ -678,16 +679,6 @@ fn push_rounds(
     push_closing(&outer, text)
 }
 
-/// Whether a formula is the constant true.
-fn is_always(f: &Formula) -> bool
-    ensures { result ≡ is_always (formula f.now) }
-{
-    match f {
-        Formula::Truth(b) => *b,
-        _ => false,
-    }
-}
-
 /// Adds the functions of a part with this body.
 fn push_body(
     s: &Sheet<'_>,
@@ -707,12 +698,14 @@ fn push_body(
     }
 }
 
-/// What the text of the parts depends on: the program, the kinds of its words, and how a header is made.
+/// What the text of the parts depends on: the program, which of its parts interrupt which, the kinds of its words, and how a header is made.
 #[derive(Clone, Copy)]
 struct Whole<'a> {
     alloc: Global,
     program: &'a Program,
+    order: &'a [Option<Rank>],
     kinds: &'a [Kind],
+    lines: &'a [u64],
     options: &'a Options<'a>,
 }
 
@@ -725,9 +718,9 @@ fn push_part(
 ) -> Result<(), AllocError>
     requires fits { StatementFits (length whole.now.program.now.layout) (statement part.now.body) }
     requires room { count_of (statement part.now.body) < 2 ^ 64 }
-    ensures { OnOk result (string_bytes text.new ≡ string_bytes text.old ++ part_text whole.now.options.now.name.now (program_tree whole.now.program.now) whole.now.kinds.now whole.now.options.now.is_traced place (part_tree part.now)) }
+    ensures { OnOk result (string_bytes text.new ≡ string_bytes text.old ++ part_text whole.now.options.now.name.now (program_tree whole.now.program.now) whole.now.order.now whole.now.kinds.now whole.now.options.now.is_traced whole.now.lines.now place (part_tree part.now)) }
 {
-    let kinds = kinds_for(whole.alloc, whole.program, whole.kinds, place)?;
+    let kinds = kinds_for(whole.alloc, whole.program, whole.order, whole.kinds, place)?;
     let s = Sheet {
         alloc: whole.alloc,
         layout: &whole.program.layout,
@@ -736,6 +729,7 @@ fn push_part(
         indent: "",
         part: place,
         is_traced: whole.options.is_traced,
+        lines: whole.lines,
     };
     let titles = Titles {
         name: whole.options.name,
@@ -747,7 +741,7 @@ fn push_part(
 /// Adds parts.
 fn push_parts(whole: &Whole<'_>, text: &mut String, parts: &[Part]) -> Result<(), AllocError>
     requires { PartsFit (length whole.now.program.now.layout) (map part_tree parts.now) }
-    ensures { OnOk result (string_bytes text.new ≡ string_bytes text.old ++ parts_text whole.now.options.now.name.now (program_tree whole.now.program.now) whole.now.kinds.now whole.now.options.now.is_traced 0 (map part_tree parts.now)) }
+    ensures { OnOk result (string_bytes text.new ≡ string_bytes text.old ++ parts_text whole.now.options.now.name.now (program_tree whole.now.program.now) whole.now.order.now whole.now.kinds.now whole.now.options.now.is_traced whole.now.lines.now 0 (map part_tree parts.now)) }
 {
     let mut place = 0;
     for part in parts {
@@ -757,16 +751,19 @@ fn push_parts(whole: &Whole<'_>, text: &mut String, parts: &[Part]) -> Result<()
     Ok(())
 }
 
-/// A program as one header of C11, with these kinds of words.
+/// A program as one header of C11, whose parts interrupt each other so, with these kinds of words. `lines` has the line that is printed for each line of the
+/// text, after a first one for none, and 0 for a `skip` that nobody wrote; where it is empty, the lines of the text are printed.
 ///
 /// An error comes only where memory was refused.
 pub fn header(
     alloc: Global,
     program: &Program,
+    order: &[Option<Rank>],
     kinds: &[Kind],
+    lines: &[u64],
     options: &Options<'_>,
 ) -> Result<String, AllocError>
-    ensures { IfOk result (λ text. string_bytes text ≡ header_text options.now.name.now options.now.is_traced kinds.now (program_tree program.now)) }
+    ensures { IfOk result (λ text. string_bytes text ≡ header_text options.now.name.now options.now.is_traced lines.now order.now kinds.now (program_tree program.now)) }
 {
     let layout = &program.layout;
     layout.facts();
@@ -779,8 +776,9 @@ pub fn header(
         indent: "",
         part: 0,
         is_traced: options.is_traced,
+        lines,
     };
-    push_top(alloc, &mut text, options.name, kinds, program)?;
+    push_top(alloc, &mut text, options.name, order, kinds, program)?;
     push_macros(alloc, &mut text, options.name, layout, kinds)?;
     push_struct(alloc, &mut text, options.name, program, kinds)?;
     push_start(alloc, &mut text, options.name, program)?;
@@ -789,7 +787,9 @@ pub fn header(
     let whole = Whole {
         alloc,
         program,
+        order,
         kinds,
+        lines,
         options,
     };
     push_parts(&whole, &mut text, &program.parts)?;

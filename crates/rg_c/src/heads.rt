@@ -2,7 +2,7 @@
 
 ghost use Rattle.std.specs.Prelude.{◌≡◌, ◌++◌, string_bytes, IfOk, OnOk};
 ghost use Rattle.std.specs.List.{flat_map};
-ghost use Rattle.rg_c.specs.Heads.{top_open, promise_head, promise_line, apart_lines, rests_text, guard_open, atomics_open, lock_free_line, atomics_close, hooks_text, apart_type, sections_text, struct_open, field_line, item_line, struct_close, start_lines, assertion_text, part_open, round_open, guard_close};
+ghost use Rattle.rg_c.specs.Heads.{top_open, promise_head, promise_line, apart_lines, order_open, rests_text, guard_open, atomics_open, lock_free_line, atomics_close, hooks_text, apart_type, sections_text, struct_open, field_line, item_line, struct_close, start_lines, assertion_text, part_open, round_open, guard_close};
 
 use std::alloc::{AllocError, Global};
 
@@ -69,6 +69,21 @@ pub(crate) fn push_apart_lines(text: &mut String) -> Result<(), AllocError>
             " *\n",
             " * Where assertions keep the parts of a plain word apart, it is proved that no two parts ever stand at\n",
             " * steps that both access the word, and of which one writes it.\n",
+        ],
+    )
+}
+
+/// Adds what is presumed of parts on one core.
+#[tactic(auto, unfolding(crate::specs::Heads::order_open))]
+pub(crate) fn push_order_open(text: &mut String) -> Result<(), AllocError>
+    ensures { OnOk result (string_bytes text.new ≡ string_bytes text.old ++ order_open) }
+{
+    push_all(
+        text,
+        &[
+            " *\n",
+            " * What is presumed of parts that run on one coreany e that interrupts others is called by an interrupt, or is a\n",
+            " * task that doesn't wait: while it runs the others stand still, and in their critical sections it is kept away.\n",
         ],
     )
 }

@@ -5,6 +5,7 @@ mod assigned;
 pub mod header;
 mod heads;
 pub mod laws;
+mod orders;
 mod print;
 mod questions;
 mod reads;

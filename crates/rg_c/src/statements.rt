@@ -13,6 +13,7 @@ ghost use Rattle.rg_c.specs.Source.{assignment_source};
 ghost use Rattle.rg_c.specs.CStatements.{◌⨾◌, hook};
 ghost use Rattle.rg_c.specs.Fitting.{AssignmentsFit, StatementFits, ItemsFit};
 ghost use Rattle.rg_c.specs.View.{page, on, if_opened, loop_opened};
+ghost use Rattle.rg_c_report.specs.Lines.{line_shown};
 
 use crate::print::{Piece, inner, push_closing, push_code, push_digits, push_opening};
 use crate::questions::{loaded_reads, push_before, push_stops, question};
@@ -21,6 +22,7 @@ use crate::steps::{marked, push_note, push_step};
 use crate::tree::{Code, Line, Sheet};
 use Code::{Single, Then};
 use rg_c_plan::way::way_of;
+use rg_c_report::lines::line_shown;
 use rg_c_values::translate::test_in_c;
 use rg_tree::condition::Assign;
 use rg_tree::statement::{Items, Stmt};
@@ -53,19 +55,22 @@ pub(crate) struct At {
 
 /// The beginning of a comment for a line of the program.
 fn row(s: &Sheet<'_>, at: At) -> Result<String, AllocError>
-    ensures { IfOk result (λ text. string_bytes text ≡ decimal at.line ++ codes ": ") }
+    ensures { IfOk result (λ text. string_bytes text ≡ decimal (line_shown s.now.lines.now at.line) ++ codes ": ") }
 {
     let mut text = String::new(s.alloc);
-    push_digits(&mut text, u64::from(at.line))?;
+    push_digits(&mut text, line_shown(s.lines, at.line))?;
     text.push_str(": ")?;
     Ok(text)
 }
 
-/// Adds a `skip`, and the macro that stands for it.
+/// Adds a `skip`, and the macro that stands for it; nothing for one that has no line.
 fn push_skip(s: &Sheet<'_>, text: &mut String, at: At, what: &str) -> Result<(), AllocError>
     ensures { OnOk result (string_bytes text.new ≡ string_bytes text.old ++ on s.now (skipped (page s.now) at.place at.line (hook what.now))) }
 {
     let mark = mark_of(s, at.place)?;
+    if line_shown(s.lines, at.line) == 0 {
+        return push_code(s, text, &marked(s, &mark));
+    }
     let mut comment = row(s, at)?;
     comment.push_str("skip")?;
     let done = Single(Line::Hook(what));
@@ -75,10 +80,10 @@ fn push_skip(s: &Sheet<'_>, text: &mut String, at: At, what: &str) -> Result<(),
 
 /// What stands for a `skip` on this line.
 fn skip_hook(s: &Sheet<'_>, line: u32) -> Result<String, AllocError>
-    ensures { IfOk result (λ text. string_bytes text ≡ codes "RGC_SKIP(" ++ (decimal line ++ codes ")")) }
+    ensures { IfOk result (λ text. string_bytes text ≡ codes "RGC_SKIP(" ++ (decimal (line_shown s.now.lines.now line) ++ codes ")")) }
 {
     let mut text = String::from_str(s.alloc, "RGC_SKIP(")?;
-    push_digits(&mut text, u64::from(line))?;
+    push_digits(&mut text, line_shown(s.lines, line))?;
     text.push_str(")")?;
     Ok(text)
 }
@@ -86,7 +91,7 @@ fn skip_hook(s: &Sheet<'_>, line: u32) -> Result<String, AllocError>
 /// Adds an assignment.
 fn push_assign(s: &Sheet<'_>, text: &mut String, at: At, a: &Assign) -> Result<(), AllocError>
     requires { AssignmentsFit (length s.now.layout.now) (assignment a.now ∷ []) }
-    ensures { OnOk result (string_bytes text.new ≡ string_bytes text.old ++ on s.now (sourced at.line (assignment_source s.now.layout.now (assignment a.now)) ⨾ step_of s.now.layout.now s.now.kinds.now (mark_of (page s.now) at.place) None (assignment a.now ∷ []))) }
+    ensures { OnOk result (string_bytes text.new ≡ string_bytes text.old ++ on s.now (sourced (page s.now) at.line (assignment_source s.now.layout.now (assignment a.now)) ⨾ step_of s.now.layout.now s.now.kinds.now (mark_of (page s.now) at.place) None (assignment a.now ∷ []))) }
 {
     let mark = mark_of(s, at.place)?;
     let mut comment = row(s, at)?;
@@ -105,7 +110,7 @@ fn push_await(
 ) -> Result<(), AllocError>
     requires guard { FormulaFits (formula f.now) (length s.now.layout.now) }
     requires values { AssignmentsFit (length s.now.layout.now) (map assignment act.now) }
-    ensures { OnOk result (string_bytes text.new ≡ string_bytes text.old ++ on s.now (sourced at.line (await_source s.now.layout.now (formula f.now) (map assignment act.now)) ⨾ step_of s.now.layout.now s.now.kinds.now (mark_of (page s.now) at.place) (Some (formula f.now)) (map assignment act.now))) }
+    ensures { OnOk result (string_bytes text.new ≡ string_bytes text.old ++ on s.now (sourced (page s.now) at.line (await_source s.now.layout.now (formula f.now) (map assignment act.now)) ⨾ step_of s.now.layout.now s.now.kinds.now (mark_of (page s.now) at.place) (Some (formula f.now)) (map assignment act.now))) }
 {
     let mark = mark_of(s, at.place)?;
     let mut comment = row(s, at)?;

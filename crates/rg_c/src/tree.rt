@@ -93,7 +93,7 @@ pub(crate) const BREAKS: Code<'static> = Code::Single(Line::Breaks);
 pub(crate) const WAITING: Code<'static> = Code::Single(Line::Hook("RGC_WAIT(w)"));
 
 /// Where statements are written: the words and their kinds as the part sees them, how they are read, the indent, the part's place,
-/// from 0, and whether steps are marked.
+/// from 0, whether steps are marked, and the lines that are printed for those of the program.
 #[derive(Clone, Copy)]
 pub(crate) struct Sheet<'a> {
     pub(crate) alloc: Global,
@@ -103,4 +103,5 @@ pub(crate) struct Sheet<'a> {
     pub(crate) indent: &'a str,
     pub(crate) part: usize,
     pub(crate) is_traced: bool,
+    pub(crate) lines: &'a [u64],
 }

@@ -1,17 +1,22 @@
 -- The tests that the code makes of kinds decide whether they are sound.
-use Rattle.std.proofs.Common.{◌≡◌, ◌∙◌, ℕ, suc, get_or, ◌+◌, ◌<◌, Bool, true, false, not, ◌&&◌, List, [], ◌∷◌, None, length, cond, refl, ap, sym, subst, arith}
+use Rattle.std.proofs.Common.{◌≡◌, ◌∙◌, ℕ, suc, get_or, ◌+◌, ◌<◌, Bool, true, false, not, ◌&&◌, List, [], ◌∷◌, Option, Some, None, length, cond, refl, ap, sym, subst, arith}
 use Rattle.std.specs.Bool.{Decides}
 use Rattle.std.specs.List.{AllPairs, list_any}
+use Rattle.std.specs.Option.{option_map_or}
 use Rattle.std.proofs.lemmas.Bool.{true≢false, not-true, not_from_false, false_from_ne_true, or_parts, or_from, and_parts, and_from}
 use Rattle.std.proofs.lemmas.List.FromFn.{length-map-range_with_len, get_or-map-range_with_len}
 use Rattle.std.proofs.lemmas.List.Kept.{AllPairs-cons}
 use Rattle.rg_tree.specs.Statements.{ProgramTree}
 use Rattle.rg_c_plan.specs.declared.access.Access.{Access}
+use Rattle.rg_c_plan.specs.declared.order.Rank.{Rank}
+use Rattle.rg_c_plan.specs.declared.planned.Unplanned.{Unplanned}
+use Rattle.rg_c_plan.specs.declared.planned.Unplanned.TheVariants.{Wait}
 use Rattle.rg_c_plan.specs.declared.kind.Kind.{Kind}
-use Rattle.rg_c_plan.specs.declared.kind.Kind.TheVariants.{Fixed, Own, Apart, Published, Atomic, Guarded}
+use Rattle.rg_c_plan.specs.declared.kind.Kind.TheVariants.{Fixed, Own, Apart, Published, Sheltered, Atomic, Guarded}
 use Rattle.rg_c_plan.specs.Accesses.{accesses, world_access, is_fixed, is_touched, meet, some_meet}
 use Rattle.rg_c_plan.specs.Apart.{is_apart, may_be_apart}
 use Rattle.rg_c_plan.specs.Ways.{kind_at}
+use Rattle.rg_c_plan.specs.Orders.{waiting}
 use Rattle.rg_c_plan.specs.Views.{ViewTree, views}
 use Rattle.rg_c_plan.specs.Kinds.{bare_kind, bare_kinds, is_crowded, kind_among, kind_of, kinds_of, failing, unplanned}
 use Rattle.rg_c_plan.specs.Sound.{IsSound}
@@ -45,28 +50,30 @@ module _ (p : ProgramTree) where
   record WordIsSound (kind : Kind) (k : ℕ) : Type 0 where
     pub fixed : Decides (is_fixed p.words k) (kind ≡ Fixed)
     pub published : kind ≡ Published → ⊥
+    pub sheltered : kind ≡ Sheltered → ⊥
     pub own : kind ≡ Own → some_meet (accesses p k) ≡ false
     pub apart : kind ≡ Apart → may_be_apart p k ≡ true
     pub guarded : kind ≡ Guarded → is_touched (world_access k p.words p.spec.rely) ≡ false
 
   word_is_sound : (kind : Kind) (k : ℕ) → is_word_sound p kind k ≡ true → WordIsSound kind k
-  word_is_sound Fixed k h = record { fixed = (λ e. refl, λ e. h); published = λ e. cc e; own = λ e. cc e; apart = λ e. cc e; guarded = λ e. cc e }
+  word_is_sound Fixed k h = record { fixed = (λ e. refl, λ e. h); published = λ e. cc e; sheltered = λ e. cc e; own = λ e. cc e; apart = λ e. cc e; guarded = λ e. cc e }
   word_is_sound Own k h =
       let parts = and_parts (not (is_fixed p.words k)) (not (some_meet (accesses p k))) h in
       let free = not-true (is_fixed p.words k) parts.0 in
-      record { fixed = (λ e. absurd (true≢false (sym e ∙ free)), λ e. cc e); published = λ e. cc e; own = λ e. not-true (some_meet (accesses p k)) parts.1; apart = λ e. cc e; guarded = λ e. cc e }
+      record { fixed = (λ e. absurd (true≢false (sym e ∙ free)), λ e. cc e); published = λ e. cc e; sheltered = λ e. cc e; own = λ e. not-true (some_meet (accesses p k)) parts.1; apart = λ e. cc e; guarded = λ e. cc e }
   word_is_sound Apart k h =
       let parts = and_parts (not (is_fixed p.words k)) (may_be_apart p k) h in
       let free = not-true (is_fixed p.words k) parts.0 in
-      record { fixed = (λ e. absurd (true≢false (sym e ∙ free)), λ e. cc e); published = λ e. cc e; own = λ e. cc e; apart = λ e. parts.1; guarded = λ e. cc e }
+      record { fixed = (λ e. absurd (true≢false (sym e ∙ free)), λ e. cc e); published = λ e. cc e; sheltered = λ e. cc e; own = λ e. cc e; apart = λ e. parts.1; guarded = λ e. cc e }
   word_is_sound Published k h = cc h
+  word_is_sound Sheltered k h = cc h
   word_is_sound Atomic k h =
       let free = not-true (is_fixed p.words k) h in
-      record { fixed = (λ e. absurd (true≢false (sym e ∙ free)), λ e. cc e); published = λ e. cc e; own = λ e. cc e; apart = λ e. cc e; guarded = λ e. cc e }
+      record { fixed = (λ e. absurd (true≢false (sym e ∙ free)), λ e. cc e); published = λ e. cc e; sheltered = λ e. cc e; own = λ e. cc e; apart = λ e. cc e; guarded = λ e. cc e }
   word_is_sound Guarded k h =
       let parts = and_parts (not (is_fixed p.words k)) (not (is_touched (world_access k p.words p.spec.rely))) h in
       let free = not-true (is_fixed p.words k) parts.0 in
-      record { fixed = (λ e. absurd (true≢false (sym e ∙ free)), λ e. cc e); published = λ e. cc e; own = λ e. cc e; apart = λ e. cc e; guarded = λ e. not-true (is_touched (world_access k p.words p.spec.rely)) parts.1 }
+      record { fixed = (λ e. absurd (true≢false (sym e ∙ free)), λ e. cc e); published = λ e. cc e; sheltered = λ e. cc e; own = λ e. cc e; apart = λ e. cc e; guarded = λ e. not-true (is_touched (world_access k p.words p.spec.rely)) parts.1 }
 
   free_word : (kind : Kind) (k : ℕ) → WordIsSound kind k → (kind ≡ Fixed → ⊥) → not (is_fixed p.words k) ≡ true
   free_word kind k w ne = not_from_false (is_fixed p.words k) (false_from_ne_true (is_fixed p.words k) (λ e. ne (w.fixed.0 e)))
@@ -76,20 +83,24 @@ module _ (p : ProgramTree) where
   word_passes Own k w = and_from (not (is_fixed p.words k)) (not (some_meet (accesses p k))) (free_word Own k w (λ e. cc e)) (not_from_false (some_meet (accesses p k)) (w.own refl))
   word_passes Apart k w = and_from (not (is_fixed p.words k)) (may_be_apart p k) (free_word Apart k w (λ e. cc e)) (w.apart refl)
   word_passes Published k w = absurd (w.published refl)
+  word_passes Sheltered k w = absurd (w.sheltered refl)
   word_passes Atomic k w = free_word Atomic k w (λ e. cc e)
   word_passes Guarded k w =
       and_from (not (is_fixed p.words k)) (not (is_touched (world_access k p.words p.spec.rely))) (free_word Guarded k w (λ e. cc e)) (not_from_false (is_touched (world_access k p.words p.spec.rely)) (w.guarded refl))
 
   -- kinds that pass the tests are sound
-  pub sound_from_tests : (kinds : List Kind) → length kinds ≡ length p.words → are_words_sound p kinds ≡ true → failing (views p kinds) ≡ None → IsSound kinds p
-  sound_from_tests kinds size words steps =
+  pub sound_from_tests : (kinds : List Kind) (order : List (Option Rank)) → length kinds ≡ length p.words → are_words_sound p kinds ≡ true → waiting p order ≡ None →
+      failing (views p order kinds) ≡ None → IsSound kinds order p
+  sound_from_tests kinds order size words waits steps =
       record {
         count = size;
         fixed = λ k less. (word k less).fixed;
         published = λ k less. (word k less).published;
+        sheltered = λ k less. (word k less).sheltered;
         own = λ k less e. apart_from_test (accesses p k) ((word k less).own e);
         apart = λ k less e. (word k less).apart e;
         guarded = λ k less e. (word k less).guarded e;
+        waits = waits;
         steps = steps;
       }
     where
@@ -97,14 +108,15 @@ module _ (p : ProgramTree) where
       word k less = word_is_sound (kind_at kinds k) k (all_at (λ i. is_word_sound p (kind_at kinds i) i) 0 (length kinds) words k (omega arith) (omega (arith, less, size)))
 
   -- sound kinds pass the tests
-  pub words_pass : (kinds : List Kind) → IsSound kinds p → are_words_sound p kinds ≡ true
-  words_pass kinds sound =
+  pub words_pass : (kinds : List Kind) (order : List (Option Rank)) → IsSound kinds order p → are_words_sound p kinds ≡ true
+  words_pass kinds order sound =
       all_from (λ i. is_word_sound p (kind_at kinds i) i) 0 (length kinds) (λ k from to.
       let size = sound.count in
       let less : k < length p.words = omega (arith, to, size) in
       word_passes (kind_at kinds k) k (record {
         fixed = sound.fixed k less;
         published = sound.published k less;
+        sheltered = sound.sheltered k less;
         own = λ e. test_from_apart (accesses p k) (sound.own k less e);
         apart = λ e. sound.apart k less e;
         guarded = λ e. sound.guarded k less e;
@@ -139,16 +151,22 @@ module _ (p : ProgramTree) where
   pub bare_at : (apart : List Bool) (k : ℕ) → k < length p.words → kind_at (bare_kinds p apart) k ≡ bare_kind p apart k
   bare_at apart k less = get_or-map-range_with_len (bare_kind p apart) 0 (length p.words) k k Own less (omega arith)
 
-  kinds_length : (apart : List Bool) → length (kinds_of p apart) ≡ length p.words
-  kinds_length apart = length-map-range_with_len (kind_of p apart) 0 (length p.words)
+  kinds_length : (order : List (Option Rank)) (apart : List Bool) → length (kinds_of p order apart) ≡ length p.words
+  kinds_length order apart = length-map-range_with_len (kind_of p order apart) 0 (length p.words)
 
-  -- where no step is refused, they are sound
-  pub chosen_sound : (apart : List Bool) → unplanned p apart ≡ None → IsSound (kinds_of p apart) p
-  chosen_sound apart none =
-      sound_from_tests (kinds_of p apart) (kinds_length apart)
-      (all_from (λ i. is_word_sound p (kind_at (kinds_of p apart) i) i) 0 (length (kinds_of p apart)) (λ k from to.
-      let size = kinds_length apart in
+  -- where nothing is refused, no part waits, and no step fails
+  none_refused : (o : Option ℕ) (r : Option Unplanned) → option_map_or (λ row. Some (Wait row)) o r ≡ None → (o ≡ None) × (r ≡ None)
+  none_refused None r h = (refl, h)
+  none_refused (Some row) r h = cc h
+
+  -- where nothing is refused, they are sound
+  pub chosen_sound : (order : List (Option Rank)) (apart : List Bool) → unplanned p order apart ≡ None → IsSound (kinds_of p order apart) order p
+  chosen_sound order apart none =
+      let parts = none_refused (waiting p order) (failing (views p order (kinds_of p order apart))) none in
+      sound_from_tests (kinds_of p order apart) order (kinds_length order apart)
+      (all_from (λ i. is_word_sound p (kind_at (kinds_of p order apart) i) i) 0 (length (kinds_of p order apart)) (λ k from to.
+      let size = kinds_length order apart in
       let less : k < length p.words = omega (arith, to, size) in
-      let is : kind_at (kinds_of p apart) k ≡ kind_of p apart k = get_or-map-range_with_len (kind_of p apart) 0 (length p.words) k k Own less (omega arith) in
-      subst (λ (kind : Kind). is_word_sound p kind k ≡ true) (sym is) (chosen_kind apart (views p (bare_kinds p apart)) k)))
-      none
+      let is : kind_at (kinds_of p order apart) k ≡ kind_of p order apart k = get_or-map-range_with_len (kind_of p order apart) 0 (length p.words) k k Own less (omega arith) in
+      subst (λ (kind : Kind). is_word_sound p kind k ≡ true) (sym is) (chosen_kind apart (views p order (bare_kinds p apart)) k)))
+      parts.0 parts.1

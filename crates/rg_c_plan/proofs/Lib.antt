@@ -4,6 +4,7 @@ mod Indices
 mod Singles
 mod Checked
 mod Written
+mod Orders
 mod Meeting
 pub mod Where
 mod LastChanges

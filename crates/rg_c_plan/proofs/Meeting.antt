@@ -2,7 +2,7 @@
 use Rattle.std.proofs.Common.{◌≡◌, ◌∙◌, ◌≢◌, ℕ, zero, suc, ◌+◌, ◌<◌, ◌≤◌, Bool, true, false, not, ◌&&◌, ◌||◌, nat_eq, List, [], ◌∷◌, Option, Some, None, length, get_or, slice_get, map, option_map, cond, ◌⊎◌, inl, inr, refl, ap, sym, subst, arith}
 use Rattle.std.specs.List.{All, Contains}
 use Rattle.std.specs.Option.{option_map_or}
-use Rattle.std.proofs.lemmas.Bool.{true≢false, not-true, not_from_false, false_from_ne_true, or_left, or_right, or_parts, or_cases, and_parts, and_from, ne_eqb, cases_eq, cases_lt, cases_order}
+use Rattle.std.proofs.lemmas.Bool.{true≢false, not-true, not_from_false, false_from_ne_true, true_from_ne_false, or_left, or_right, or_parts, or_cases, or_from, and_parts, and_from, ne_eqb, cases_eq, cases_lt, cases_order}
 use Rattle.std.proofs.lemmas.List.{length-map, get_or_past}
 use Rattle.std.proofs.lemmas.List.Elements.{All-nil, All-cons, All-contains}
 use Rattle.std.proofs.lemmas.List.FromFn.{length-map-range_with_len, get_or-map-range_with_len}
@@ -13,22 +13,25 @@ use Rattle.rg_tree.specs.TypedPrograms.{IsTypedProgram}
 use Rattle.rg_tree.specs.Traces.{State}
 use Rattle.rg_c_plan.specs.declared.access.Access.{Access}
 use Rattle.rg_c_plan.specs.declared.kind.Kind.{Kind}
-use Rattle.rg_c_plan.specs.declared.kind.Kind.TheVariants.{Fixed, Own, Apart, Published, Atomic, Guarded}
+use Rattle.rg_c_plan.specs.declared.kind.Kind.TheVariants.{Fixed, Own, Apart, Published, Sheltered, Atomic, Guarded}
+use Rattle.rg_c_plan.specs.declared.order.Rank.{Rank}
 use Rattle.rg_c_plan.specs.declared.planned.Unplanned.{Unplanned}
 use Rattle.rg_c_plan.specs.declared.way.Way.TheVariants.{Direct, Load, Store, Exchange, Select, Section}
 use Rattle.rg_c_plan.specs.Accesses.{StepTree, steps, reads, writes, touches, part_access, world_access, accesses, is_touched, meet, some_meet, places}
 use Rattle.rg_c_plan.specs.Ways.{kind_at, is_atomic, is_published, is_guarded, exposes, touches_guarded, times_assigned, way_at, exposes_another, first_exposed, in_section, way_from, way_of}
 use Rattle.rg_c_plan.specs.Once.{is_exposed_twice, is_chosen, exposes_one, is_one_access}
 use Rattle.rg_c_plan.specs.Made.{step_made}
-use Rattle.rg_c_plan.specs.Views.{no_access, others_write, seen_kind, kinds_for, views_from}
+use Rattle.rg_c_plan.specs.Orders.{interrupts, may_act}
+use Rattle.rg_c_plan.specs.Views.{no_access, others_access, seen_kind, kinds_for, views_from}
 use Rattle.rg_c_plan.specs.Apart.{world_meets, is_early, is_apart_kind, apart_word, late_word}
 use Rattle.rg_c_plan.specs.Kinds.{failed, late, step_fault, failing_step, failing}
 use Rattle.rg_c_plan.specs.Sound.{IsSound}
-use Rattle.rg_c_plan.specs.Laws.{IsStepOf, ExposesOne, StepsAreOneAccess, NoOtherWrites, NoOtherTouches, OthersMeetNobody, GuardedWordsInSections, NoRaces, NoRacesOutside, StepsAreEarly}
+use Rattle.rg_c_plan.specs.Laws.{IsStepOf, ExposesOne, StepsAreOneAccess, NoOtherWrites, NoOtherTouches, OthersMeetNobody, GuardedWordsInSections, KeepsOff, NoRaces, NoRacesOutside, StepsAreEarly}
 use Rattle.rg_c_plan.proofs.Places.{any_at}
 use Rattle.rg_c_plan.proofs.Lists.{all_fail, passes_at, found_none}
 use Rattle.rg_c_plan.proofs.Singles.{step_once, chosen_step_once}
 use Rattle.rg_c_plan.proofs.Written.{NobodyMeetsAt, fixed_apart}
+use Rattle.rg_c_plan.proofs.Orders.{never_both, another, acts}
 
 -- a way at a word isn't a section
 way_at_outside : (kinds : List Kind) (guard : Option Proposition) (act : List Assignment) (m : ℕ) → way_at kinds guard act m ≡ Section → ⊥
@@ -112,22 +115,22 @@ both_none None r h = (refl, h)
 both_none (Some u) r h = cc h
 
 -- where no step fails, none of a part does
-module _ (p : ProgramTree) (kinds : List Kind) where
-  part_right : (m : ℕ) (parts : List PartTree) (i : ℕ) (part : PartTree) → failing (views_from p kinds m parts) ≡ None → slice_get parts i ≡ Some part → failing_step (kinds_for p kinds (m + i)) (steps part.body) ≡ None
+module _ (p : ProgramTree) (order : List (Option Rank)) (kinds : List Kind) where
+  part_right : (m : ℕ) (parts : List PartTree) (i : ℕ) (part : PartTree) → failing (views_from p order kinds m parts) ≡ None → slice_get parts i ≡ Some part → failing_step (kinds_for p order kinds (m + i)) (steps part.body) ≡ None
   part_right m [] i part h e = absurd (nothing_there i e)
     where
       nothing_there : (i : ℕ) → slice_get (let none : List PartTree = [] in none) i ≡ Some part → ⊥
       nothing_there zero e = cc e
       nothing_there (suc i) e = cc e
   part_right m (q ∷ parts) zero part h e =
-      let first = (both_none (failing_step (kinds_for p kinds m) (steps q.body)) (failing (views_from p kinds (m + 1) parts)) h).0 in
+      let first = (both_none (failing_step (kinds_for p order kinds m) (steps q.body)) (failing (views_from p order kinds (m + 1) parts)) h).0 in
       let same : q ≡ part = cc e in
       let place : m ≡ m + 0 = omega arith in
-      subst (λ n. failing_step (kinds_for p kinds n) (steps part.body) ≡ None) place (subst (λ (r : PartTree). failing_step (kinds_for p kinds m) (steps r.body) ≡ None) same first)
+      subst (λ n. failing_step (kinds_for p order kinds n) (steps part.body) ≡ None) place (subst (λ (r : PartTree). failing_step (kinds_for p order kinds m) (steps r.body) ≡ None) same first)
   part_right m (q ∷ parts) (suc i) part h e =
-      let rest = (both_none (failing_step (kinds_for p kinds m) (steps q.body)) (failing (views_from p kinds (m + 1) parts)) h).1 in
+      let rest = (both_none (failing_step (kinds_for p order kinds m) (steps q.body)) (failing (views_from p order kinds (m + 1) parts)) h).1 in
       let place : m + 1 + i ≡ m + suc i = omega arith in
-      subst (λ n. failing_step (kinds_for p kinds n) (steps part.body) ≡ None) place (part_right (m + 1) parts i part rest e)
+      subst (λ n. failing_step (kinds_for p order kinds n) (steps part.body) ≡ None) place (part_right (m + 1) parts i part rest e)
 
 each_right : (kinds : List Kind) (ss : List StepTree) → failing_step kinds ss ≡ None → All (λ s. step_fault kinds s ≡ None) ss
 each_right kinds [] h = All-nil (λ (s : StepTree). step_fault kinds s ≡ None)
@@ -136,14 +139,14 @@ each_right kinds (s ∷ ss) h =
     All-cons (λ (t : StepTree). step_fault kinds t ≡ None) s ss parts.0 (each_right kinds ss parts.1)
 
 -- so each step is one access, and no late one touches a word at which parts are kept apart
-module _ (kinds : List Kind) (p : ProgramTree) (sound : IsSound kinds p) (i : ℕ) (s : StepTree) (at : IsStepOf p i s) where
+module _ (kinds : List Kind) (order : List (Option Rank)) (p : ProgramTree) (sound : IsSound kinds order p) (i : ℕ) (s : StepTree) (at : IsStepOf p i s) where
   abbrev view : List Kind
-  view = kinds_for p kinds i
+  view = kinds_for p order kinds i
 
   step_right : (is_one_access view s.guard s.act ≡ true) × (late_word view s.guard s.act ≡ None)
   step_right =
       let place : 0 + i ≡ i = omega arith in
-      let right = subst (λ n. failing_step (kinds_for p kinds n) (steps at.0.body) ≡ None) place (part_right p kinds 0 p.parts i at.0 sound.steps at.1) in
+      let right = subst (λ n. failing_step (kinds_for p order kinds n) (steps at.0.body) ≡ None) place (part_right p order kinds 0 p.parts i at.0 sound.steps at.1) in
       by (is_one_access view s.guard s.act) (late_word view s.guard s.act) (All-contains (λ (t : StepTree). step_fault view t ≡ None) (steps at.0.body) s (each_right view (steps at.0.body) right) at.2)
     where
       by : (b : Bool) (o : Option ℕ) → cond b (option_map (late s) o) (Some (failed view s)) ≡ None → (b ≡ true) × (o ≡ None)
@@ -152,17 +155,18 @@ module _ (kinds : List Kind) (p : ProgramTree) (sound : IsSound kinds p) (i : �
       by false o h = cc h
 
 pub steps_are_one_access : StepsAreOneAccess
-steps_are_one_access kinds p sound i s at = one_access (kinds_for p kinds i) s (step_right kinds p sound i s at).0
+steps_are_one_access kinds order p sound i s at = one_access (kinds_for p order kinds i) s (step_right kinds order p sound i s at).0
 
 -- the kind of a word to a part
-kind_seen : (p : ProgramTree) (kinds : List Kind) (i k : ℕ) → k < length p.words → kind_at (kinds_for p kinds i) k ≡ seen_kind (kind_at kinds k) (others_write p i k)
-kind_seen p kinds i k less = get_or-map-range_with_len (λ j. seen_kind (kind_at kinds j) (others_write p i j)) 0 (length p.words) k k Own less (omega arith)
+kind_seen : (p : ProgramTree) (order : List (Option Rank)) (kinds : List Kind) (i k : ℕ) → k < length p.words →
+    kind_at (kinds_for p order kinds i) k ≡ seen_kind (kind_at kinds k) (others_access p order i k)
+kind_seen p order kinds i k less = get_or-map-range_with_len (λ j. seen_kind (kind_at kinds j) (others_access p order i j)) 0 (length p.words) k k Own less (omega arith)
 
 pub steps_are_early : StepsAreEarly
-steps_are_early kinds p sound i s at k less e touched = by (is_early view s.guard s.act) refl (step_right kinds p sound i s at).1
+steps_are_early kinds order p sound i s at k less e touched = by (is_early view s.guard s.act) refl (step_right kinds order p sound i s at).1
   where
     view : List Kind
-    view = kinds_for p kinds i
+    view = kinds_for p order kinds i
 
     here : ℕ → Bool
     here j = is_apart_kind (kind_at view j) && touches j s.guard s.act
@@ -170,17 +174,13 @@ steps_are_early kinds p sound i s at k less e touched = by (is_early view s.guar
     by : (b : Bool) → is_early view s.guard s.act ≡ b → cond b None (apart_word view s.guard s.act) ≡ None → is_early view s.guard s.act ≡ true
     by true early h = early
     by false late h =
-        let size : length view ≡ length p.words = length-map-range_with_len (λ j. seen_kind (kind_at kinds j) (others_write p i j)) 0 (length p.words) in
-        let seen : kind_at view k ≡ Apart = kind_seen p kinds i k less ∙ ap (λ (kind : Kind). seen_kind kind (others_write p i k)) e in
+        let size : length view ≡ length p.words = length-map-range_with_len (λ j. seen_kind (kind_at kinds j) (others_access p order i j)) 0 (length p.words) in
+        let seen : kind_at view k ≡ Apart = kind_seen p order kinds i k less ∙ ap (λ (kind : Kind). seen_kind kind (others_access p order i k)) e in
         let some = any_at here 0 (length view) k (omega arith) (omega (arith, less, size)) (and_from (is_apart_kind (kind_at view k)) (touches k s.guard s.act) (ap (λ (kind : Kind). is_apart_kind kind) seen) touched) in
         absurd (true≢false (sym some ∙ found_none here (places view) h))
 
-pub guarded_in_sections : GuardedWordsInSections
-guarded_in_sections kinds p i s k less e touched =
-    guarded_in_section (kinds_for p kinds i) s k (kind_seen p kinds i k less ∙ ap (λ (kind : Kind). seen_kind kind (others_write p i k)) e) touched
-
 -- the kind of a word at which parties meet
-module _ (kinds : List Kind) (p : ProgramTree) (typed : IsTypedProgram p) (sound : IsSound kinds p) (k : ℕ) (less : k < length p.words) where
+module _ (kinds : List Kind) (order : List (Option Rank)) (p : ProgramTree) (typed : IsTypedProgram p) (sound : IsSound kinds order p) (k : ℕ) (less : k < length p.words) where
   pub by_kind : (G : Type 0) → (NobodyMeetsAt p k → G) → (kind_at kinds k ≡ Apart → world_meets p k ≡ false → G) → (kind_at kinds k ≡ Atomic → G) → (kind_at kinds k ≡ Guarded → G) → G
   by_kind G nobody kept atomic guarded = cases (kind_at kinds k) refl
     where
@@ -189,6 +189,7 @@ module _ (kinds : List Kind) (p : ProgramTree) (typed : IsTypedProgram p) (sound
       cases Own e = nobody (sound.own k less e)
       cases Apart e = kept e (not-true (world_meets p k) (and_parts (some_meet (accesses p k)) (not (world_meets p k)) (sound.apart k less e)).1)
       cases Published e = absurd (sound.published k less e)
+      cases Sheltered e = absurd (sound.sheltered k less e)
       cases Atomic e = atomic e
       cases Guarded e = guarded e
 
@@ -288,55 +289,119 @@ module _ (p : ProgramTree) (k : ℕ) where
     own_written : writes k s.act ≡ true → (access_at (i + 1)).writes ≡ true
     own_written h = ap (λ (z : Access). z.writes) (party_at p k i at.0 no_access at.1) ∙ written_by p k at.0 s at.2 h
 
-    -- where nobody meets at the word, no other party writes what the step reads, or touches what it writes
-    apart_writes : NobodyMeetsAt p k → reads k s.guard s.act ≡ true → NoOtherWrites p i k
-    apart_writes nobody h j within ne =
-        false_from_ne_true (access_at j).writes (λ w. meet_not (i + 1) j (λ e. ne (sym e)) own_within within (own_touched (or_left (reads k s.guard s.act) (writes k s.act) h)) w nobody)
+    -- where nobody meets at the word, no party writes what the step reads, or touches what it writes, that may act meanwhile
+    apart_writes : (order : List (Option Rank)) → NobodyMeetsAt p k → reads k s.guard s.act ≡ true → NoOtherWrites p order i k
+    apart_writes order nobody h j within may =
+        false_from_ne_true (access_at j).writes (λ w.
+        meet_not (i + 1) j (λ e. another order i j may (sym e)) own_within within (own_touched (or_left (reads k s.guard s.act) (writes k s.act) h)) w nobody)
 
-    apart_touches : NobodyMeetsAt p k → writes k s.act ≡ true → NoOtherTouches p i k
-    apart_touches nobody h j within ne = false_from_ne_true (is_touched (access_at j)) (λ t. meet_not j (i + 1) ne within own_within t (own_written h) nobody)
+    apart_touches : (order : List (Option Rank)) → NobodyMeetsAt p k → writes k s.act ≡ true → NoOtherTouches p order i k
+    apart_touches order nobody h j within may =
+        false_from_ne_true (is_touched (access_at j)) (λ t. meet_not j (i + 1) (another order i j may) within own_within t (own_written h) nobody)
 
-  -- where no other party writes
-  unwritten_by_others : (i : ℕ) → others_write p i k ≡ false → NoOtherWrites p i k
-  unwritten_by_others i h j within ne =
-      false_from_ne_true (access_at j).writes (λ w.
-      true≢false (sym (any_at (λ n. not (nat_eq n (i + 1)) && (access_at n).writes) 0 (length (accesses p k)) j (omega arith) (omega (arith, within))
-      (and_from (not (nat_eq j (i + 1))) (access_at j).writes (not_from_false (nat_eq j (i + 1)) (ne_eqb j (i + 1) ne)) w)) ∙ h))
+    -- a part during whose steps no party may act that touches the word interrupts that of the step
+    interrupted : (order : List (Option Rank)) (j : ℕ) → j ≢ i → touches k s.guard s.act ≡ true → NoOtherTouches p order j k → interrupts order j i ≡ true
+    interrupted order j ne touched none =
+        true_from_ne_false (interrupts order j i) (λ still. true≢false (sym (own_touched touched) ∙ none (i + 1) own_within (acts order j i ne still)))
 
-pub others_meet_nobody : OthersMeetNobody
-others_meet_nobody kinds p typed sound i s at k less unexposed free unkept =
-    by_kind kinds p typed sound k less ((reads k s.guard s.act ≡ true → NoOtherWrites p i k) × (writes k s.act ≡ true → NoOtherTouches p i k))
-    (λ nobody. (apart_writes p k i s at nobody, apart_touches p k i s at nobody))
-    (λ e unmet. absurd (unkept e))
-    (λ e. by (others_write p i k) refl e)
-    (λ e. absurd (free e))
+  module _ (order : List (Option Rank)) (i : ℕ) where
+    -- where none of the others writes, or touches
+    unwritten : (others_access p order i k).writes ≡ false → NoOtherWrites p order i k
+    unwritten h j within may =
+        false_from_ne_true (access_at j).writes (λ w.
+        true≢false (sym (any_at (λ n. may_act order i n && (access_at n).writes) 0 (length (accesses p k)) j (omega arith) (omega (arith, within)) (and_from (may_act order i j) (access_at j).writes may w)) ∙ h))
+
+    unread : (others_access p order i k).reads ≡ false → (j : ℕ) → j < length (accesses p k) → may_act order i j ≡ true → (access_at j).reads ≡ false
+    unread h j within may =
+        false_from_ne_true (access_at j).reads (λ r.
+        true≢false (sym (any_at (λ n. may_act order i n && (access_at n).reads) 0 (length (accesses p k)) j (omega arith) (omega (arith, within)) (and_from (may_act order i j) (access_at j).reads may r)) ∙ h))
+
+    untouched : is_touched (others_access p order i k) ≡ false → NoOtherTouches p order i k
+    untouched h j within may =
+        let parts = or_parts (others_access p order i k).reads (others_access p order i k).writes h in
+        or_from (access_at j).reads (access_at j).writes (unread parts.0 j within may) (unwritten parts.1 j within may)
+
+    none_writes : NoOtherTouches p order i k → NoOtherWrites p order i k
+    none_writes none j within may = (or_parts (access_at j).reads (access_at j).writes (none j within may)).1
+
+pub guarded_in_sections : GuardedWordsInSections
+guarded_in_sections kinds order p i s k less e touched = by (is_touched (others_access p order i k)) refl
   where
     view : List Kind
-    view = kinds_for p kinds i
+    view = kinds_for p order kinds i
+
+    by : (b : Bool) → is_touched (others_access p order i k) ≡ b → (way_of view s.guard s.act ≡ Section) ⊎ NoOtherTouches p order i k
+    by true met =
+        let seen : kind_at view k ≡ Guarded = kind_seen p order kinds i k less ∙ ap (λ (kind : Kind). seen_kind kind (others_access p order i k)) e ∙ ap (λ b. cond b Guarded Own) met in
+        inl (guarded_in_section view s k seen touched)
+    by false none = inr (untouched p k order i none)
+
+pub others_meet_nobody : OthersMeetNobody
+others_meet_nobody kinds order p typed sound i s at k less unexposed free unkept =
+    by_kind kinds order p typed sound k less MeetsNobody
+    (λ nobody. (apart_writes p k i s at order nobody, apart_touches p k i s at order nobody))
+    (λ e unmet. absurd (unkept e))
+    (by_writes others.writes others.reads refl refl)
+    (by_touch (is_touched others) refl)
+  where
+    view : List Kind
+    view = kinds_for p order kinds i
+
+    others : Access
+    others = others_access p order i k
+
+    MeetsNobody : Type 0
+    MeetsNobody = (reads k s.guard s.act ≡ true → NoOtherWrites p order i k) × (writes k s.act ≡ true → NoOtherTouches p order i k)
 
     hidden : (kind : Kind) → kind_at view k ≡ kind → ((is_atomic kind && touches k s.guard s.act) || (is_published kind && writes k s.act)) ≡ false
     hidden kind e = ap (λ (l : Kind). (is_atomic l && touches k s.guard s.act) || (is_published l && writes k s.act)) (sym e) ∙ unexposed
 
-    by : (b : Bool) → others_write p i k ≡ b → kind_at kinds k ≡ Atomic → (reads k s.guard s.act ≡ true → NoOtherWrites p i k) × (writes k s.act ≡ true → NoOtherTouches p i k)
-    by true written e =
-        let seen : kind_at view k ≡ Atomic = kind_seen p kinds i k less ∙ ap (λ (kind : Kind). seen_kind kind (others_write p i k)) e ∙ ap (seen_kind Atomic) written in
+    seen_as : (kind : Kind) → kind_at kinds k ≡ kind → kind_at view k ≡ seen_kind kind others
+    seen_as kind e = kind_seen p order kinds i k less ∙ ap (λ (l : Kind). seen_kind l others) e
+
+    by_writes : (w r : Bool) → others.writes ≡ w → others.reads ≡ r → kind_at kinds k ≡ Atomic → MeetsNobody
+    by_writes true r written read e =
+        let seen : kind_at view k ≡ Atomic = seen_as Atomic e ∙ ap (λ b. cond b Atomic (cond others.reads Published Sheltered)) written in
         let none = or_parts (reads k s.guard s.act) (writes k s.act) (or_parts (touches k s.guard s.act) false (hidden Atomic seen)).0 in
         (λ h. absurd (true≢false (sym h ∙ none.0)), λ h. absurd (true≢false (sym h ∙ none.1)))
-    by false written e =
-        let seen : kind_at view k ≡ Published = kind_seen p kinds i k less ∙ ap (λ (kind : Kind). seen_kind kind (others_write p i k)) e ∙ ap (seen_kind Atomic) written in
-        (λ h. unwritten_by_others p k i written, λ h. absurd (true≢false (sym h ∙ hidden Published seen)))
+    by_writes false true written read e =
+        let seen : kind_at view k ≡ Published =
+        seen_as Atomic e ∙ ap (λ b. cond b Atomic (cond others.reads Published Sheltered)) written ∙ ap (λ b. cond b Published Sheltered) read in
+        (λ h. unwritten p k order i written, λ h. absurd (true≢false (sym h ∙ hidden Published seen)))
+    by_writes false false written read e = (λ h. unwritten p k order i written, λ h. untouched p k order i (or_from others.reads others.writes read written))
+
+    by_touch : (b : Bool) → is_touched others ≡ b → kind_at kinds k ≡ Guarded → MeetsNobody
+    by_touch true met e = absurd (free (seen_as Guarded e ∙ ap (λ b. cond b Guarded Own) met))
+    by_touch false none e = let alone = untouched p k order i none in (λ h. none_writes p k order i alone, λ h. alone)
 
 pub no_races : NoRaces
-no_races kinds p typed sound i j ne s t a b k less writing touching unkept =
-    by_kind kinds p typed sound k less ((kind_at kinds k ≡ Atomic) ⊎ ((way_of (kinds_for p kinds i) s.guard s.act ≡ Section) × (way_of (kinds_for p kinds j) t.guard t.act ≡ Section)))
+no_races kinds order p typed sound i j ne s t a b k less writing touching unkept =
+    by_kind kinds order p typed sound k less ((kind_at kinds k ≡ Atomic) ⊎ (KeepsOff kinds order p i j s t ⊎ KeepsOff kinds order p j i t s))
     (λ nobody. absurd (parts_meet p k i j ne s t a b writing touching nobody))
     (λ e unmet. absurd (unkept e))
     (λ e. inl e)
-    (λ e. inr (guarded_in_sections kinds p i s k less e (or_right (reads k s.guard s.act) (writes k s.act) writing), guarded_in_sections kinds p j t k less e touching))
+    (λ e. inr (kept e))
+  where
+    touched : touches k s.guard s.act ≡ true
+    touched = or_right (reads k s.guard s.act) (writes k s.act) writing
+
+    kept : kind_at kinds k ≡ Guarded → KeepsOff kinds order p i j s t ⊎ KeepsOff kinds order p j i t s
+    kept e = elim (guarded_in_sections kinds order p i s k less e touched) [
+      | inl first ↦
+          elim (guarded_in_sections kinds order p j t k less e touching) [
+            | inl second ↦ inl (first, inl second)
+            | inr alone ↦ inl (first, inr (interrupted p k i s a order j (λ q. ne (sym q)) touched alone))
+          ]
+      | inr alone ↦
+          elim (guarded_in_sections kinds order p j t k less e touching) [
+            | inl second ↦ inr (second, inr (interrupted p k j t b order i ne touching alone))
+            | inr other ↦ absurd (never_both order i j (interrupted p k j t b order i ne touching alone) (interrupted p k i s a order j (λ q. ne (sym q)) touched other))
+          ]
+    ]
 
 pub no_races_outside : NoRacesOutside
-no_races_outside kinds p typed sound i s a k less touching outside writing =
-    by_kind kinds p typed sound k less (kind_at kinds k ≡ Atomic)
+no_races_outside kinds order p typed sound i s a k less touching outside writing =
+    by_kind kinds order p typed sound k less (kind_at kinds k ≡ Atomic)
     (λ nobody. met (λ d. nobody 0 (i + 1) d (omega arith) (party_within p k i a.0 a.1)))
     (λ e unmet. met (λ d. all_fail (meet (world_access k p.words p.spec.rely)) (accesses p k) unmet (i + 1) d (party_within p k i a.0 a.1)))
     (λ e. e)

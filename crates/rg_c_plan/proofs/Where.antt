@@ -10,7 +10,7 @@ use Rattle.rg_tree.specs.Meaning.{value_of, holds}
 use Rattle.rg_tree.specs.Traces.{State, holds_at}
 use Rattle.rg_c_plan.specs.Changes.{change_of}
 use Rattle.rg_c_plan.specs.Accesses.{stands_in_formula}
-use Rattle.rg_c_plan.specs.Ways.{kind_at, is_atomic, is_published, has_atomic_accesses}
+use Rattle.rg_c_plan.specs.Ways.{kind_at, is_atomic, is_published, is_shared}
 use Rattle.rg_c_plan.specs.Once.{stores}
 use Rattle.rg_c_plan.specs.Made.{reads_made, tests_made, tested_made, change_made, changes_made, step_made}
 use Rattle.rg_c_plan.specs.Where.{either, under, at_word, read_where, tested_where, after_test, change_where, freed, changes_where, step_where, alone, AccessesAreWhere}
@@ -70,12 +70,12 @@ freed_so (Some f) j x s h = by (stands_in_formula j f) refl
     by true e = refl
     by false e = sym (truth_stays s j x f e) ∙ h
 
-module _ (kinds : List Kind) (k : ℕ) (only : (j : ℕ) → has_atomic_accesses (kind_at kinds j) ≡ true → nat_eq k j ≡ true) where
+module _ (kinds : List Kind) (k : ℕ) (only : (j : ℕ) → is_shared (kind_at kinds j) ≡ true → nat_eq k j ≡ true) where
   word_told : (s : State) (j : ℕ) (b : Bool) → is_atomic (kind_at kinds j) ≡ b → Told (if b then 1 else 0) (at_word k j) s
   word_told s j true h = inr (here_so s (nat_eq k j) (only j (or_left (is_atomic (kind_at kinds j)) (is_published (kind_at kinds j)) h)))
   word_told s j false h = inl refl
 
-  target_told : (s : State) (j : ℕ) (b : Bool) → has_atomic_accesses (kind_at kinds j) ≡ b → Told (if b then 1 else 0) (at_word k j) s
+  target_told : (s : State) (j : ℕ) (b : Bool) → is_shared (kind_at kinds j) ≡ b → Told (if b then 1 else 0) (at_word k j) s
   target_told s j true h = inr (here_so s (nat_eq k j) (only j h))
   target_told s j false h = inl refl
 
@@ -122,17 +122,17 @@ module _ (kinds : List Kind) (k : ℕ) (only : (j : ℕ) → has_atomic_accesses
   step_told s guard act = after_told s guard (changes_made kinds s act) (changes_where k act) (changes_told s act)
 
 -- where one word alone is counted, no other is
-only_alone : (words : List Word) (k j : ℕ) → has_atomic_accesses (kind_at (alone words k) j) ≡ true → nat_eq k j ≡ true
+only_alone : (words : List Word) (k j : ℕ) → is_shared (kind_at (alone words k) j) ≡ true → nat_eq k j ≡ true
 only_alone words k j h = elim (cases_lt j (length words)) [
   | inl l ↦
       by (nat_eq k j) refl
-      (ap (λ (kind : Kind). has_atomic_accesses kind) (sym (get_or-map-range_with_len (λ i. if nat_eq k i then Atomic else Own) 0 (length words) j j Own l (omega arith))) ∙ h)
+      (ap (λ (kind : Kind). is_shared kind) (sym (get_or-map-range_with_len (λ i. if nat_eq k i then Atomic else Own) 0 (length words) j j Own l (omega arith))) ∙ h)
   | inr g ↦
       let size = length-map-range_with_len (λ i. if nat_eq k i then Atomic else Own) 0 (length words) in
-      absurd (true≢false (sym h ∙ ap (λ (kind : Kind). has_atomic_accesses kind) (get_or_past (alone words k) j Own (omega (arith, g, size)))))
+      absurd (true≢false (sym h ∙ ap (λ (kind : Kind). is_shared kind) (get_or_past (alone words k) j Own (omega (arith, g, size)))))
 ]
   where
-    by : (b : Bool) → nat_eq k j ≡ b → has_atomic_accesses (if b then Atomic else Own) ≡ true → nat_eq k j ≡ true
+    by : (b : Bool) → nat_eq k j ≡ b → is_shared (if b then Atomic else Own) ≡ true → nat_eq k j ≡ true
     by true e t = e
     by false e t = cc t
 

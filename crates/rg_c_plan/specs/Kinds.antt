@@ -7,10 +7,13 @@ use Rattle.rg_c_plan.specs.Accesses.{StepTree, accesses, world_access, is_fixed,
 use Rattle.rg_c_plan.specs.Apart.{is_apart, may_be_apart, late_word}
 use Rattle.rg_c_plan.specs.Ways.{exposes, first_exposed}
 use Rattle.rg_c_plan.specs.Once.{is_one_access}
+use Rattle.rg_c_plan.specs.Orders.{waiting}
 use Rattle.rg_c_plan.specs.Views.{ViewTree, views}
 use Rattle.rg_c_plan.specs.declared.kind.Kind.{Kind}
 use Rattle.rg_c_plan.specs.declared.kind.Kind.TheVariants.{Fixed, Own, Apart, Atomic, Guarded}
+use Rattle.rg_c_plan.specs.declared.order.Rank.{Rank}
 use Rattle.rg_c_plan.specs.declared.planned.Unplanned.{Unplanned}
+use Rattle.rg_c_plan.specs.declared.planned.Unplanned.TheVariants.{Step, Wait}
 
 -- the kind of a word where no step were in a section, and the assertions keep the parts apart as these flags say: fixed; apart, where they do, and only parts meet at
 -- it; own, where no two parties meet at it; else atomic
@@ -36,20 +39,20 @@ kind_among p vs Atomic k = if not (is_touched (world_access k p.words p.spec.rel
 kind_among p vs kind k = kind
 
 -- the kind of a word
-abbrev pub kind_of : ProgramTree → List Bool → ℕ → Kind
-kind_of p apart k = kind_among p (views p (bare_kinds p apart)) (bare_kind p apart k) k
+abbrev pub kind_of : ProgramTree → List (Option Rank) → List Bool → ℕ → Kind
+kind_of p order apart k = kind_among p (views p order (bare_kinds p apart)) (bare_kind p apart k) k
 
 -- the kind of each word
-abbrev pub kinds_of : ProgramTree → List Bool → List Kind
-kinds_of p apart = map (kind_of p apart) (places p.words)
+abbrev pub kinds_of : ProgramTree → List (Option Rank) → List Bool → List Kind
+kinds_of p order apart = map (kind_of p order apart) (places p.words)
 
 -- a step that isn't one access, and the first word that it exposes
 abbrev pub failed : List Kind → StepTree → Unplanned
-failed kinds s = record { line = s.line; word = option_map_or (λ k. k) (first_exposed kinds s.guard s.act) 0 }
+failed kinds s = Step s.line (option_map_or (λ k. k) (first_exposed kinds s.guard s.act) 0)
 
 -- a step that isn't early, and this word, at which parts are kept apart
 abbrev pub late : StepTree → ℕ → Unplanned
-late s k = record { line = s.line; word = k }
+late s k = Step s.line k
 
 -- why a step can't be done at once: it isn't one access; or it touches a word at which parts are kept apart, and isn't early
 abbrev pub step_fault : List Kind → StepTree → Option Unplanned
@@ -65,6 +68,7 @@ abbrev pub failing : List ViewTree → Option Unplanned
 failing [] = None
 failing (v ∷ vs) = option_map_or (λ u. Some u) (failing_step v.kinds v.steps) (failing vs)
 
--- the first step of a program that no C of this form does at once, where the assertions keep the parts apart as these flags say
-abbrev pub unplanned : ProgramTree → List Bool → Option Unplanned
-unplanned p apart = failing (views p (kinds_of p apart))
+-- why there is no C of this form for a program whose parts interrupt each other so, where the assertions keep them apart as these flags say: o e that interrupts another
+-- may wait; or the first step that isn't done at once
+abbrev pub unplanned : ProgramTree → List (Option Rank) → List Bool → Option Unplanned
+unplanned p order apart = option_map_or (λ row. Some (Wait row)) (waiting p order) (failing (views p order (kinds_of p order apart)))

@@ -5,6 +5,7 @@ pub mod Ways
 pub mod Once
 pub mod Made
 pub mod Where
+pub mod Orders
 pub mod Views
 pub mod Apart
 pub mod Kinds

@@ -8,7 +8,7 @@ use Rattle.rg_words.specs.declared.operators.Comparison.TheVariants.{Equal}
 use Rattle.rg_tree.specs.Trees.{Expression, Proposition, Assignment, number, word, next_word, inverse, binary, shifted, choice, truth, negation, connected, compared}
 use Rattle.rg_c_plan.specs.Changes.{change_of}
 use Rattle.rg_c_plan.specs.Accesses.{stands_in}
-use Rattle.rg_c_plan.specs.Ways.{kind_at, is_atomic, has_atomic_accesses, in_section, exposes_another, first_exposed}
+use Rattle.rg_c_plan.specs.Ways.{kind_at, is_atomic, is_shared, in_section, exposes_another, first_exposed}
 use Rattle.rg_c_plan.specs.declared.kind.Kind.{Kind}
 
 abbrev mutual
@@ -53,9 +53,9 @@ guard_reads kinds guard = option_map_or (λ f. tests_atomic kinds f) guard false
 abbrev pub guard_reads_twice : List Kind → Option Proposition → Bool
 guard_reads_twice kinds guard = option_map_or (λ f. tests_twice kinds f) guard false
 
--- an assignment writes a word whose accesses are atomic
+-- an assignment writes a word at which it may meet another party
 abbrev pub stores : List Kind → Assignment → Bool
-stores kinds a = has_atomic_accesses (kind_at kinds a.target)
+stores kinds a = is_shared (kind_at kinds a.target)
 
 -- it makes such a write, or reads an atomic word
 abbrev pub accesses_atomic : List Kind → Assignment → Bool

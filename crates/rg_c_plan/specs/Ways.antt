@@ -5,7 +5,7 @@ use Rattle.std.specs.Option.{option_map_or}
 use Rattle.rg_tree.specs.Trees.{Proposition, Assignment}
 use Rattle.rg_c_plan.specs.Accesses.{reads, writes, touches, places}
 use Rattle.rg_c_plan.specs.declared.kind.Kind.{Kind}
-use Rattle.rg_c_plan.specs.declared.kind.Kind.TheVariants.{Own, Published, Atomic, Guarded}
+use Rattle.rg_c_plan.specs.declared.kind.Kind.TheVariants.{Own, Published, Sheltered, Atomic, Guarded}
 use Rattle.rg_c_plan.specs.declared.way.Way.{Way}
 use Rattle.rg_c_plan.specs.declared.way.Way.TheVariants.{Direct, Load, Store, Exchange, Select, Section}
 
@@ -26,9 +26,17 @@ abbrev pub is_guarded : Kind → Bool
 is_guarded Guarded = true
 is_guarded kind = false
 
+abbrev pub is_sheltered : Kind → Bool
+is_sheltered Sheltered = true
+is_sheltered kind = false
+
+-- a write to a word of this kind may meet another party outside of sections
+abbrev pub is_shared : Kind → Bool
+is_shared kind = is_atomic kind || is_published kind
+
 -- each access to a word of this kind is atomic
 abbrev pub has_atomic_accesses : Kind → Bool
-has_atomic_accesses kind = is_atomic kind || is_published kind
+has_atomic_accesses kind = is_shared kind || is_sheltered kind
 
 -- a step may meet another party at a word outside of sections: it touches an atomic word, or writes one that its part publishes
 abbrev pub exposes : List Kind → Option Proposition → List Assignment → ℕ → Bool

@@ -9,6 +9,7 @@ pub mod kind;
 pub mod laws;
 pub mod mention;
 mod once;
+pub mod order;
 pub mod plan;
 pub mod planned;
 pub mod sites;

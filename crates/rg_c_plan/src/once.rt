@@ -70,13 +70,11 @@ pub(crate) fn is_crowded(views: &[PartView<'_>], word: usize) -> bool
 fn failed(kinds: &[Kind], s: &Step<'_>) -> Unplanned
     ensures { result ≡ failed kinds.now (step s.now) }
 {
-    Unplanned {
-        line: s.line,
-        word: match first_exposed(kinds, s.guard, s.act) {
-            Some(word) => word,
-            None => 0,
-        },
-    }
+    let word = match first_exposed(kinds, s.guard, s.act) {
+        Some(word) => word,
+        None => 0,
+    };
+    Unplanned::Step(s.line, word)
 }
 
 /// Why a step can't be done at once: it isn't one access; or it touches a word at which parts are kept apart, and isn't early.
@@ -87,7 +85,7 @@ fn step_fault(kinds: &[Kind], s: &Step<'_>) -> Option<Unplanned>
         return Some(failed(kinds, s));
     }
     match late_word(kinds, s.guard, s.act) {
-        Some(word) => Some(Unplanned { line: s.line, word }),
+        Some(word) => Some(Unplanned::Step(s.line, word)),
         None => None,
     }
 }

@@ -10,6 +10,7 @@ use crate::access::{accesses, is_touched, some_meet, world_access};
 use crate::apart::{is_apart, may_be_apart};
 use crate::kind::Kind;
 use crate::once::{failing, is_crowded};
+use crate::order::{Rank, waiting};
 use crate::planned::{Plan, Unplanned};
 use crate::views::{PartView, views};
 use crate::way::kind_at;
@@ -72,11 +73,16 @@ fn kind_among(program: &Program, views: &[PartView<'_>], kind: Kind, word: usize
 
 /// The kind of each word.
 #[tactic(auto, using(crate::proofs::Places::range_more, crate::proofs::Places::range_over))]
-fn kinds_of(alloc: Global, program: &Program, apart: &[bool]) -> Result<Vec<Kind>, AllocError>
-    ensures { IfOk result (λ list. list.items ≡ kinds_of (program_tree program.now) apart.now) }
+fn kinds_of(
+    alloc: Global,
+    program: &Program,
+    order: &[Option<Rank>],
+    apart: &[bool],
+) -> Result<Vec<Kind>, AllocError>
+    ensures { IfOk result (λ list. list.items ≡ kinds_of (program_tree program.now) order.now apart.now) }
 {
     let bare = bare_kinds(alloc, program, apart)?;
-    let views = views(alloc, program, &bare)?;
+    let views = views(alloc, program, order, &bare)?;
     let mut kinds = Vec::new(alloc);
     for word in 0..program.layout.len() {
         kinds.push(kind_among(program, &views, kind_at(&bare, word), word))?;
@@ -86,26 +92,32 @@ fn kinds_of(alloc: Global, program: &Program, apart: &[bool]) -> Result<Vec<Kind
 
 /// A kind for each word, such that each step is done as `way_of` says, and that is sound: a fixed word is `Fixed`; one at which no two parties meet is `Own`; one
 /// at which only parts do, and the assertions keep them apart, is `Apart`; one for which a step needs a section is `Guarded`; all others are `Atomic`. A flag for each
-/// word, in the order of declaration, says whether the assertions keep the parts apart; flags that aren't there are `false`.
+/// word, in the order of declaration, says whether the assertions keep the parts apart; flags that aren't there are `false`. A rank for each part says which interrupt
+/// which; a part whose rank isn't there interrupts none.
 ///
 /// # Errors
 ///
-/// An `AllocError` only where memory was refused. In an `Ok`, the first step of the text that no C of this form does at once.
+/// An `AllocError` only where memory was refused. In an `Ok`, why there is no C: the first `await` that may wait in a part that interrupts another one, or the first step
+/// of the text that no C of this form does at once.
 pub fn plan(
     alloc: Global,
     program: &Program,
+    order: &[Option<Rank>],
     apart: &[bool],
 ) -> Result<Result<Plan, Unplanned>, AllocError>
     // Exactly the kinds that the definition gives.
-    ensures kinds { IfOk result (λ r. IfOk r (λ p. p.kinds.items ≡ kinds_of (program_tree program.now) apart.now)) }
+    ensures kinds { IfOk result (λ r. IfOk r (λ p. p.kinds.items ≡ kinds_of (program_tree program.now) order.now apart.now)) }
     // They are sound.
-    ensures sound { IfOk result (λ r. IfOk r (λ p. IsSound p.kinds.items (program_tree program.now))) }
-    // Refused exactly where there is a step that no C does at once, and the first one is given.
-    ensures planned { IfOk result (λ r. OnOk r (unplanned (program_tree program.now) apart.now ≡ None)) }
-    ensures unplanned { IfOk result (λ r. IfErr r (λ u. unplanned (program_tree program.now) apart.now ≡ Some u)) }
+    ensures sound { IfOk result (λ r. IfOk r (λ p. IsSound p.kinds.items order.now (program_tree program.now))) }
+    // Refused exactly where a part that interrupts another one may wait, or there is a step that no C does at once, and the first such line is given.
+    ensures planned { IfOk result (λ r. OnOk r (unplanned (program_tree program.now) order.now apart.now ≡ None)) }
+    ensures unplanned { IfOk result (λ r. IfErr r (λ u. unplanned (program_tree program.now) order.now apart.now ≡ Some u)) }
 {
-    let kinds = kinds_of(alloc, program, apart)?;
-    let views = views(alloc, program, &kinds)?;
+    if let Some(line) = waiting(program, order) {
+        return Ok(Err(Unplanned::Wait(line)));
+    }
+    let kinds = kinds_of(alloc, program, order, apart)?;
+    let views = views(alloc, program, order, &kinds)?;
     if let Some(step) = failing(&views) {
         return Ok(Err(step));
     }

@@ -10,6 +10,7 @@ use crate::access::{accesses, is_touched, some_meet, world_access};
 use crate::apart::may_be_apart;
 use crate::kind::Kind;
 use crate::once::failing;
+use crate::order::{Rank, waiting};
 use crate::views::views;
 use crate::way::kind_at;
 use rg_tree::program::Program;
@@ -36,7 +37,7 @@ fn is_word_sound(
             let may = may_be_apart(alloc, program, word)?;
             Ok(!fixed && may)
         }
-        Kind::Published => Ok(false),
+        Kind::Published | Kind::Sheltered => Ok(false),
         Kind::Atomic => Ok(!fixed),
         Kind::Guarded => {
             let access = world_access(word, &program.layout, &program.spec.rely);
@@ -59,11 +60,16 @@ fn are_words_sound(alloc: Global, kinds: &[Kind], program: &Program) -> Result<b
     Ok(true)
 }
 
-/// Whether kinds of words are sound for a program, whoever chose them.
+/// Whether kinds of words are sound for a program whose parts interrupt each other so, whoever chose them.
 ///
 /// An error comes only where memory was refused.
-pub fn is_sound(alloc: Global, kinds: &[Kind], program: &Program) -> Result<bool, AllocError>
-    ensures { IfOk result (λ r. Decides r (IsSound kinds.now (program_tree program.now))) }
+pub fn is_sound(
+    alloc: Global,
+    kinds: &[Kind],
+    order: &[Option<Rank>],
+    program: &Program,
+) -> Result<bool, AllocError>
+    ensures { IfOk result (λ r. Decides r (IsSound kinds.now order.now (program_tree program.now))) }
 {
     if kinds.len() != program.layout.len() {
         return Ok(false);
@@ -71,7 +77,10 @@ pub fn is_sound(alloc: Global, kinds: &[Kind], program: &Program) -> Result<bool
     if !are_words_sound(alloc, kinds, program)? {
         return Ok(false);
     }
-    let views = views(alloc, program, kinds)?;
+    if waiting(program, order).is_some() {
+        return Ok(false);
+    }
+    let views = views(alloc, program, order, kinds)?;
     match failing(&views) {
         Some(_) => Ok(false),
         None => Ok(true),

@@ -9,7 +9,7 @@ ghost use Rattle.rg_c_plan.specs.Once.{reads_atomic, tests_atomic, reads_twice, 
 
 use crate::change::{change_of, moves};
 use crate::kind::Kind;
-use crate::way::{has_atomic_accesses, is_atomic, kind_at};
+use crate::way::{is_atomic, is_shared, kind_at};
 use rg_tree::condition::Assign;
 use rg_tree::tree::{Expr, Formula};
 
@@ -105,11 +105,11 @@ fn guard_reads_twice(kinds: &[Kind], guard: Option<&Formula>) -> bool
     }
 }
 
-/// Whether an assignment writes a word whose accesses are atomic.
+/// Whether an assignment writes a word at which it may meet another party.
 fn stores(kinds: &[Kind], a: &Assign) -> bool
     ensures { result ≡ stores kinds.now (assignment a.now) }
 {
-    has_atomic_accesses(kind_at(kinds, a.word))
+    is_shared(kind_at(kinds, a.word))
 }
 
 /// Whether an assignment makes such a write, or reads an atomic word.

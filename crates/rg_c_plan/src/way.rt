@@ -4,7 +4,7 @@ ghost use Rattle.std.specs.Prelude.{◌≡◌, map, IfOk};
 ghost use Rattle.rg_tree.specs.ConditionTrees.{assignment};
 ghost use Rattle.rg_c_plan.specs.View.{guard_tree};
 ghost use Rattle.rg_c_plan.specs.Changes.{moving};
-ghost use Rattle.rg_c_plan.specs.Ways.{kind_at, is_atomic, has_atomic_accesses, exposes, touches_guarded, times_assigned, way_at, exposes_another, first_exposed, in_section, way_from, way_of, meets_at, met_words};
+ghost use Rattle.rg_c_plan.specs.Ways.{kind_at, is_atomic, is_shared, has_atomic_accesses, exposes, touches_guarded, times_assigned, way_at, exposes_another, first_exposed, in_section, way_from, way_of, meets_at, met_words};
 
 use crate::change::moves;
 use crate::kind::Kind;
@@ -44,6 +44,13 @@ pub fn kind_at(kinds: &[Kind], word: usize) -> Kind
 pub fn has_atomic_accesses(kind: Kind) -> bool
     ensures { result ≡ has_atomic_accesses kind }
 {
+    matches!(kind, Kind::Atomic | Kind::Published | Kind::Sheltered)
+}
+
+/// Whether a write to a word of this kind may meet another party outside of sections.
+pub(crate) fn is_shared(kind: Kind) -> bool
+    ensures { result ≡ is_shared kind }
+{
     matches!(kind, Kind::Atomic | Kind::Published)
 }
 
@@ -61,7 +68,7 @@ pub(crate) fn exposes(kinds: &[Kind], guard: Option<&Formula>, act: &[Assign], w
     match kind_at(kinds, word) {
         Kind::Atomic => touches(word, guard, act),
         Kind::Published => writes(word, act),
-        Kind::Fixed | Kind::Own | Kind::Apart | Kind::Guarded => false,
+        Kind::Fixed | Kind::Own | Kind::Apart | Kind::Sheltered | Kind::Guarded => false,
     }
 }
 

@@ -1,5 +1,5 @@
 -- How many steps are done in each way, and what is said of that.
-use Rattle.std.specs.Prelude.{ℕ, Bool, true, false, List, ◌++◌, codes, length, map}
+use Rattle.std.specs.Prelude.{ℕ, Bool, true, false, List, ◌++◌, codes, length, map, Option}
 use Rattle.std.specs.List.{filter, flat_map}
 use Rattle.std.specs.Fmt.{decimal}
 use Rattle.rg_tree.specs.Statements.{ProgramTree}
@@ -8,6 +8,7 @@ use Rattle.rg_c_plan.specs.Apart.{is_store}
 use Rattle.rg_c_plan.specs.Ways.{way_of}
 use Rattle.rg_c_plan.specs.Views.{ViewTree, views}
 use Rattle.rg_c_plan.specs.declared.kind.Kind.{Kind}
+use Rattle.rg_c_plan.specs.declared.order.Rank.{Rank}
 use Rattle.rg_c_plan.specs.declared.way.Way.{Way}
 use Rattle.rg_c_plan.specs.declared.way.Way.TheVariants.{Direct, Load, Exchange, Select, Section}
 use Rattle.rg_c_report.specs.declared.counts.Counts.{Counts}
@@ -59,8 +60,8 @@ abbrev pub ways_of : List ViewTree → List Way
 ways_of vs = flat_map (λ (v : ViewTree). map (way_of_step v.kinds) v.steps) vs
 
 -- how many steps of a program are done in each way
-abbrev pub counts_of : ProgramTree → List Kind → Counts
-counts_of p kinds = counts_of_ways (ways_of (views p kinds))
+abbrev pub counts_of : ProgramTree → List (Option Rank) → List Kind → Counts
+counts_of p order kinds = counts_of_ways (ways_of (views p order kinds))
 
 -- what is said of the steps, of those that meet no other part, of loads and stores
 unfoldable pub counts_first : Counts → List ℕ

@@ -7,6 +7,7 @@ ghost use Rattle.rg_c_report.specs.Counts.{way_of_step, ways_of, counts_of_ways,
 
 use crate::words::{push_counted, push_number};
 use rg_c_plan::kind::Kind;
+use rg_c_plan::order::Rank;
 use rg_c_plan::step::Step;
 use rg_c_plan::views::{PartView, views};
 use rg_c_plan::way::{Way, way_of};
@@ -77,10 +78,15 @@ fn counts_of_ways(ways: &[Way]) -> Counts
 /// How many steps a program has, and how many are done in each way, by the kinds of words.
 ///
 /// An error comes only where memory was refused.
-pub fn counts_of(alloc: Global, program: &Program, kinds: &[Kind]) -> Result<Counts, AllocError>
-    ensures { IfOk result (λ counts. counts ≡ counts_of (program_tree program.now) kinds.now) }
+pub fn counts_of(
+    alloc: Global,
+    program: &Program,
+    order: &[Option<Rank>],
+    kinds: &[Kind],
+) -> Result<Counts, AllocError>
+    ensures { IfOk result (λ counts. counts ≡ counts_of (program_tree program.now) order.now kinds.now) }
 {
-    let views = views(alloc, program, kinds)?;
+    let views = views(alloc, program, order, kinds)?;
     let ways = ways_of(alloc, &views)?;
     Ok(counts_of_ways(&ways))
 }

@@ -2,6 +2,8 @@
 #![tactic(auto)]
 
 pub mod counts;
+pub mod lines;
+pub mod orders;
 pub mod parties;
 pub mod report;
-mod words;
+pub mod words;

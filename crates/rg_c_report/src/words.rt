@@ -86,7 +86,9 @@ pub(crate) fn push_commas(text: &mut String, pieces: &[&str]) -> Result<(), Allo
 }
 
 /// Adds a text, and then others with commas between them.
-pub(crate) fn push_listed(text: &mut String, what: &str, pieces: &[&str]) -> Result<(), AllocError>
+///
+/// An error comes only where memory was refused.
+pub fn push_listed(text: &mut String, what: &str, pieces: &[&str]) -> Result<(), AllocError>
     ensures { OnOk result (string_bytes text.new ≡ string_bytes text.old ++ (what.now ++ commas (map (λ t. t.now) pieces.now))) }
 {
     text.push_str(what)?;

@@ -1,6 +1,6 @@
 //! Warnings of promises that are true in all states, so that they say nothing.
 
-use crate::empty::{has_empty_range, report_empty_ranges};
+use crate::empty::report_empty_ranges;
 use crate::questions::Asks;
 use crate::reports::{Reports, Warning};
 use crate::warnings::warn;
@@ -21,8 +21,8 @@ pub(crate) struct Promise {
     part: Option<usize>,
 }
 
-/// Adds the `guar` items of these heads. Their trees are these clauses, in their order.
-fn push_guars(
+/// Adds the `guar` items of these heads, whose trees are these clauses, in their order, and the program's `post`.
+fn push_promises(
     expansion: &Expansion<'_>,
     promises: &mut Vec<Promise>,
     heads: List,
@@ -32,36 +32,23 @@ fn push_guars(
     let written = expansion.scope.written;
     let mut next = trees.start;
     for head in written.heads(heads) {
-        if let HeadKind::Clause(Clause::Guar, formula) = head.kind {
-            let tree = expansion.clauses.get(next).copied();
+        let HeadKind::Clause(clause, formula) = head.kind else {
+            continue;
+        };
+        let mut tree = expansion.specification.post;
+        if clause == Clause::Guar {
+            tree = expansion.clauses.get(next).copied().unwrap_or(usize::MAX);
             next = next.saturating_add(1);
-            if !is_written_true(written, formula) {
-                promises.push(Promise {
-                    clause: Clause::Guar,
-                    formula,
-                    place: expression_span(written, formula),
-                    tree: tree.unwrap_or(usize::MAX),
-                    part,
-                })?;
-            }
+        } else if clause != Clause::Post || part.is_some() {
+            continue;
         }
-    }
-    Ok(())
-}
-
-/// Adds the program's `post`, where it is written.
-fn push_post(expansion: &Expansion<'_>, promises: &mut Vec<Promise>) -> Result<(), AllocError> {
-    let written = expansion.scope.written;
-    for head in written.heads(written.following_words) {
-        if let HeadKind::Clause(Clause::Post, formula) = head.kind
-            && !is_written_true(written, formula)
-        {
+        if !is_written_true(written, formula) {
             promises.push(Promise {
-                clause: Clause::Post,
+                clause,
                 formula,
                 place: expression_span(written, formula),
-                tree: expansion.specification.post,
-                part: None,
+                tree,
+                part,
             })?;
         }
     }
@@ -84,11 +71,10 @@ pub(crate) fn promises_of(expansion: &Expansion<'_>) -> Result<Vec<Promise>, All
     let mut promises = Vec::new(expansion.scope.alloc);
     let program = expansion.scope.written.following_words;
     let promised = expansion.specification.promised;
-    push_guars(expansion, &mut promises, program, promised, None)?;
-    push_post(expansion, &mut promises)?;
+    push_promises(expansion, &mut promises, program, promised, None)?;
     for (index, part) in expansion.parts.iter().enumerate() {
         let heads = heads_of(expansion, index);
-        push_guars(expansion, &mut promises, heads, part.promised, Some(index))?;
+        push_promises(expansion, &mut promises, heads, part.promised, Some(index))?;
     }
     Ok(promises)
 }
@@ -111,16 +97,16 @@ fn is_empty(
 }
 
 /// What is said of a promise that is true in all states.
-fn sentence_of(promise: Promise) -> &'static [u8] {
+fn sentence_of(promise: Promise) -> &'static str {
     match promise.clause {
         Clause::Post => {
-            b"this post is true in all states, so it promises nothing: say what holds where all parts have ended, or leave it out"
+            "this post is true in all states, so it promises nothing: say what holds where all parts have ended, or leave it out"
         }
         _ if promise.part.is_some() => {
-            b"this guar is true of all steps, so the part promises nothing by it: say what its steps keep, or leave it out"
+            "this guar is true of all steps, so the part promises nothing by it: say what its steps keep, or leave it out"
         }
         _ => {
-            b"this guar is true of all steps, so it promises nothing: say what each step keeps, or leave it out"
+            "this guar is true of all steps, so it promises nothing: say what each step keeps, or leave it out"
         }
     }
 }
@@ -128,22 +114,23 @@ fn sentence_of(promise: Promise) -> &'static [u8] {
 /// Reports each `guar` and each `post` that says nothing: a range in it is empty, or else it is true in all states. `shown` are the questions to
 /// which the answer is yes.
 pub(crate) fn report_empty_promises(
-    expansion: &Expansion<'_>,
+    reports: &mut Reports<'_>,
     shown: &[Asks],
-    reports: &mut Reports,
 ) -> Result<(), AllocError> {
+    let expansion = reports.expansion;
     let promises = promises_of(expansion)?;
     for promise in &promises {
-        if has_empty_range(expansion, promise.formula) {
-            report_empty_ranges(expansion, promise.formula, promise.part, reports)?;
-        } else if is_empty(expansion, &promises, *promise, shown) {
-            let said = sentence_of(*promise);
+        let (place, part) = (promise.place, promise.part);
+        let has_empty_range = report_empty_ranges(reports, promise.formula, part)?;
+        if !has_empty_range && is_empty(expansion, &promises, *promise, shown) {
+            let template = sentence_of(*promise);
             warn(
                 reports,
                 Warning::PromisesNothing,
-                promise.place,
-                promise.part,
-                said,
+                place,
+                part,
+                template,
+                &[],
             )?;
         }
     }

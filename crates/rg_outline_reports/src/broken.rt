@@ -1,11 +1,11 @@
 //! Whose formula a step breaks, and what is false where a run breaks the specification.
 
 use crate::falsity::Falsity;
-use crate::reports::{Detail, Said};
-use crate::says::push_with_part;
+use crate::reports::{Detail, DetailKind};
+use crate::template::Gap::Part;
+use crate::template::filled;
 use crate::values::{Moment, first_false, is_true, values_of};
 use rg_outline::Expansion;
-use rg_outline_syntax::Span;
 use rg_walk::{BreakingRun, Broken};
 use std::alloc::AllocError;
 
@@ -48,8 +48,16 @@ pub(crate) fn broken_by(
     }
 }
 
+/// What a run breaks, and what is false there: a conjunct, the premises that hold, the names within which it stands, and then whose formula it is,
+/// where that isn't said before.
+#[derive(Drop)]
+pub(crate) struct Breach {
+    pub(crate) breaks: Breaks,
+    pub(crate) details: Vec<Detail>,
+}
+
 /// What a run breaks.
-#[derive(Clone, Copy, PartialEq, Eq)]
+#[derive(Clone, Copy)]
 pub(crate) enum Breaks {
     /// The program's guar or post.
     Specification,
@@ -59,95 +67,75 @@ pub(crate) enum Breaks {
     Part,
 }
 
-/// What a run breaks, after whose last step the words have these values.
-fn breaks_at(
-    expansion: &Expansion<'_>,
-    run: &BreakingRun,
-    after: &[u64],
-) -> Result<Breaks, AllocError> {
-    let invariant = expansion.specification.invariant;
-    match run.broken {
-        Broken::Guarantee | Broken::Post => Ok(Breaks::Specification),
-        Broken::OwnGuarantee if is_true(expansion, invariant, Moment::at(after))? => {
-            Ok(Breaks::Part)
-        }
-        Broken::OwnGuarantee => Ok(Breaks::Invariant),
-    }
-}
-
-/// What a run breaks.
-pub(crate) fn breaks_of(
-    expansion: &Expansion<'_>,
-    run: &BreakingRun,
-) -> Result<Breaks, AllocError> {
-    let last = run.steps.last().map_or(&run.start, |step| &step.after);
-    let after = values_of(expansion.scope.alloc, last)?;
-    breaks_at(expansion, run, &after)
-}
-
-/// The formula that a run breaks, whose it is, and the states in which it is false: the run's last step, or the state after that.
+/// What a run breaks whose last step is this one, by which formula, whose that is, and the states in which it is false: the last step, or the state after
+/// that.
 fn due_of<'m>(
     expansion: &Expansion<'_>,
     run: &BreakingRun,
     step: Moment<'m>,
-) -> Result<(usize, Owner, Moment<'m>), AllocError> {
-    let state = Moment::at(step.after);
+) -> Result<(Breaks, usize, Owner, Moment<'m>), AllocError> {
     let specification = expansion.specification;
-    match breaks_at(expansion, run, step.after)? {
-        Breaks::Specification => match run.broken {
-            Broken::Post => Ok((specification.post, Owner::Program, state)),
-            _ => Ok((specification.guar, Owner::Program, step)),
-        },
-        Breaks::Invariant => Ok((specification.invariant, Owner::Invariant, state)),
-        Breaks::Part => {
+    let state = Moment::at(step.after);
+    let invariant = specification.invariant;
+    match run.broken {
+        Broken::Post => Ok((
+            Breaks::Specification,
+            specification.post,
+            Owner::Program,
+            state,
+        )),
+        Broken::Guarantee => Ok((
+            Breaks::Specification,
+            specification.guar,
+            Owner::Program,
+            step,
+        )),
+        Broken::OwnGuarantee if is_true(expansion, invariant, state)? => {
             let who = run.steps.last().map_or(0, |step| step.who);
             let (formula, owner) = broken_by(expansion, who.saturating_sub(1), step)?;
-            Ok((formula, owner, step))
+            Ok((Breaks::Part, formula, owner, step))
         }
+        Broken::OwnGuarantee => Ok((Breaks::Invariant, invariant, Owner::Invariant, state)),
     }
 }
 
-/// What an owner's formula is called; nothing where it is said before whose it is.
-fn owner_text(expansion: &Expansion<'_>, owner: Owner) -> Result<Option<Vec<u8>>, AllocError> {
-    let mut text = Vec::new(expansion.scope.alloc);
-    match owner {
-        Owner::Program | Owner::Whole => return Ok(None),
-        Owner::Invariant => text.extend_from_slice(b"the invariant")?,
-        Owner::Rely(part) => push_with_part(expansion, &mut text, b"the rely of ", part)?,
-        Owner::Guar(part) => push_with_part(expansion, &mut text, b"the own guar of ", part)?,
+impl Breach {
+    /// What a run breaks in its last step.
+    fn at(
+        expansion: &Expansion<'_>,
+        run: &BreakingRun,
+        step: Moment<'_>,
+    ) -> Result<Breach, AllocError> {
+        let (breaks, formula, owner, moment) = due_of(expansion, run, step)?;
+        let falsity = Falsity::of(expansion, formula, moment)?;
+        let mut details = falsity.details(expansion)?;
+        let (template, part) = match owner {
+            Owner::Program | Owner::Whole => return Ok(Breach { breaks, details }),
+            Owner::Invariant => ("the invariant", 0),
+            Owner::Rely(part) => ("the rely of $0", part),
+            Owner::Guar(part) => ("the own guar of $0", part),
+        };
+        // (a formula that is made of several has no place of its own)
+        let mut place = expansion.scope.forest.span(formula);
+        if place.start == place.end {
+            place = falsity.outermost(expansion);
+        }
+        details.push(Detail {
+            kind: DetailKind::Name,
+            text: filled(expansion, template, &[Part(part)])?,
+            place,
+        })?;
+        Ok(Breach { breaks, details })
     }
-    Ok(Some(text))
-}
 
-/// The place of an owner's formula; where it is made of several, that of the outermost name in it, or else of the conjunct that is false.
-fn owner_place(expansion: &Expansion<'_>, formula: usize, falsity: &Falsity<'_>) -> Span {
-    let place = expansion.scope.forest.span(formula);
-    if place.start == place.end {
-        return falsity.outermost(expansion);
+    /// What a run breaks.
+    pub(crate) fn of(expansion: &Expansion<'_>, run: &BreakingRun) -> Result<Breach, AllocError> {
+        let alloc = expansion.scope.alloc;
+        let last = run.steps.len().saturating_sub(1);
+        let first = last.checked_sub(1).and_then(|place| run.steps.get(place));
+        let before = values_of(alloc, first.map_or(&run.start, |step| &step.after))?;
+        let after = run.steps.get(last).map_or(&run.start, |step| &step.after);
+        let after = values_of(alloc, after)?;
+        Breach::at(expansion, run, Moment::between(&before, &after))
     }
-    place
-}
-
-/// What is false at the end of a run: a conjunct, the premises that hold, the names within which it stands, and then whose formula it is, where that
-/// isn't said before.
-pub(crate) fn details_of(
-    expansion: &Expansion<'_>,
-    run: &BreakingRun,
-) -> Result<Vec<Detail>, AllocError> {
-    let alloc = expansion.scope.alloc;
-    let last = run.steps.len().saturating_sub(1);
-    let first = last.checked_sub(1).and_then(|place| run.steps.get(place));
-    let before = values_of(alloc, first.map_or(&run.start, |step| &step.after))?;
-    let after = run.steps.get(last).map_or(&run.start, |step| &step.after);
-    let after = values_of(alloc, after)?;
-    let step = Moment::between(&before, &after);
-    let (formula, owner, moment) = due_of(expansion, run, step)?;
-    let falsity = Falsity::of(expansion, formula, moment)?;
-    let mut details = falsity.details(expansion)?;
-    if let Some(text) = owner_text(expansion, owner)? {
-        let place = owner_place(expansion, formula, &falsity);
-        let said = Said::Name;
-        details.push(Detail { said, text, place })?;
-    }
-    Ok(details)
 }

@@ -19,39 +19,35 @@ fn empty_range(expansion: &Expansion<'_>, expression: Expression) -> Option<(Bin
     Some((binder, place))
 }
 
-/// Whether a quantifier or a sum in a formula has a range that never has a number.
-pub(crate) fn has_empty_range(expansion: &Expansion<'_>, formula: usize) -> bool {
-    let mut expressions = expressions_in(expansion.scope.written, formula).iter();
-    expressions.any(|expression| empty_range(expansion, *expression).is_some())
-}
-
 /// What is said of a quantifier or a sum over no number.
-fn sentence_of(binder: Binder) -> &'static [u8] {
+fn sentence_of(binder: Binder) -> &'static str {
     match binder {
         Binder::All => {
-            b"no number is in this range, so this `all` is true and says nothing: a range counts up, without what stands after `but`"
+            "no number is in this range, so this `all` is true and says nothing: a range counts up, without what stands after `but`"
         }
         Binder::Some => {
-            b"no number is in this range, so this `some` is false: a range counts up, without what stands after `but`"
+            "no number is in this range, so this `some` is false: a range counts up, without what stands after `but`"
         }
         Binder::Sum => {
-            b"no number is in this range, so this sum is 0: a range counts up, without what stands after `but`"
+            "no number is in this range, so this sum is 0: a range counts up, without what stands after `but`"
         }
     }
 }
 
-/// Reports each quantifier and each sum in a formula, which a part or the program promises, whose range never has a number.
+/// Reports each quantifier and each sum in a formula, which a part or the program promises, whose range never has a number; whether there is one.
 pub(crate) fn report_empty_ranges(
-    expansion: &Expansion<'_>,
+    reports: &mut Reports<'_>,
     formula: usize,
     part: Option<usize>,
-    reports: &mut Reports,
-) -> Result<(), AllocError> {
+) -> Result<bool, AllocError> {
+    let expansion = reports.expansion;
+    let mut is_any = false;
     for expression in expressions_in(expansion.scope.written, formula) {
         if let Some((binder, range)) = empty_range(expansion, *expression) {
-            let said = sentence_of(binder);
-            warn(reports, Warning::EmptyRange, range, part, said)?;
+            let template = sentence_of(binder);
+            warn(reports, Warning::EmptyRange, range, part, template, &[])?;
+            is_any = true;
         }
     }
-    Ok(())
+    Ok(is_any)
 }

@@ -1,18 +1,19 @@
 //! Conditions that aren't proved, each in the terms of the outline.
 
 use crate::asked::{Asked, OfLine, OfParts, conditions_of};
+use crate::conditions::{asked_of_parts, condition_sentence, given_and_due, place_of};
+use crate::draw::{push_reports, push_sentence_of};
 use crate::falsity::{Falsity, Finding};
 use crate::files::Format;
-use crate::json::push_json_of_verdict;
-use crate::lines::{push_reports, push_rows_alone};
+use crate::json::JsonObject;
 use crate::reports::{Cause, Claim, Key, Moved, Reports};
-use crate::says::{given_and_due, place_of, push_says, statement_span};
 use crate::steady::report_unstable;
 use crate::step::report_step;
-use crate::subject::{Subject, push_line};
+use crate::template::Gap::{Counted, LineOf, Text};
+use crate::template::fill;
 use crate::values::{Moment, values_of};
-use rg_outline::{Action, Assertion, BlockRow, Expansion, Line, Origin};
-use rg_outline_syntax::{Span, push_count};
+use rg_outline::{Action, BlockRow, Expansion, Line, Origin};
+use rg_outline_syntax::Span;
 use rg_words::State;
 use std::alloc::AllocError;
 
@@ -39,34 +40,25 @@ pub struct Failed<'s> {
 
 /// Reports a loop that ends in a state in which the assertion after it is false.
 fn report_exit(
-    expansion: &Expansion<'_>,
-    reports: &mut Reports,
+    reports: &mut Reports<'_>,
     line: &Line,
     moment: Moment<'_>,
-) -> Result<(), AllocError> {
-    let falsity = Falsity::of(expansion, line.post, moment)?;
-    let mut words = falsity.words(expansion)?;
-    words.add_tree(expansion, expansion.statement(line.statement).test)?;
-    let mut sentence = Vec::new(expansion.scope.alloc);
-    sentence.extend_from_slice(b"where this loop ends, the assertion of line ")?;
-    push_line(expansion, &mut sentence, line.after.span)?;
-    sentence.extend_from_slice(b" can be false")?;
-    let place = statement_span(expansion, line);
+) -> Result<bool, AllocError> {
+    let expansion = reports.expansion;
+    let statement = expansion.statement(line.statement);
+    let mut falsity = Falsity::of(expansion, line.post, moment)?;
+    falsity.words.add_tree(expansion, statement.test)?;
     let finding = Finding {
         cause: Cause::Exit,
-        at: place,
+        at: statement.span,
         what: falsity.span(expansion),
-        place,
-        part: Some(line.part),
-        used: expansion.statement(line.statement).used,
-        sentence,
-        falsity,
-        words,
+        place: statement.span,
+        line: Some(line),
         moved: Moved::State,
         moment,
     };
-    finding.put(expansion, reports)?;
-    Ok(())
+    let template = "where this loop ends, the assertion of line $0 can be false";
+    falsity.report(reports, finding, template, &[LineOf(line.after.span)])
 }
 
 /// Whether a statement stands in a block, not deeper.
@@ -88,46 +80,30 @@ fn if_around(expansion: &Expansion<'_>, inner: usize) -> Option<Span> {
     None
 }
 
-/// That an assertion doesn't follow from the one before it.
-fn not_followed(expansion: &Expansion<'_>, given: Assertion) -> Result<Vec<u8>, AllocError> {
-    let mut sentence = Vec::new(expansion.scope.alloc);
-    sentence.extend_from_slice(b"this assertion doesn't follow from what holds before it (line ")?;
-    push_line(expansion, &mut sentence, given.span)?;
-    if given.origin == Origin::Carried {
-        sentence.extend_from_slice(b", carried on")?;
-    }
-    sentence.push(b')')?;
-    Ok(sentence)
-}
-
-/// That no assertion is written after an `if`, and the one that is carried on past it doesn't hold at the end of a branch.
-fn carried_past_if(expansion: &Expansion<'_>, due: Assertion) -> Result<Vec<u8>, AllocError> {
-    let mut sentence = Vec::new(expansion.scope.alloc);
-    let said = b"no assertion stands after this `if`, and the one of line ";
-    sentence.extend_from_slice(said)?;
-    push_line(expansion, &mut sentence, due.span)?;
-    sentence.extend_from_slice(b", which is carried on, can be false then")?;
-    Ok(sentence)
-}
-
-/// Reports an assertion that doesn't follow from what holds before it.
+/// Reports an assertion that doesn't follow from what holds before it. Where none is written after an `if`, it is the one that is carried on past it,
+/// and doesn't hold at the end of a branch.
 fn report_consequence(
-    expansion: &Expansion<'_>,
-    reports: &mut Reports,
+    reports: &mut Reports<'_>,
     line: &Line,
     moment: Moment<'_>,
     is_before: bool,
-) -> Result<(), AllocError> {
+) -> Result<bool, AllocError> {
+    let expansion = reports.expansion;
     let (given, due) = given_and_due(expansion, line, is_before);
     let falsity = Falsity::of(expansion, due.full, moment)?;
-    let choice = if_around(expansion, line.statement);
-    let (place, sentence) = match choice {
-        Some(choice) if !is_before && due.origin == Origin::Carried => {
-            (choice, carried_past_if(expansion, due)?)
-        }
+    let inner = falsity.place(expansion, due.span);
+    let (place, template) = match if_around(expansion, line.statement) {
+        Some(choice) if !is_before && due.origin == Origin::Carried => (
+            choice,
+            "no assertion stands after this `if`, and the one of line $1, which is carried on, can be false then",
+        ),
+        _ if given.origin == Origin::Carried => (
+            inner,
+            "this assertion doesn't follow from what holds before it (line $0, carried on)",
+        ),
         _ => (
-            falsity.place(expansion, due.span),
-            not_followed(expansion, given)?,
+            inner,
+            "this assertion doesn't follow from what holds before it (line $0)",
         ),
     };
     let finding = Finding {
@@ -135,67 +111,36 @@ fn report_consequence(
         at: due.span,
         what: falsity.span(expansion),
         place,
-        part: Some(line.part),
-        used: expansion.statement(line.statement).used,
-        sentence,
-        words: falsity.words(expansion)?,
-        falsity,
+        line: Some(line),
         moved: Moved::State,
         moment,
     };
-    finding.put(expansion, reports)?;
-    Ok(())
-}
-
-/// The formula that a condition of the parts asks for, and a number for the kind of the condition.
-fn due_of_parts(expansion: &Expansion<'_>, asks: OfParts) -> (usize, usize) {
-    let rely = |part: usize| expansion.parts.get(part).map_or(0, |part| part.rely);
-    match asks {
-        OfParts::Pre(part) => {
-            let pre = expansion.parts.get(part).map_or(0, |part| part.pre.full);
-            (pre, 0)
-        }
-        OfParts::Rely(part) => (rely(part), 1),
-        OfParts::Between { rely: part, .. } => (rely(part), 2),
-        OfParts::Guar(_) => (expansion.specification.guar, 3),
-        OfParts::Post => (expansion.specification.post, 4),
-    }
+    let gaps = [LineOf(given.span), LineOf(due.span)];
+    falsity.report(reports, finding, template, &gaps)
 }
 
 /// Reports a condition of the parts that is false.
 fn report_parts(
-    expansion: &Expansion<'_>,
-    reports: &mut Reports,
+    reports: &mut Reports<'_>,
     asks: OfParts,
     moment: Moment<'_>,
     moved: Moved,
-) -> Result<(), AllocError> {
-    let (due, kind) = due_of_parts(expansion, asks);
+) -> Result<bool, AllocError> {
+    let expansion = reports.expansion;
+    let (due, kind, around) = asked_of_parts(expansion, asks);
     let falsity = Falsity::of(expansion, due, moment)?;
-    let mut sentence = Vec::new(expansion.scope.alloc);
-    sentence.extend_from_slice(b"not so: ")?;
-    push_says(expansion, &mut sentence, Asked::Parts(asks))?;
     let what = falsity.span(expansion);
-    let place = if what.start < what.end {
-        what
-    } else {
-        place_of(expansion, Asked::Parts(asks))
-    };
     let finding = Finding {
         cause: Cause::Parallel,
         at: numbered(kind),
         what,
-        place,
-        part: None,
-        used: None,
-        sentence,
-        words: falsity.words(expansion)?,
-        falsity,
+        place: if what.start < what.end { what } else { around },
+        line: None,
         moved,
         moment,
     };
-    finding.put(expansion, reports)?;
-    Ok(())
+    let sentence = condition_sentence(expansion, Asked::Parts(asks))?;
+    falsity.report(reports, finding, "not so: $0", &[Text(&sentence)])
 }
 
 /// A place that stands for a number, where causes are kept apart by numbers.
@@ -208,121 +153,100 @@ fn numbered(number: usize) -> Span {
 
 /// Reports a condition that is false in these states.
 fn report_false(
-    expansion: &Expansion<'_>,
-    reports: &mut Reports,
+    reports: &mut Reports<'_>,
     asked: Asked<'_>,
     first: &State,
     second: Option<&State>,
-) -> Result<(), AllocError> {
-    let before = values_of(expansion.scope.alloc, first)?;
-    let after = values_of(expansion.scope.alloc, second.unwrap_or(first))?;
+) -> Result<bool, AllocError> {
+    let alloc = reports.expansion.scope.alloc;
+    let before = values_of(alloc, first)?;
+    let after = values_of(alloc, second.unwrap_or(first))?;
     let moment = Moment::between(&before, &after);
-    match asked {
-        Asked::Parts(asks) => {
-            let moved = if second.is_some() {
-                Moved::Step
-            } else {
-                Moved::State
-            };
-            report_parts(expansion, reports, asks, moment, moved)
+    let (asks, line) = match asked {
+        Asked::Line(asks, _, line) => (asks, line),
+        Asked::Parts(asks) if second.is_some() => {
+            return report_parts(reports, asks, moment, Moved::Step);
         }
-        Asked::Line(asks, _, line) => match asks {
-            OfLine::Reach => report_step(expansion, reports, line, moment.before, true),
-            OfLine::Step => report_step(expansion, reports, line, moment.before, false),
-            OfLine::PreStable => report_unstable(expansion, reports, line, moment, true),
-            OfLine::PostStable => report_unstable(expansion, reports, line, moment, false),
-            OfLine::Exit => report_exit(expansion, reports, line, moment),
-            OfLine::PreFollows => report_consequence(expansion, reports, line, moment, true),
-            _ => report_consequence(expansion, reports, line, moment, false),
-        },
+        Asked::Parts(asks) => return report_parts(reports, asks, moment, Moved::State),
+    };
+    match asks {
+        OfLine::Reach => report_step(reports, line, moment.before, true),
+        OfLine::Step => report_step(reports, line, moment.before, false),
+        OfLine::PreStable => report_unstable(reports, line, moment, true),
+        OfLine::PostStable => report_unstable(reports, line, moment, false),
+        OfLine::Exit => report_exit(reports, line, moment),
+        OfLine::PreFollows => report_consequence(reports, line, moment, true),
+        _ => report_consequence(reports, line, moment, false),
     }
 }
 
-/// Reports a condition for which there is no proof, or which is false in states that aren't given.
+/// Reports a condition for which there is no proof, or which is false in states that aren't given. What it says is at the template's gap.
 fn report_alone(
-    expansion: &Expansion<'_>,
-    reports: &mut Reports,
+    reports: &mut Reports<'_>,
     asked: Asked<'_>,
     number: usize,
-    why: &[u8],
-) -> Result<(), AllocError> {
-    let mut sentence = Vec::new(expansion.scope.alloc);
-    sentence.extend_from_slice(why)?;
-    push_says(expansion, &mut sentence, asked)?;
+    template: &str,
+) -> Result<bool, AllocError> {
     let key = Key {
         cause: Cause::Unproved,
         at: numbered(number),
         what: numbered(number),
     };
-    reports.put(key, place_of(expansion, asked), None, &sentence)?;
-    Ok(())
-}
-
-/// Adds a count and what is said of so many: of one, or of several.
-fn push_counted(
-    text: &mut Vec<u8>,
-    count: usize,
-    one: &[u8],
-    several: &[u8],
-) -> Result<(), AllocError> {
-    push_count(text, count as u64)?;
-    text.extend_from_slice(if count == 1 { one } else { several })
+    let place = place_of(reports.expansion, asked);
+    let sentence = condition_sentence(reports.expansion, asked)?;
+    reports.put(key, place, None, template, &[Text(&sentence)])
 }
 
 /// What is reported of conditions that aren't proved: of those that are false each place once, and those for which there is no proof.
 #[derive(Drop)]
-pub(crate) struct FailureReports {
-    untrue: Reports,
-    unproved: Reports,
+pub(crate) struct FailureReports<'e> {
+    untrue: Reports<'e>,
+    unproved: Reports<'e>,
     /// How many conditions are false.
     count: usize,
     /// How many conditions are proved.
     proved: usize,
 }
 
-impl FailureReports {
+impl<'e> FailureReports<'e> {
     /// What is reported of these conditions.
     pub(crate) fn of(
-        expansion: &Expansion<'_>,
+        expansion: &'e Expansion<'e>,
         failed: &[Failed<'_>],
-    ) -> Result<FailureReports, AllocError> {
+    ) -> Result<FailureReports<'e>, AllocError> {
         let asked = conditions_of(expansion)?;
         let mut reports = FailureReports {
-            untrue: Reports::new(expansion.scope.alloc),
-            unproved: Reports::new(expansion.scope.alloc),
+            untrue: Reports::new(expansion),
+            unproved: Reports::new(expansion),
             count: 0,
             proved: asked.len().saturating_sub(failed.len()),
         };
         for one in failed {
             if let Some(asked) = asked.get(one.number.saturating_sub(1)) {
-                reports.report(expansion, *asked, *one)?;
+                reports.report(*asked, *one)?;
             }
         }
         Ok(reports)
     }
 
     /// Reports a condition.
-    fn report(
-        &mut self,
-        expansion: &Expansion<'_>,
-        asked: Asked<'_>,
-        failed: Failed<'_>,
-    ) -> Result<(), AllocError> {
+    fn report(&mut self, asked: Asked<'_>, failed: Failed<'_>) -> Result<bool, AllocError> {
         let number = failed.number;
-        let why: &[u8] = match failed.failing {
+        let template = match failed.failing {
             Failing::At(first, second) => {
                 self.count = self.count.saturating_add(1);
-                return report_false(expansion, &mut self.untrue, asked, first, second);
+                return report_false(&mut self.untrue, asked, first, second);
             }
             Failing::False => {
                 self.count = self.count.saturating_add(1);
-                return report_alone(expansion, &mut self.untrue, asked, number, b"not so: ");
+                return report_alone(&mut self.untrue, asked, number, "not so: $0");
             }
-            Failing::Unproved => b"no proof found within the bounds of the search: ",
-            Failing::TooLarge =>
-                b"its proof has more than 16777216 bytes, the most of one condition: ",
+            Failing::Unproved => "no proof found within the bounds of the search: $0",
+            Failing::TooLarge => {
+                "its proof has more than 16777216 bytes, the most of one condition: $0"
+            }
         };
-        report_alone(expansion, &mut self.unproved, asked, number, why)
+        report_alone(&mut self.unproved, asked, number, template)
     }
 
     /// What it says to be false, and in which states.
@@ -332,37 +256,43 @@ impl FailureReports {
         claims
     }
 
-    /// Adds it: what is false, in the order of the places; then the conditions for which there is no proof; and the counts.
+    /// Adds it: what is false, in the order of the places; then the conditions for which there is no proof; and the counts. `own` is the name of the
+    /// outline's own file.
     pub(crate) fn push(
         &self,
         text: &mut Vec<u8>,
         format: Format,
-        subject: Subject<'_>,
+        own: &[u8],
     ) -> Result<(), AllocError> {
-        push_reports(text, format, &self.untrue, subject)?;
+        push_reports(text, format, &self.untrue, own)?;
         if format == Format::Plain {
-            push_rows_alone(text, &self.unproved, subject)?;
+            for report in &self.unproved.listed {
+                push_sentence_of(self.unproved.expansion, text, report, own)?;
+            }
             return self.push_counts(text);
         }
-        push_reports(text, format, &self.unproved, subject)?;
-        let unproved = self.unproved.listed.len();
-        push_json_of_verdict(text, self.untrue.alloc, subject.file, self.count, unproved)
+        push_reports(text, format, &self.unproved, own)?;
+        let alloc = self.untrue.expansion.scope.alloc;
+        let mut object = JsonObject::of_kind(alloc, b"not verified");
+        object.put_text("file", own);
+        object.put_count("untrue", self.count as u64);
+        object.put_count("unproved", self.unproved.listed.len() as u64);
+        object.push_to(text)
     }
 
     /// Adds the last line: how many conditions hold, how many don't, and for how many no proof was found.
     fn push_counts(&self, text: &mut Vec<u8>) -> Result<(), AllocError> {
         let open = self.unproved.listed.len();
-        text.extend_from_slice(b"\nnot verified: ")?;
-        push_counted(text, self.proved, b" condition holds", b" conditions hold")?;
-        if self.count > 0 {
-            text.extend_from_slice(b", ")?;
-            push_counted(text, self.count, b" does not", b" do not")?;
+        let gaps = [
+            Counted(self.proved as u64, "condition holds", "conditions hold"),
+            Counted(self.count as u64, "does not", "do not"),
+            Counted(open as u64, "is open", "are open"),
+        ];
+        let untrue = if self.count > 0 { ", $1" } else { "" };
+        let unproved = if open > 0 { ", $2" } else { "" };
+        for template in ["\nnot verified: $0", untrue, unproved, "\n"] {
+            fill(self.untrue.expansion, text, template, &gaps)?;
         }
-        if open > 0 {
-            text.extend_from_slice(b", ")?;
-            push_counted(text, open, b" is open", b" are open")?;
-        }
-        text.push(b'\n')?;
         Ok(())
     }
 }

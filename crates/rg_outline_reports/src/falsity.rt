@@ -1,12 +1,14 @@
 //! What is false of a formula: its first conjunct that is, the premises that hold, and the names within which it stands; and a report of it.
 
+use crate::faults::fits;
 use crate::meanings::push_meanings;
-use crate::reports::{Cause, Claim, Detail, Key, Moved, Reports, Said};
+use crate::reports::{Cause, Claim, Detail, DetailKind, Key, Moved, Reports};
 use crate::show::{push_name, push_shown};
+use crate::template::Gap;
 use crate::values::{Moment, Values};
 use crate::words::Words;
-use rg_outline::{Expansion, push_flat};
-use rg_outline_syntax::{Conditional, FaultKind, Junction, Span};
+use rg_outline::{Expansion, Line, push_flat};
+use rg_outline_syntax::{Conditional, Junction, Span};
 use rg_outline_terms::Root;
 use std::alloc::AllocError;
 
@@ -21,6 +23,24 @@ pub(crate) struct Falsity<'s> {
     pub(crate) names: Vec<usize>,
     /// The premises of those implications whose right side it stands in.
     premises: Vec<usize>,
+    /// The words of the conjunct and of its premises; all words where these have none, as `false` has. Who reports it may add some.
+    pub(crate) words: Words,
+}
+
+/// A condition that is false.
+#[derive(Clone, Copy)]
+pub(crate) struct Finding<'s> {
+    pub(crate) cause: Cause,
+    /// What makes it another cause than others are, besides `what`.
+    pub(crate) at: Span,
+    /// Where stands what is false.
+    pub(crate) what: Span,
+    pub(crate) place: Span,
+    /// The line of which it is a condition; none where it is one of all parts.
+    pub(crate) line: Option<&'s Line>,
+    pub(crate) moved: Moved,
+    /// The values that are given.
+    pub(crate) moment: Moment<'s>,
 }
 
 /// Where to go on below a formula that is false, and whether its first operand is then a premise.
@@ -43,19 +63,25 @@ fn below(expansion: &Expansion<'_>, values: &Values, tree: usize) -> Option<(usi
 /// A formula as it is shown, as a detail.
 fn detail(
     expansion: &Expansion<'_>,
-    said: Said,
+    kind: DetailKind,
     tree: usize,
     level: u8,
 ) -> Result<Detail, AllocError> {
     let mut text = Vec::new(expansion.scope.alloc);
     let mut place = Span::NOWHERE;
-    if said == Said::Name {
+    if kind == DetailKind::Name {
         push_name(expansion, &mut text, tree)?;
         place = expansion.scope.forest.span(tree);
     } else {
-        push_shown(expansion, &mut text, tree, level, said == Said::Premise)?;
+        push_shown(
+            expansion,
+            &mut text,
+            tree,
+            level,
+            kind == DetailKind::Premise,
+        )?;
     }
-    Ok(Detail { said, text, place })
+    Ok(Detail { kind, text, place })
 }
 
 impl<'s> Falsity<'s> {
@@ -71,8 +97,10 @@ impl<'s> Falsity<'s> {
             moment,
             names: Vec::new(expansion.scope.alloc),
             premises: Vec::new(expansion.scope.alloc),
+            words: Words::new(expansion),
         };
         falsity.descend(expansion, &values)?;
+        falsity.add_words(expansion)?;
         Ok(falsity)
     }
 
@@ -127,31 +155,30 @@ impl<'s> Falsity<'s> {
         expansion.scope.forest.span(self.conjunct)
     }
 
-    /// The words of the conjunct and of its premises; all words where these have none, as `false` has.
-    pub(crate) fn words(&self, expansion: &Expansion<'_>) -> Result<Words, AllocError> {
-        let mut words = Words::new(expansion);
-        words.add_tree(expansion, self.conjunct)?;
+    /// Adds the words of the conjunct and of its premises, or all.
+    fn add_words(&mut self, expansion: &Expansion<'_>) -> Result<(), AllocError> {
+        self.words.add_tree(expansion, self.conjunct)?;
         for premise in &self.premises {
-            words.add_tree(expansion, *premise)?;
+            self.words.add_tree(expansion, *premise)?;
         }
-        if words.is_empty() {
+        if self.words.is_empty() {
             for word in 0..expansion.scope.words.len() {
-                words.add(word)?;
+                self.words.add(word)?;
             }
         }
-        Ok(words)
+        Ok(())
     }
 
     /// The conjunct, the premises that hold, what the names in it stand for, and the names within which it stands, the innermost first.
     pub(crate) fn details(&self, expansion: &Expansion<'_>) -> Result<Vec<Detail>, AllocError> {
         let mut details = Vec::new(expansion.scope.alloc);
-        details.push(detail(expansion, Said::Conjunct, self.conjunct, 0)?)?;
+        details.push(detail(expansion, DetailKind::Conjunct, self.conjunct, 0)?)?;
         for premise in &self.premises {
-            details.push(detail(expansion, Said::Premise, *premise, 3)?)?;
+            details.push(detail(expansion, DetailKind::Premise, *premise, 3)?)?;
         }
         push_meanings(expansion, &mut details, self.conjunct, &self.premises)?;
         for name in self.names.iter().rev() {
-            details.push(detail(expansion, Said::Name, *name, 0)?)?;
+            details.push(detail(expansion, DetailKind::Name, *name, 0)?)?;
         }
         Ok(details)
     }
@@ -160,72 +187,44 @@ impl<'s> Falsity<'s> {
     fn claim(&self, expansion: &Expansion<'_>) -> Result<Claim, AllocError> {
         let alloc = expansion.scope.alloc;
         let mut formula = Vec::new(alloc);
-        match push_flat(expansion, &mut formula, self.conjunct) {
-            Err(fault) if matches!(fault.kind, FaultKind::Memory) => return Err(AllocError),
-            _ => {}
-        }
+        fits(push_flat(expansion, &mut formula, self.conjunct))?;
         Ok(Claim {
             formula,
             before: Vec::from_slice(alloc, self.moment.before)?,
             after: Vec::from_slice(alloc, self.moment.after)?,
         })
     }
-}
 
-/// The use of named statements, and its place.
-fn use_detail(expansion: &Expansion<'_>, used: Span) -> Result<Detail, AllocError> {
-    let shown = used.of(expansion.scope.source);
-    Ok(Detail {
-        said: Said::Name,
-        text: Vec::from_slice(expansion.scope.alloc, shown)?,
-        place: used,
-    })
-}
-
-/// What is reported of a condition that is false.
-#[derive(Drop)]
-pub(crate) struct Finding<'s> {
-    pub(crate) cause: Cause,
-    /// What makes it another cause than others are, besides the place of what is false.
-    pub(crate) at: Span,
-    pub(crate) what: Span,
-    pub(crate) place: Span,
-    pub(crate) part: Option<usize>,
-    /// The use of named statements in which its step stands.
-    pub(crate) used: Option<Span>,
-    pub(crate) sentence: Vec<u8>,
-    pub(crate) falsity: Falsity<'s>,
-    pub(crate) words: Words,
-    pub(crate) moved: Moved,
-    /// The values that are given.
-    pub(crate) moment: Moment<'s>,
-}
-
-impl Finding<'_> {
-    /// Reports it, where its cause isn't reported yet. Whether it wasn't.
-    pub(crate) fn put(
+    /// Reports it with this sentence, where its cause isn't reported yet. Whether it wasn't.
+    pub(crate) fn report(
         &self,
-        expansion: &Expansion<'_>,
-        reports: &mut Reports,
+        reports: &mut Reports<'_>,
+        finding: Finding<'_>,
+        template: &str,
+        gaps: &[Gap<'_>],
     ) -> Result<bool, AllocError> {
+        let expansion = reports.expansion;
         let key = Key {
-            cause: self.cause,
-            at: self.at,
-            what: self.what,
+            cause: finding.cause,
+            at: finding.at,
+            what: finding.what,
         };
-        if !reports.put(key, self.place, self.part, &self.sentence)? {
+        let part = finding.line.map(|line| line.part);
+        if !reports.put(key, finding.place, part, template, gaps)? {
             return Ok(false);
         }
-        let mut details = self.falsity.details(expansion)?;
-        if let Some(used) = self.used {
-            details.push(use_detail(expansion, used)?)?;
+        let mut details = self.details(expansion)?;
+        let statement = finding.line.map(|line| expansion.statement(line.statement));
+        if let Some(place) = statement.and_then(|statement| statement.used) {
+            details.push(Detail {
+                kind: DetailKind::Name,
+                text: Vec::from_slice(expansion.scope.alloc, place.of(expansion.scope.source))?,
+                place,
+            })?;
         }
-        reports.explain(
-            details,
-            self.moved,
-            self.words.values(expansion, self.moment)?,
-        );
-        reports.claims.push(self.falsity.claim(expansion)?)?;
+        let values = self.words.values(expansion, finding.moment)?;
+        reports.explain(details, finding.moved, values);
+        reports.claims.push(self.claim(expansion)?)?;
         Ok(true)
     }
 }

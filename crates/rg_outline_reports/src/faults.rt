@@ -1,8 +1,7 @@
 //! The first fault of an outline, and what may be printed of an outline's bytes.
 
 use crate::files::{Format, NoFiles, OutlineSource};
-use crate::json::push_json_of_fault;
-use crate::subject::Subject;
+use crate::json::JsonObject;
 use rg_outline::Expansion;
 use rg_outline_syntax::{Fault, FaultKind, Names, Texts, push_sentence, tell};
 use std::alloc::{AllocError, Global};
@@ -29,6 +28,15 @@ pub(crate) fn printable(alloc: Global, lines: &[u8]) -> Result<Vec<u8>, AllocErr
     Ok(shown)
 }
 
+/// Whether what was printed is as large as a text may be, at most; an error where memory was refused.
+pub(crate) fn fits(printed: Result<(), Fault>) -> Result<bool, AllocError> {
+    match printed {
+        Ok(()) => Ok(true),
+        Err(fault) if matches!(fault.kind, FaultKind::Memory) => Err(AllocError),
+        Err(_) => Ok(false),
+    }
+}
+
 /// What reports a fault by what it may name.
 fn lines_of(
     alloc: Global,
@@ -43,13 +51,10 @@ fn lines_of(
     }
     let mut sentence = Vec::new(alloc);
     push_sentence(&mut sentence, fault, names)?;
-    let subject = Subject {
-        file: outline.name.as_bytes(),
-        source: names.source,
-        words: names.words,
-        parts: names.parts,
-    };
-    push_json_of_fault(&mut lines, alloc, subject, fault.span, &sentence)?;
+    let mut object = JsonObject::of_kind(alloc, b"refused");
+    object.put_place(outline.name.as_bytes(), outline.source, fault.span);
+    object.put_text("sentence", &sentence);
+    object.push_to(&mut lines)?;
     Ok(lines)
 }
 

@@ -2,7 +2,7 @@
 
 use crate::Claim;
 use rg_outline_syntax::Fault;
-use std::alloc::AllocError;
+use std::alloc::{AllocError, Global};
 
 /// The files that an outline stands for, each as it is printed.
 #[derive(Drop)]
@@ -24,6 +24,8 @@ pub struct Places {
     pub words: Vec<Vec<u8>>,
     /// The line of each statement in the outline's own file, which of one in a used file is that of its use, by the statement's number in the text; 0 for a sequence, and as the first one, since numbers are from 1.
     pub lines: Vec<u64>,
+    /// The numbers of those that nobody wrote: each is the `skip` of an `else` that isn't there.
+    pub added: Vec<usize>,
 }
 
 /// What is reported of conditions that aren't proved.
@@ -42,6 +44,19 @@ pub enum NoFiles {
     Reported(Vec<u8>),
     /// Memory was refused.
     Memory,
+}
+
+impl NoFiles {
+    /// The same once more.
+    pub(crate) fn copied(&self, alloc: Global) -> NoFiles {
+        match self {
+            NoFiles::Reported(lines) => match Vec::from_slice(alloc, lines) {
+                Ok(lines) => NoFiles::Reported(lines),
+                Err(_) => NoFiles::Memory,
+            },
+            NoFiles::Memory => NoFiles::Memory,
+        }
+    }
 }
 
 /// How reports are printed.

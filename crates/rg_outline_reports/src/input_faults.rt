@@ -3,11 +3,13 @@
 use crate::faults::printable;
 use crate::files::NoFiles;
 use crate::inputs::Input;
+use crate::template::Gap::{Count, Phrase, Text, WordsIn};
+use crate::template::{fill, filled};
 use rg_outline::Expansion;
 use rg_outline_syntax::{
-    Fault, FaultKind, Names, Span, Texts, TokenFault, push_carets, push_count, push_phrase,
-    push_place, push_sentence,
+    Fault, FaultKind, Names, Span, TokenFault, push_carets, push_place, push_sentence,
 };
+use rg_outline_terms::bit_of;
 use std::alloc::{AllocError, AllocFailed};
 
 /// What is wrong with a start or with moves.
@@ -67,17 +69,6 @@ impl<T: Drop> From<AllocFailed<T>> for InputFault {
     }
 }
 
-/// Adds bytes between backticks; of no bytes that the file ends.
-fn push_found(text: &mut Vec<u8>, bytes: &[u8]) -> Result<(), AllocError> {
-    if bytes.is_empty() {
-        return text.extend_from_slice(b"the end of the file");
-    }
-    text.push(b'`')?;
-    push_phrase(text, bytes)?;
-    text.push(b'`')?;
-    Ok(())
-}
-
 /// Adds the words, as the outline writes them.
 fn push_words(expansion: &Expansion<'_>, text: &mut Vec<u8>) -> Result<(), AllocError> {
     for word in 0..expansion.scope.words.len() {
@@ -87,41 +78,8 @@ fn push_words(expansion: &Expansion<'_>, text: &mut Vec<u8>) -> Result<(), Alloc
     Ok(())
 }
 
-/// Adds that a value is too large for a word.
-fn push_too_large(
-    expansion: &Expansion<'_>,
-    text: &mut Vec<u8>,
-    word: usize,
-    value: u64,
-) -> Result<(), AllocError> {
-    push_count(text, value)?;
-    text.extend_from_slice(b" doesn't fit into the ")?;
-    push_count(text, u64::from(expansion.scope.word(word).width))?;
-    text.extend_from_slice(b" bits of ")?;
-    push_found(text, expansion.scope.shown.at(word))
-}
-
-/// Adds what is wrong with the tokens.
-fn push_token_fault(
-    expansion: &Expansion<'_>,
-    text: &mut Vec<u8>,
-    source: &[u8],
-    fault: Fault,
-) -> Result<(), AllocError> {
-    let none = Texts::new(expansion.scope.alloc);
-    let names = Names {
-        source,
-        words: &none,
-        members: &none,
-        parts: &none,
-        bindings: &[],
-        uses: &[],
-    };
-    push_sentence(text, fault, names)
-}
-
 /// Adds the sentence of a fault in these bytes.
-fn push_said(
+fn push_sentence_of(
     expansion: &Expansion<'_>,
     text: &mut Vec<u8>,
     source: &[u8],
@@ -132,54 +90,56 @@ fn push_said(
         InputFaultKind::TooManyBytes => {
             text.extend_from_slice(b"a start, or moves, have 1,048,576 bytes at most")
         }
-        InputFaultKind::Token(fault) => push_token_fault(expansion, text, source, fault),
+        InputFaultKind::Token(fault) => {
+            let names = Names {
+                source,
+                ..expansion.names(&[])
+            };
+            push_sentence(text, fault, names)
+        }
         InputFaultKind::Wanted(what) => {
-            text.extend_from_slice(what.as_bytes())?;
-            text.extend_from_slice(b" is wanted here, not ")?;
-            push_found(text, found)
+            let template = if found.is_empty() {
+                "$0 is wanted here, not the end of the file"
+            } else {
+                "$0 is wanted here, not `$1`"
+            };
+            let gaps = [Text(what.as_bytes()), Phrase(found)];
+            fill(expansion, text, template, &gaps)
         }
         InputFaultKind::NoWord => {
-            text.extend_from_slice(b"no word is named ")?;
-            push_found(text, found)?;
-            text.extend_from_slice(b"; the words are")?;
+            let template = "no word is named `$0`; the words are";
+            fill(expansion, text, template, &[Phrase(found)])?;
             push_words(expansion, text)
         }
         InputFaultKind::GivenAlready(word) => {
-            push_found(text, expansion.scope.shown.at(word))?;
-            text.extend_from_slice(b" has a value already")
+            let word = WordsIn(bit_of(word));
+            fill(expansion, text, "`$0` has a value already", &[word])
         }
-        InputFaultKind::DoesNotFit(word, value) => push_too_large(expansion, text, word, value),
+        InputFaultKind::DoesNotFit(word, value) => {
+            let width = Count(u64::from(expansion.scope.word(word).width));
+            let gaps = [Count(value), width, WordsIn(bit_of(word))];
+            let template = "$0 doesn't fit into the $1 bits of `$2`";
+            fill(expansion, text, template, &gaps)
+        }
         InputFaultKind::TooLate => {
             text.extend_from_slice(b"a move comes after at most 4,294,967,295 steps")
         }
-        InputFaultKind::Memory => text.extend_from_slice(b"memory was refused"),
+        InputFaultKind::Memory => Err(AllocError),
     }
 }
 
-/// Adds a fault as it is reported: `FILE:LINE:COLUMN: sentence`, the line, and a row with carets under the place.
-fn push_fault(
-    expansion: &Expansion<'_>,
-    text: &mut Vec<u8>,
-    input: Input<'_>,
-    fault: InputFault,
-) -> Result<(), AllocError> {
-    text.extend_from_slice(input.name.as_bytes())?;
-    text.push(b':')?;
-    push_place(text, input.source, fault.span)?;
-    text.extend_from_slice(b": ")?;
-    push_said(expansion, text, input.source, fault)?;
-    text.push(b'\n')?;
-    push_carets(text, input.source, fault.span)
-}
-
-/// The lines that report a fault.
+/// The lines that report a fault: `FILE:LINE:COLUMN: sentence`, the line, and a row with carets under the place.
 fn lines_of(
     expansion: &Expansion<'_>,
     input: Input<'_>,
     fault: InputFault,
 ) -> Result<Vec<u8>, AllocError> {
-    let mut lines = Vec::new(expansion.scope.alloc);
-    push_fault(expansion, &mut lines, input, fault)?;
+    let mut lines = filled(expansion, "$0:", &[Text(input.name.as_bytes())])?;
+    push_place(&mut lines, input.source, fault.span)?;
+    lines.extend_from_slice(b": ")?;
+    push_sentence_of(expansion, &mut lines, input.source, fault)?;
+    lines.push(b'\n')?;
+    push_carets(&mut lines, input.source, fault.span)?;
     printable(expansion.scope.alloc, &lines)
 }
 
@@ -189,9 +149,6 @@ pub(crate) fn refused_input(
     input: Input<'_>,
     fault: InputFault,
 ) -> NoFiles {
-    if matches!(fault.kind, InputFaultKind::Memory) {
-        return NoFiles::Memory;
-    }
     match lines_of(expansion, input, fault) {
         Ok(lines) => NoFiles::Reported(lines),
         Err(_) => NoFiles::Memory,

@@ -1,13 +1,17 @@
 //! The start and the moves of a run, which name words as the outline does, and the same as the text's words and decimal numbers.
 
-use crate::falsity::Falsity;
+use crate::falsity::{Falsity, Finding};
 use crate::files::NoFiles;
 use crate::input_faults::{InputFault, InputFaultKind, refused_input};
-use crate::reports::{Cause, Key, Moved, Reports};
-use crate::values::{Moment, is_true};
+use crate::outlined::Outlined;
+use crate::reports::{Cause, Moved, Reports};
+use crate::template::Gap::{Count, Text};
+use crate::template::fill;
+use crate::values::{Moment, is_true, zeros};
 use crate::warnings::clause_span;
 use rg_outline::Expansion;
-use rg_outline_syntax::{Clause, Comparison, Infix, Kind, Span, Symbol, Token, Tokens, push_count};
+use rg_outline_syntax::{Clause, Comparison, Infix, Kind, Span, Symbol, Token, Tokens};
+use rg_outline_terms::bit_of;
 use std::alloc::AllocError;
 
 /// The greatest number of a move.
@@ -31,20 +35,13 @@ pub struct Inputs {
     pub values: Vec<u64>,
 }
 
-/// A word with the value that it was given.
-#[derive(Clone, Copy)]
-struct Given {
-    word: usize,
-    value: u64,
-}
-
 /// What was read of a start or of moves.
 #[derive(Drop)]
 struct Plain {
     /// The same in the words of the text and in decimal numbers, line for line.
     bytes: Vec<u8>,
-    /// The values of the start, or of the last move.
-    given: Vec<Given>,
+    /// The values of all words at the start; each word that has none is 0.
+    values: Vec<u64>,
 }
 
 /// A start or moves while they are read.
@@ -57,6 +54,8 @@ struct Reading<'a> {
     place: usize,
     /// How many bytes of the source were counted for the line at the end of what was read.
     counted: usize,
+    /// The words that were given a value, by the start or by the last move, as bits.
+    given: u64,
     plain: Plain,
 }
 
@@ -64,11 +63,6 @@ impl Reading<'_> {
     /// The next token.
     fn token(&self) -> Token {
         self.tokens.at(self.place)
-    }
-
-    /// Goes on after the next token.
-    fn go_on(&mut self) {
-        self.place = self.place.saturating_add(1);
     }
 
     /// Whether the next token is `at`.
@@ -86,7 +80,7 @@ impl Reading<'_> {
         if self.token().kind != Kind::Symbol(symbol) {
             return Err(self.wanted(what));
         }
-        self.go_on();
+        self.place = self.place.saturating_add(1);
         Ok(())
     }
 
@@ -95,7 +89,7 @@ impl Reading<'_> {
         let Kind::Number(number) = self.token().kind else {
             return Err(self.wanted(what));
         };
-        self.go_on();
+        self.place = self.place.saturating_add(1);
         Ok(number)
     }
 
@@ -120,53 +114,35 @@ impl Reading<'_> {
             if self.token().kind != Kind::Symbol(Symbol::OpenBracket) {
                 break;
             }
-            self.go_on();
+            self.place = self.place.saturating_add(1);
             let index = self.number("the number of an index")?;
-            name.push(b'[')?;
-            push_count(name, index)?;
-            name.push(b']')?;
+            fill(self.expansion, name, "[$0]", &[Count(index)])?;
             end = self.token().span;
             self.sign(Symbol::CloseBracket, "`]`")?;
         }
         Ok(end)
     }
 
-    /// The word of a name, as the outline writes it or as the text does.
-    fn word_named(&self, name: &[u8]) -> Option<usize> {
-        match self.expansion.scope.shown.find(name) {
-            Some(word) => Some(word),
-            None => self.expansion.scope.members.find(name),
-        }
-    }
-
-    /// Reads the name of a word that has no value yet; the word's number.
+    /// Reads the name of a word that has no value yet, as the outline writes it or as the text does; the word's number.
     fn word(&mut self) -> Result<usize, InputFault> {
         let first = self.token();
         if first.kind != Kind::Name {
             return Err(self.wanted("a word"));
         }
-        self.go_on();
+        self.place = self.place.saturating_add(1);
         let mut name = Vec::new(self.expansion.scope.alloc);
         name.extend_from_slice(first.span.of(self.source))?;
         let span = first.span.to(self.indices(&mut name, first.span)?);
-        match self.word_named(&name) {
+        let scope = &self.expansion.scope;
+        match scope.shown.find(&name).or(scope.members.find(&name)) {
             None => Err(InputFault::at(InputFaultKind::NoWord, span)),
-            Some(word) if self.has_value(word) => {
-                Err(InputFault::at(InputFaultKind::GivenAlready(word), span))
+            Some(word) => {
+                if self.given & bit_of(word) != 0 {
+                    return Err(InputFault::at(InputFaultKind::GivenAlready(word), span));
+                }
+                Ok(word)
             }
-            Some(word) => Ok(word),
         }
-    }
-
-    /// Whether a word was given a value.
-    fn has_value(&self, word: usize) -> bool {
-        self.plain.given.iter().any(|given| given.word == word)
-    }
-
-    /// Whether a value fits into a word.
-    fn fits(&self, word: usize, value: u64) -> bool {
-        let width = self.expansion.scope.word(word).width;
-        width >= 64 || value.checked_shr(width).unwrap_or(0) == 0
     }
 
     /// Reads the value of a word.
@@ -174,7 +150,8 @@ impl Reading<'_> {
         self.sign(Symbol::Infix(Infix::Compare(Comparison::Equal)), "`=`")?;
         let span = self.token().span;
         let value = self.number("a number")?;
-        if !self.fits(word, value) {
+        let width = self.expansion.scope.word(word).width;
+        if value.checked_shr(width).unwrap_or(0) != 0 {
             return Err(InputFault::at(InputFaultKind::DoesNotFit(word, value), span));
         }
         Ok(value)
@@ -185,55 +162,45 @@ impl Reading<'_> {
         let place = self.token().span;
         let word = self.word()?;
         let value = self.value(word)?;
-        self.plain.given.push(Given { word, value })?;
+        self.given |= bit_of(word);
+        if let Some(slot) = self.plain.values.get_mut(word) {
+            *slot = value;
+        }
         self.push_gap(place)?;
         let expansion = self.expansion;
-        self.plain
-            .bytes
-            .extend_from_slice(expansion.scope.members.at(word))?;
-        self.plain.bytes.extend_from_slice(b" = ")?;
-        push_count(&mut self.plain.bytes, value)?;
+        let gaps = [Text(expansion.scope.members.at(word)), Count(value)];
+        fill(expansion, &mut self.plain.bytes, "$0 = $1", &gaps)?;
         Ok(())
     }
 
     /// Reads `at` and the number of a move.
     fn head(&mut self) -> Result<(), InputFault> {
         let place = self.token().span;
-        self.go_on();
+        self.place = self.place.saturating_add(1);
         let span = self.token().span;
         let number = self.number("the number of steps before the move")?;
         if number > MOST_BEFORE_MOVE {
             return Err(InputFault::at(InputFaultKind::TooLate, span));
         }
         self.push_gap(place)?;
-        self.plain.bytes.extend_from_slice(b"at ")?;
-        push_count(&mut self.plain.bytes, number)?;
-        self.plain.given.clear();
+        let count = Count(number);
+        fill(self.expansion, &mut self.plain.bytes, "at $0", &[count])?;
+        self.given = 0;
         Ok(())
     }
 
-    /// Reads all of a start.
-    fn start(&mut self) -> Result<(), InputFault> {
+    /// Reads all of a start or of moves.
+    fn all(&mut self, kind: InputKind) -> Result<(), InputFault> {
         for _ in 0..self.tokens.len() {
             if self.token().kind == Kind::End {
                 break;
             }
-            self.setting()?;
-        }
-        Ok(())
-    }
-
-    /// Reads all moves.
-    fn moves(&mut self) -> Result<(), InputFault> {
-        if self.token().kind != Kind::End && !self.is_at_move() {
-            return Err(self.wanted("`at`"));
-        }
-        for _ in 0..self.tokens.len() {
-            if self.token().kind == Kind::End {
-                break;
-            }
-            if self.is_at_move() {
+            if kind == InputKind::Start {
+                self.setting()?;
+            } else if self.is_at_move() {
                 self.head()?;
+            } else if self.plain.bytes.is_empty() {
+                return Err(self.wanted("`at`"));
             } else {
                 self.setting()?;
             }
@@ -260,88 +227,67 @@ fn plain_in(
         Ok(tokens) => tokens,
         Err(fault) => return Err(InputFault::of_tokens(fault)),
     };
+    let values = zeros(expansion)?;
     let mut reading = Reading {
         expansion,
         source,
         tokens: &tokens,
         place: 0,
         counted: 0,
+        given: 0,
         plain: Plain {
             bytes: Vec::new(alloc),
-            given: Vec::new(alloc),
+            values,
         },
     };
-    match kind {
-        InputKind::Start => reading.start()?,
-        InputKind::Moves => reading.moves()?,
-    }
+    reading.all(kind)?;
     let Reading { plain, .. } = reading;
     Ok(plain)
 }
 
-/// What a start or moves stand for; nothing where none are given.
+/// What a start or moves stand for, nothing where none are given, and the values of all words at the start.
 fn plain_of(
     expansion: &Expansion<'_>,
     input: Option<Input<'_>>,
     kind: InputKind,
-) -> Result<Option<Plain>, NoFiles> {
+) -> Result<(Option<Vec<u8>>, Vec<u64>), NoFiles> {
     let Some(input) = input else {
-        return Ok(None);
+        return Ok((None, zeros(expansion)?));
     };
     match plain_in(expansion, input.source, kind) {
-        Ok(plain) => Ok(Some(plain)),
+        Ok(Plain { bytes, values }) => Ok((Some(bytes), values)),
         Err(fault) => Err(refused_input(expansion, input, fault)),
     }
 }
 
-/// The values of all words where some were given, and each other word is 0.
-fn all_values(expansion: &Expansion<'_>, given: &[Given]) -> Result<Vec<u64>, AllocError> {
-    let mut values = Vec::new(expansion.scope.alloc);
-    for word in 0..expansion.scope.words.len() {
-        let value = given
-            .iter()
-            .find(|given| given.word == word)
-            .map_or(0, |given| given.value);
-        values.push(value)?;
+impl Outlined<'_> {
+    /// What the start and the moves of a run stand for, which name words as the outline does or as the text does.
+    ///
+    /// # Errors
+    ///
+    /// - `NoFiles::Reported`, with the first fault of the start, else of the moves.
+    /// - `NoFiles::Memory` where memory is refused.
+    pub fn inputs(
+        &self,
+        start: Option<Input<'_>>,
+        moves: Option<Input<'_>>,
+    ) -> Result<Inputs, NoFiles> {
+        let (start, values) = plain_of(&self.expansion, start, InputKind::Start)?;
+        let (moves, _values) = plain_of(&self.expansion, moves, InputKind::Moves)?;
+        Ok(Inputs {
+            start,
+            moves,
+            values,
+        })
     }
-    Ok(values)
-}
-
-/// The bytes alone.
-fn bytes_of(plain: Option<Plain>) -> Option<Vec<u8>> {
-    match plain {
-        Some(Plain { bytes, .. }) => Some(bytes),
-        None => None,
-    }
-}
-
-/// What the start and the moves of a run stand for.
-///
-/// # Errors
-///
-/// `NoFiles::Reported` with the first fault of the start, else of the moves; `NoFiles::Memory` where memory is refused.
-pub(crate) fn inputs_of(
-    expansion: &Expansion<'_>,
-    start: Option<Input<'_>>,
-    moves: Option<Input<'_>>,
-) -> Result<Inputs, NoFiles> {
-    let first = plain_of(expansion, start, InputKind::Start)?;
-    let moving = plain_of(expansion, moves, InputKind::Moves)?;
-    let given: &[Given] = first.as_ref().map_or(&[], |plain| plain.given.as_slice());
-    let values = all_values(expansion, given)?;
-    Ok(Inputs {
-        start: bytes_of(first),
-        moves: bytes_of(moving),
-        values,
-    })
 }
 
 /// Reports what is false of the program's pre where a run starts in a state in which it isn't so.
 pub(crate) fn report_outside_pre(
-    expansion: &Expansion<'_>,
+    reports: &mut Reports<'_>,
     values: &[u64],
-    reports: &mut Reports,
 ) -> Result<(), AllocError> {
+    let expansion = reports.expansion;
     let (pre, moment) = (expansion.specification.pre, Moment::at(values));
     if is_true(expansion, pre, moment)? {
         return Ok(());
@@ -349,13 +295,15 @@ pub(crate) fn report_outside_pre(
     let around = clause_span(expansion, Clause::Pre).unwrap_or(Span::NOWHERE);
     let falsity = Falsity::of(expansion, pre, moment)?;
     let place = falsity.place(expansion, around);
-    let key = Key {
+    let finding = Finding {
         cause: Cause::OutsidePre,
         at: place,
         what: place,
+        place,
+        line: None,
+        moved: Moved::State,
+        moment,
     };
-    reports.put(key, place, None, b"the start isn't in the pre")?;
-    let words = falsity.words(expansion)?.values(expansion, moment)?;
-    reports.explain(falsity.details(expansion)?, Moved::State, words);
+    falsity.report(reports, finding, "the start isn't in the pre", &[])?;
     Ok(())
 }

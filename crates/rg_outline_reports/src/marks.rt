@@ -16,19 +16,13 @@ struct Mark {
     line: Option<usize>,
 }
 
-fn is_blank(byte: u8) -> bool {
-    matches!(byte, b' ' | b'\t' | b'\r')
-}
-
 /// The bytes after the blanks at the front.
 fn without_blanks(bytes: &[u8]) -> &[u8] {
-    let blanks = bytes.iter().take_while(|byte| is_blank(**byte)).count();
+    let blanks = bytes
+        .iter()
+        .take_while(|byte| b" \t\r".contains(*byte))
+        .count();
     bytes.get(blanks..).unwrap_or(&[])
-}
-
-/// Whether a line has more than blanks and a comment.
-fn has_code(line: &[u8]) -> bool {
-    !matches!(without_blanks(line), [] | [b'#', ..])
 }
 
 /// How many bytes of a line stand before its comment, where that is a mark.
@@ -41,55 +35,51 @@ fn before_mark(line: &[u8]) -> Option<usize> {
     None
 }
 
-/// Gives the marks from one on their line.
-fn give_line(marks: &mut Vec<Mark>, open: usize, line: usize) {
-    for mark in marks.iter_mut().skip(open) {
-        mark.line = Some(line);
-    }
-}
-
-/// The marks of an outline. One at the end of a line is about that line, and one in a line of its own about the next line that isn't a comment.
+/// The marks of an outline, the last one first. One at the end of a line is about that line, and one in a line of its own about the next line that has more
+/// than blanks and a comment.
 fn marks_of(alloc: Global, source: &[u8]) -> Result<Vec<Mark>, AllocError> {
     let mut marks = Vec::new(alloc);
-    let mut open = 0usize;
-    let mut start = 0usize;
-    for _ in 0..source.len() {
-        let Some(rest) = source.get(start..) else {
-            break;
-        };
-        let length = rest.iter().take_while(|byte| **byte != b'\n').count();
-        let line = rest.get(..length).unwrap_or(rest);
-        let end = start.saturating_add(length);
+    let mut about = None;
+    let mut end = source.len();
+    for _ in 0..=source.len() {
+        let before = source.get(..end).unwrap_or(source);
+        let length = before
+            .iter()
+            .rev()
+            .take_while(|byte| **byte != b'\n')
+            .count();
+        let start = end.saturating_sub(length);
+        let line = before.get(start..).unwrap_or(&[]);
+        if !matches!(without_blanks(line), [] | [b'#', ..]) {
+            about = Some(Span { start: end, end });
+        }
         if let Some(before) = before_mark(line) {
             let start = start.saturating_add(before);
             marks.push(Mark {
                 span: Span { start, end },
-                line: None,
+                line: about.map(|line| line.row_start(source)),
             })?;
         }
-        if has_code(line) {
-            if open < marks.len() {
-                let line = Span { start: end, end }.row_start(source);
-                give_line(&mut marks, open, line);
-            }
-            open = marks.len();
-        }
-        start = end.saturating_add(1);
+        let Some(next) = start.checked_sub(1) else {
+            break;
+        };
+        end = next;
     }
     Ok(marks)
 }
 
 /// Where the lines of the reports' places begin, in their order.
-fn lines_of(source: &[u8], reports: &Reports) -> Result<Vec<usize>, AllocError> {
-    let mut lines = Vec::new(reports.alloc);
+fn lines_of(reports: &Reports<'_>) -> Result<Vec<usize>, AllocError> {
+    let expansion = reports.expansion;
+    let mut lines = Vec::new(expansion.scope.alloc);
     for report in &reports.listed {
-        lines.push(report.place.row_start(source))?;
+        lines.push(report.place.row_start(expansion.scope.source))?;
     }
     Ok(lines)
 }
 
 /// Notes which warnings are at a line, as they are meant; whether there is one.
-fn mean(reports: &mut Reports, lines: &[usize], line: Option<usize>) -> bool {
+fn mean(reports: &mut Reports<'_>, lines: &[usize], line: Option<usize>) -> bool {
     let mut is_met = false;
     for (report, place) in reports.listed.iter_mut().zip(lines) {
         if Some(*place) == line {
@@ -100,16 +90,18 @@ fn mean(reports: &mut Reports, lines: &[usize], line: Option<usize>) -> bool {
     is_met
 }
 
-/// Takes the marks of an outline with the warnings that are reported: those at a mark's line aren't told, and a mark that meets none is warned of; but
+/// Takes the marks of an outline with the warnings that are reported: those at a mark's line aren't printed, and a mark that meets none is warned of; but
 /// not in a used file, of which another outline may use more.
-pub(crate) fn take_marks(source: &[u8], reports: &mut Reports) -> Result<(), AllocError> {
-    let marks = marks_of(reports.alloc, source)?;
-    let lines = lines_of(source, reports)?;
+pub(crate) fn take_marks(reports: &mut Reports<'_>) -> Result<(), AllocError> {
+    let expansion = reports.expansion;
+    let source = expansion.scope.source;
+    let marks = marks_of(expansion.scope.alloc, source)?;
+    let lines = lines_of(reports)?;
     for mark in &marks {
         let is_met = mean(reports, &lines, mark.line);
         if !is_met && file_of(source, mark.span).is_empty() {
-            let said = b"this mark meets no warning: take it out";
-            warn(reports, Warning::MarkUnmet, mark.span, None, said)?;
+            let template = "this mark meets no warning: take it out";
+            warn(reports, Warning::MarkUnmet, mark.span, None, template, &[])?;
         }
     }
     Ok(())

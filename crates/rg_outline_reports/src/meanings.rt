@@ -1,7 +1,9 @@
 //! What the names stand for that a formula uses.
 
-use crate::reports::{Detail, Said};
+use crate::reports::{Detail, DetailKind};
 use crate::show::push_shown;
+use crate::template::Gap::{Formula, Text};
+use crate::template::filled;
 use rg_outline::Expansion;
 use rg_outline_syntax::Span;
 use rg_outline_terms::FormKind;
@@ -15,23 +17,6 @@ const MOST_TREES: usize = 10_000;
 
 /// The most bytes of what a name stands for, where it is said.
 const MOST_BYTES: usize = 80;
-
-/// Whether a tree has a name and speaks of words.
-fn is_named(expansion: &Expansion<'_>, tree: usize) -> bool {
-    let forest = &expansion.scope.forest;
-    let reads = forest.reads(tree);
-    forest.tree(tree).name.is_some() && (reads.plain | reads.primed) != 0
-}
-
-/// How many of its operands a tree shows, in whatever form: a quantifier or a sum shows its body once, and no instance.
-fn shown_operands(expansion: &Expansion<'_>, tree: usize) -> usize {
-    let forest = &expansion.scope.forest;
-    match forest.form(tree).map(|form| form.kind) {
-        Some(FormKind::Keeps) => 1,
-        Some(_) => 0,
-        None => forest.root(tree).arity(),
-    }
-}
 
 /// Adds the trees that a formula shows by their names, from left to right; equal ones once. Whether the formula itself is shown by its name is said.
 fn push_named(
@@ -50,13 +35,21 @@ fn push_named(
         if named.len() > MOST_NAMES {
             break;
         }
-        if (by_name || tree != formula) && is_named(expansion, tree) {
+        let reads = forest.reads(tree);
+        let is_named = forest.tree(tree).name.is_some() && (reads.plain | reads.primed) != 0;
+        if is_named && (by_name || tree != formula) {
             if !named.iter().any(|known| forest.is_equal(*known, tree)) {
                 named.push(tree)?;
             }
             continue;
         }
-        for place in (0..shown_operands(expansion, tree)).rev() {
+        // A quantifier or a sum shows its body once, and no instance.
+        let count = match forest.form(tree).map(|form| form.kind) {
+            Some(FormKind::Keeps) => 1,
+            Some(_) => 0,
+            None => forest.root(tree).arity(),
+        };
+        for place in (0..count).rev() {
             open.push(forest.operand(tree, place))?;
         }
     }
@@ -79,16 +72,13 @@ pub(crate) fn push_meanings(
         return Ok(());
     }
     for tree in &named {
-        let mut text = Vec::new(expansion.scope.alloc);
-        push_shown(expansion, &mut text, *tree, 0, true)?;
-        text.extend_from_slice(b" stands for ")?;
-        let start = text.len();
-        push_shown(expansion, &mut text, *tree, 0, false)?;
-        if text.len().saturating_sub(start) <= MOST_BYTES {
-            let said = Said::Meaning;
+        let mut meaning = Vec::new(expansion.scope.alloc);
+        push_shown(expansion, &mut meaning, *tree, 0, false)?;
+        if meaning.len() <= MOST_BYTES {
+            let gaps = [Formula(*tree), Text(&meaning)];
             details.push(Detail {
-                said,
-                text,
+                kind: DetailKind::Meaning,
+                text: filled(expansion, "$0 stands for $1", &gaps)?,
                 place: Span::NOWHERE,
             })?;
         }

@@ -1,19 +1,17 @@
 //! An outline that was worked out, and what is printed of it.
 
+use crate::conditions::push_conditions;
+use crate::draw::push_reports;
 use crate::failures::{Failed, FailureReports};
 use crate::faults::{printable, refused_expansion, refused_source};
 use crate::files::{Failures, Format, NoFiles, OutlineFiles, OutlineSource, Places};
-use crate::inputs::{Input, Inputs, inputs_of, report_outside_pre};
-use crate::lines::push_reports;
-use crate::map::push_conditions;
+use crate::inputs::report_outside_pre;
 use crate::marks::take_marks;
-use crate::questions::{Asks, Outside, Question, questions_of};
+use crate::places::{is_added, own_line};
+use crate::questions::{Asks, Outside};
 use crate::reports::Reports;
-use crate::run::{push_run, push_walked};
-use crate::run_json::push_json_of_run;
-use crate::slots::{Member, Obligation, members_of, obligations_of};
+use crate::run::{push_breaking, push_walked};
 use crate::stuck::report_stuck;
-use crate::subject::{Subject, own_line};
 use crate::warnings::report_warnings;
 use rg_outline::{Expansion, push_derivation, push_map, push_text, work_out};
 use rg_outline_syntax::{Fault, Standing, Tokens, Written, parse};
@@ -28,7 +26,7 @@ pub struct ReadOutline {
 }
 
 /// What is written in these bytes.
-fn read_in(alloc: Global, source: &[u8]) -> Result<ReadOutline, Fault> {
+pub(crate) fn read_in(alloc: Global, source: &[u8]) -> Result<ReadOutline, Fault> {
     let tokens = Tokens::read(alloc, source)?;
     let written = parse(alloc, source, &tokens)?;
     Ok(ReadOutline { tokens, written })
@@ -51,12 +49,22 @@ pub fn read_outline(alloc: Global, outline: OutlineSource<'_>) -> Result<ReadOut
     }
 }
 
+/// Works an outline out, and prints its files, which don't depend on how it is reported of.
+fn make_files(expansion: &mut Expansion<'_>, files: &mut OutlineFiles) -> Result<(), Fault> {
+    work_out(expansion)?;
+    for word in &expansion.scope.words {
+        files.auxiliary.push(word.standing == Standing::Auxiliary)?;
+    }
+    push_text(expansion, &mut files.text)?;
+    push_derivation(expansion, &mut files.derivation, &mut files.cuts)
+}
+
 /// An outline that was worked out, with the files that it stands for.
 #[derive(Drop)]
 pub struct Outlined<'a> {
     pub outline: OutlineSource<'a>,
     pub read: &'a ReadOutline,
-    expansion: Expansion<'a>,
+    pub(crate) expansion: Expansion<'a>,
     pub files: OutlineFiles,
 }
 
@@ -73,20 +81,21 @@ impl<'a> Outlined<'a> {
         outline: OutlineSource<'a>,
         read: &'a ReadOutline,
     ) -> Result<Outlined<'a>, NoFiles> {
-        let mut outlined = Outlined {
-            outline,
-            read,
-            expansion: Expansion::new(alloc, outline.source, &read.written),
-            files: OutlineFiles {
-                text: Vec::new(alloc),
-                derivation: Vec::new(alloc),
-                cuts: Vec::new(alloc),
-                auxiliary: Vec::new(alloc),
-            },
+        let mut expansion = Expansion::new(alloc, outline.source, &read.written);
+        let mut files = OutlineFiles {
+            text: Vec::new(alloc),
+            derivation: Vec::new(alloc),
+            cuts: Vec::new(alloc),
+            auxiliary: Vec::new(alloc),
         };
-        match outlined.work_out() {
-            Ok(()) => Ok(outlined),
-            Err(fault) => Err(refused_expansion(outline, &outlined.expansion, fault)),
+        match make_files(&mut expansion, &mut files) {
+            Ok(()) => Ok(Outlined {
+                outline,
+                read,
+                expansion,
+                files,
+            }),
+            Err(fault) => Err(refused_expansion(outline, &expansion, fault)),
         }
     }
 
@@ -96,33 +105,20 @@ impl<'a> Outlined<'a> {
         files
     }
 
-    /// Works the outline out, and prints its files.
-    fn work_out(&mut self) -> Result<(), Fault> {
-        work_out(&mut self.expansion)?;
-        let (expansion, files) = (&self.expansion, &mut self.files);
-        for word in &expansion.scope.words {
-            files.auxiliary.push(word.standing == Standing::Auxiliary)?;
-        }
-        push_text(expansion, &mut files.text)?;
-        push_derivation(expansion, &mut files.derivation, &mut files.cuts)
-    }
-
-    /// The outline with the names that reports may give.
-    fn subject(&self) -> Subject<'_> {
-        Subject {
-            file: self.outline.name.as_bytes(),
-            source: self.outline.source,
-            words: &self.expansion.scope.shown,
-            parts: &self.expansion.part_names,
-        }
-    }
-
-    /// What was made to be printed, as it is printed: lines without control bytes, and JSON as it is.
-    fn printed(&self, made: Vec<u8>) -> Result<Vec<u8>, AllocError> {
+    /// A text as it is printed: lines without control bytes, and JSON as it is.
+    fn printed(&self, text: Vec<u8>) -> Result<Vec<u8>, AllocError> {
         match self.outline.format {
-            Format::Plain => printable(self.expansion.scope.alloc, &made),
-            Format::Json => Ok(made),
+            Format::Plain => printable(self.expansion.scope.alloc, &text),
+            Format::Json => Ok(text),
         }
+    }
+
+    /// Reports as they are printed.
+    fn drawn(&self, reports: &Reports<'_>) -> Result<Vec<u8>, AllocError> {
+        let mut lines = Vec::new(self.expansion.scope.alloc);
+        let own = self.outline.name.as_bytes();
+        push_reports(&mut lines, self.outline.format, reports, own)?;
+        self.printed(lines)
     }
 
     /// The map: a row `line K RULE PART LINE:COLUMN phrase` for each line of the derivation, then a row `K NAME LINE:COLUMN what it says` for each
@@ -135,18 +131,6 @@ impl<'a> Outlined<'a> {
         }
         push_conditions(&self.expansion, &mut map)?;
         printable(self.expansion.scope.alloc, &map)
-    }
-
-    /// What each condition of the derivation asks, in the order of their numbers.
-    /// An error comes only where memory is refused.
-    pub fn obligations(&self) -> Result<Vec<Obligation>, AllocError> {
-        obligations_of(&self.expansion)
-    }
-
-    /// The parts, in the order of the text.
-    /// An error comes only where memory is refused.
-    pub fn members(&self) -> Result<Vec<Member>, AllocError> {
-        members_of(&self.expansion)
     }
 
     /// What the words and the statements of the text are in the outline.
@@ -162,36 +146,28 @@ impl<'a> Outlined<'a> {
         for _ in 0..expansion.count.saturating_add(1) {
             lines.push(0)?;
         }
+        let mut added = Vec::new(alloc);
         for statement in &expansion.statements {
+            if is_added(expansion, *statement) {
+                added.push(statement.number)?;
+            }
             if let Some(slot) = lines.get_mut(statement.number) {
                 *slot = own_line(expansion, *statement);
             }
         }
-        Ok(Places { words, lines })
-    }
-
-    /// What the start and the moves of a run stand for, which name words as the outline does or as the text does.
-    ///
-    /// # Errors
-    ///
-    /// - `NoFiles::Reported`, with the first fault of the start, else of the moves.
-    /// - `NoFiles::Memory` where memory is refused.
-    pub fn inputs(
-        &self,
-        start: Option<Input<'_>>,
-        moves: Option<Input<'_>>,
-    ) -> Result<Inputs, NoFiles> {
-        inputs_of(&self.expansion, start, moves)
+        Ok(Places {
+            words,
+            lines,
+            added,
+        })
     }
 
     /// What of the program's pre is false where the words have these values; nothing where they are in the pre.
     /// An error comes only where memory is refused.
     pub fn outside_pre(&self, values: &[u64]) -> Result<Vec<u8>, AllocError> {
-        let mut reports = Reports::new(self.expansion.scope.alloc);
-        report_outside_pre(&self.expansion, values, &mut reports)?;
-        let mut lines = Vec::new(self.expansion.scope.alloc);
-        push_reports(&mut lines, self.outline.format, &reports, self.subject())?;
-        self.printed(lines)
+        let mut reports = Reports::new(&self.expansion);
+        report_outside_pre(&mut reports, values)?;
+        self.drawn(&reports)
     }
 
     /// What is reported of conditions of the derivation that aren't proved, and what that says to be false.
@@ -199,39 +175,32 @@ impl<'a> Outlined<'a> {
     pub fn failures(&self, failed: &[Failed<'_>]) -> Result<Failures, AllocError> {
         let reported = FailureReports::of(&self.expansion, failed)?;
         let mut lines = Vec::new(self.expansion.scope.alloc);
-        reported.push(&mut lines, self.outline.format, self.subject())?;
+        reported.push(
+            &mut lines,
+            self.outline.format,
+            self.outline.name.as_bytes(),
+        )?;
         Ok(Failures {
             lines: self.printed(lines)?,
             claims: reported.into_claims(),
         })
     }
 
-    /// What a search is asked for the warnings; nothing where no warnings are wanted.
-    /// An error comes only where memory is refused.
-    pub fn questions(&self) -> Result<Vec<Question>, AllocError> {
-        if !self.outline.has_warnings {
-            return Ok(Vec::new(self.expansion.scope.alloc));
-        }
-        questions_of(&self.expansion)
-    }
-
     /// The warnings but for those that are meant; nothing where there are none, or none are wanted. `shown` are the questions to which a search answered
     /// yes, and `outside` are the indices of which it found that they are outside their ranges.
     /// An error comes only where memory is refused.
     pub fn warnings(&self, shown: &[Asks], outside: &[Outside]) -> Result<Vec<u8>, AllocError> {
-        let mut reports = Reports::new(self.expansion.scope.alloc);
+        let mut reports = Reports::new(&self.expansion);
         if self.outline.has_warnings {
-            report_warnings(&self.expansion, shown, outside, &mut reports)?;
-            take_marks(self.outline.source, &mut reports)?;
+            report_warnings(&mut reports, shown, outside)?;
+            take_marks(&mut reports)?;
         }
-        let mut lines = Vec::new(self.expansion.scope.alloc);
-        push_reports(&mut lines, self.outline.format, &reports, self.subject())?;
-        self.printed(lines)
+        self.drawn(&reports)
     }
 
     /// What a walk of the text found, in the outline's words: the run that breaks the specification, or how far was looked.
     /// An error comes only where memory is refused.
-    pub fn walked(&self, walked: &Walked) -> Result<Vec<u8>, AllocError> {
+    pub(crate) fn walked(&self, walked: &Walked) -> Result<Vec<u8>, AllocError> {
         let mut lines = Vec::new(self.expansion.scope.alloc);
         push_walked(&self.expansion, &mut lines, self.outline, walked)?;
         self.printed(lines)
@@ -240,24 +209,16 @@ impl<'a> Outlined<'a> {
     /// The warning of a run that gets stuck.
     /// An error comes only where memory is refused.
     pub fn stuck(&self, run: &StuckRun) -> Result<Vec<u8>, AllocError> {
-        let mut reports = Reports::new(self.expansion.scope.alloc);
-        report_stuck(&self.expansion, run, &mut reports)?;
-        let mut lines = Vec::new(self.expansion.scope.alloc);
-        push_reports(&mut lines, self.outline.format, &reports, self.subject())?;
-        self.printed(lines)
+        let mut reports = Reports::new(&self.expansion);
+        report_stuck(&mut reports, run)?;
+        self.drawn(&reports)
     }
 
     /// The lines that report a run of the program, in the outline's words; or a JSON value in a line of its own.
     /// An error comes only where memory is refused.
     pub fn run_lines(&self, run: &BreakingRun) -> Result<Vec<u8>, AllocError> {
         let mut lines = Vec::new(self.expansion.scope.alloc);
-        match self.outline.format {
-            Format::Plain => push_run(&self.expansion, &mut lines, run)?,
-            Format::Json => {
-                let file = self.outline.name.as_bytes();
-                push_json_of_run(&self.expansion, &mut lines, file, run)?
-            }
-        }
+        push_breaking(&self.expansion, &mut lines, self.outline, run)?;
         Ok(lines)
     }
 }

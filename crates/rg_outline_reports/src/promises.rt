@@ -1,48 +1,32 @@
 //! Warnings of the program's specification.
 
 use crate::reports::{Reports, Warning};
+use crate::template::Gap::{Part, WordsIn};
 use crate::warnings::{clause_span, warn};
 use rg_outline::Expansion;
 use rg_outline_syntax::{Clause, Standing};
 use rg_outline_terms::bit_of;
 use std::alloc::AllocError;
 
-/// What is said of a part that never ends.
-const UNASKED: &[u8] =
-    b" never ends, so no run of the program does: the post, which is asked where all parts have ended, promises nothing";
-
 /// Reports that the program's post promises nothing of what a run does: it is `false`, or it is never asked, since a part never ends.
-pub(crate) fn report_post(
-    expansion: &Expansion<'_>,
-    reports: &mut Reports,
-) -> Result<(), AllocError> {
+pub(crate) fn report_post(reports: &mut Reports<'_>) -> Result<(), AllocError> {
+    let expansion = reports.expansion;
     let Some(place) = clause_span(expansion, Clause::Post) else {
         return Ok(());
     };
     let forest = &expansion.scope.forest;
     let post = expansion.specification.post;
-    if forest.is_truth(post, false) {
-        return warn(
-            reports,
-            Warning::PostFalse,
-            place,
-            None,
-            b"the post is false: it says that no run of the program ends, and nothing of what a run does",
-        );
-    }
-    let endless = expansion
-        .parts
-        .iter()
-        .position(|part| forest.is_truth(part.post.full, false));
-    match endless {
-        Some(part) if !forest.is_truth(post, true) => {
-            let mut sentence = Vec::from_slice(expansion.scope.alloc, b"part ")?;
-            sentence.extend_from_slice(expansion.part_names.at(part))?;
-            sentence.extend_from_slice(UNASKED)?;
-            warn(reports, Warning::PostFalse, place, None, &sentence)
-        }
-        _ => Ok(()),
-    }
+    let mut parts = expansion.parts.iter();
+    let endless = parts.position(|part| forest.is_truth(part.post.full, false));
+    let template = if forest.is_truth(post, false) {
+        "the post is false: it says that no run of the program ends, and nothing of what a run does"
+    } else if endless.is_some() && !forest.is_truth(post, true) {
+        "part $0 never ends, so no run of the program does: the post, which is asked where all parts have ended, promises nothing"
+    } else {
+        return Ok(());
+    };
+    let part = Part(endless.unwrap_or(0));
+    warn(reports, Warning::PostFalse, place, None, template, &[part])
 }
 
 /// The auxiliary words, as bits.
@@ -62,28 +46,9 @@ fn bits_of(expansion: &Expansion<'_>, tree: usize) -> u64 {
     reads.plain | reads.primed
 }
 
-/// Adds the words of these bits, as the outline writes them, with commas between.
-pub(crate) fn push_words(
-    expansion: &Expansion<'_>,
-    text: &mut Vec<u8>,
-    bits: u64,
-) -> Result<(), AllocError> {
-    let mut between: &[u8] = b"";
-    for word in 0..expansion.scope.words.len() {
-        if bits & bit_of(word) != 0 {
-            text.extend_from_slice(between)?;
-            text.extend_from_slice(expansion.scope.shown.at(word))?;
-            between = b", ";
-        }
-    }
-    Ok(())
-}
-
 /// Reports that the program's guar and post speak of auxiliary words alone.
-pub(crate) fn report_auxiliary_alone(
-    expansion: &Expansion<'_>,
-    reports: &mut Reports,
-) -> Result<(), AllocError> {
+pub(crate) fn report_auxiliary_alone(reports: &mut Reports<'_>) -> Result<(), AllocError> {
+    let expansion = reports.expansion;
     let promised = bits_of(expansion, expansion.specification.guar)
         | bits_of(expansion, expansion.specification.post);
     if promised == 0 || promised & !auxiliary_bits(expansion) != 0 {
@@ -93,9 +58,15 @@ pub(crate) fn report_auxiliary_alone(
     let Some(place) = place else {
         return Ok(());
     };
-    let said = b"what the program promises speaks of auxiliary words alone (";
-    let mut sentence = Vec::from_slice(expansion.scope.alloc, said)?;
-    push_words(expansion, &mut sentence, promised)?;
-    sentence.extend_from_slice(b"): of the real words it promises nothing")?;
-    warn(reports, Warning::AuxiliaryAlone, place, None, &sentence)
+    let template =
+        "what the program promises speaks of auxiliary words alone ($0): of the real words it promises nothing";
+    let words = WordsIn(promised);
+    warn(
+        reports,
+        Warning::AuxiliaryAlone,
+        place,
+        None,
+        template,
+        &[words],
+    )
 }

@@ -1,8 +1,9 @@
 //! What a search is asked for warnings.
 
 use crate::always::promises_of;
+use crate::faults::fits;
+use crate::outlined::Outlined;
 use rg_outline::{Expansion, push_question};
-use rg_outline_syntax::{Fault, FaultKind};
 use std::alloc::AllocError;
 
 /// What a question asks.
@@ -39,36 +40,37 @@ fn push_asked(
     formula: usize,
 ) -> Result<(), AllocError> {
     let mut text = Vec::new(expansion.scope.alloc);
-    match push_question(expansion, &mut text, formula, asks == Asks::PreUnmet) {
-        Ok(()) => questions.push(Question { asks, text })?,
-        Err(
-            Fault {
-                kind: FaultKind::Memory,
-                ..
-            },
-        ) => return Err(AllocError),
-        Err(_) => {}
+    let is_unmet = asks == Asks::PreUnmet;
+    if fits(push_question(expansion, &mut text, formula, is_unmet))? {
+        questions.push(Question { asks, text })?;
     }
     Ok(())
 }
 
-/// What a search is asked: whether no state meets the program's pre; whether the promises are true in all states, each one that isn't a truth; and
-/// whether indices over words are in their ranges.
-pub(crate) fn questions_of(expansion: &Expansion<'_>) -> Result<Vec<Question>, AllocError> {
-    let mut questions = Vec::new(expansion.scope.alloc);
-    let pre = expansion.specification.pre;
-    push_asked(expansion, &mut questions, Asks::PreUnmet, pre)?;
-    let promises = promises_of(expansion)?;
-    for (place, promise) in promises.iter().enumerate() {
-        let asks = Asks::PromiseTrue(place);
+impl Outlined<'_> {
+    /// What a search is asked for the warnings: whether no state meets the program's pre; whether the promises are true in all states, each one that
+    /// isn't a truth; and whether indices over words are in their ranges. Nothing where no warnings are wanted.
+    /// An error comes only where memory is refused.
+    pub fn questions(&self) -> Result<Vec<Question>, AllocError> {
+        let expansion = &self.expansion;
         let forest = &expansion.scope.forest;
-        if !forest.is_truth(promise.tree, true) && !forest.is_truth(promise.tree, false) {
-            push_asked(expansion, &mut questions, asks, promise.tree)?;
+        let mut questions = Vec::new(expansion.scope.alloc);
+        if !self.outline.has_warnings {
+            return Ok(questions);
         }
+        let pre = expansion.specification.pre;
+        push_asked(expansion, &mut questions, Asks::PreUnmet, pre)?;
+        let promises = promises_of(expansion)?;
+        for (place, promise) in promises.iter().enumerate() {
+            let asks = Asks::PromiseTrue(place);
+            if !forest.is_truth(promise.tree, true) && !forest.is_truth(promise.tree, false) {
+                push_asked(expansion, &mut questions, asks, promise.tree)?;
+            }
+        }
+        for (place, asked) in expansion.asked.iter().enumerate() {
+            let asks = Asks::IndexInside(place);
+            push_asked(expansion, &mut questions, asks, asked.formula)?;
+        }
+        Ok(questions)
     }
-    for (place, asked) in expansion.asked.iter().enumerate() {
-        let asks = Asks::IndexInside(place);
-        push_asked(expansion, &mut questions, asks, asked.formula)?;
-    }
-    Ok(questions)
 }

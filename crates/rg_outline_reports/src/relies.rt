@@ -44,27 +44,22 @@ fn kept_bits(expansion: &Expansion<'_>, formula: usize) -> Result<u64, AllocErro
     Ok(bits)
 }
 
-/// Whether a part allows others to change no word, where it keeps these, although other parts assign words.
-fn allows_none(expansion: &Expansion<'_>, part: usize, kept: u64) -> bool {
-    let mut words = expansion.scope.words.iter().enumerate();
-    let mut assigned = expansion.assigned.iter();
-    assigned.any(|assigned| assigned.part != part)
-        && words.all(|(word, known)| {
-            known.standing == Standing::Fixed || kept & bit_of(word) != 0
-        })
-}
-
-/// Reports each part whose rely allows no change, although other parts have steps.
-pub(crate) fn report_relies(
-    expansion: &Expansion<'_>,
-    reports: &mut Reports,
-) -> Result<(), AllocError> {
+/// Reports each part whose rely allows no change of a word, although other parts assign words.
+pub(crate) fn report_relies(reports: &mut Reports<'_>) -> Result<(), AllocError> {
+    let expansion = reports.expansion;
     for (index, part) in expansion.parts.iter().enumerate() {
         let kept = kept_bits(expansion, part.rely)?;
-        if allows_none(expansion, index, kept) {
-            let sentence =
-                b"the rely of this part allows no change at all, although other parts assign words";
-            warn(reports, Warning::NoChange, part.span, Some(index), sentence)?;
+        let mut words = expansion.scope.words.iter().enumerate();
+        let mut assigned = expansion.assigned.iter();
+        if assigned.any(|assigned| assigned.part != index)
+            && words.all(|(word, known)| {
+                known.standing == Standing::Fixed || kept & bit_of(word) != 0
+            })
+        {
+            let template =
+                "the rely of this part allows no change at all, although other parts assign words";
+            let (place, of) = (part.span, Some(index));
+            warn(reports, Warning::NoChange, place, of, template, &[])?;
         }
     }
     Ok(())

@@ -1,7 +1,10 @@
 //! Reports: each cause once, with its place and what is said of it.
 
+use crate::template::{Gap, filled};
+use crate::written::is_same_place;
+use rg_outline::Expansion;
 use rg_outline_syntax::Span;
-use std::alloc::{AllocError, Global};
+use std::alloc::AllocError;
 
 /// What kind of cause it is.
 #[derive(Clone, Copy, PartialEq, Eq)]
@@ -78,7 +81,7 @@ pub(crate) enum Moved {
 
 /// What a detail of a report is.
 #[derive(Clone, Copy, PartialEq, Eq)]
-pub(crate) enum Said {
+pub(crate) enum DetailKind {
     /// The first conjunct that is false.
     Conjunct,
     /// A premise that holds.
@@ -91,10 +94,10 @@ pub(crate) enum Said {
     Hint,
 }
 
-/// What is said in a report besides its sentence.
+/// What a report has besides its sentence.
 #[derive(Drop)]
 pub(crate) struct Detail {
-    pub(crate) said: Said,
+    pub(crate) kind: DetailKind,
     pub(crate) text: Vec<u8>,
     /// Where what a name names stands; else nowhere.
     pub(crate) place: Span,
@@ -120,7 +123,7 @@ pub(crate) struct Report {
     pub(crate) details: Vec<Detail>,
     pub(crate) moved: Moved,
     pub(crate) values: Vec<Valued>,
-    /// Whether a mark of the outline says that it is meant: then it isn't told.
+    /// Whether a mark of the outline says that it is meant: then it isn't printed.
     pub(crate) is_meant: bool,
 }
 
@@ -132,38 +135,40 @@ pub struct Claim {
     pub after: Vec<u64>,
 }
 
-/// The reports so far, in the order in which they were made.
+/// The reports of an outline so far, in the order in which they were made.
 #[derive(Drop)]
-pub(crate) struct Reports {
-    pub(crate) alloc: Global,
+pub(crate) struct Reports<'e> {
+    pub(crate) expansion: &'e Expansion<'e>,
     pub(crate) listed: Vec<Report>,
     /// What the reports say to be false.
     pub(crate) claims: Vec<Claim>,
 }
 
 fn is_same(first: Key, second: Key) -> bool {
-    let places = |key: Key| (key.at.start, key.at.end, key.what.start, key.what.end);
-    first.cause == second.cause && places(first) == places(second)
+    first.cause == second.cause
+        && is_same_place(first.at, second.at)
+        && is_same_place(first.what, second.what)
 }
 
-impl Reports {
+impl<'e> Reports<'e> {
     /// No reports.
-    pub(crate) fn new(alloc: Global) -> Reports {
+    pub(crate) fn new(expansion: &'e Expansion<'e>) -> Reports<'e> {
         Reports {
-            alloc,
-            listed: Vec::new(alloc),
-            claims: Vec::new(alloc),
+            expansion,
+            listed: Vec::new(expansion.scope.alloc),
+            claims: Vec::new(expansion.scope.alloc),
         }
     }
 
-    /// Reports a cause, or, where it is reported already, that this part meets it too. Whether it is reported for the first time: then what is
-    /// said besides comes next.
+    /// Reports a cause, or, where it is reported already, that this part meets it too. Whether it is reported for the first time: then what
+    /// else there is of it comes next.
     pub(crate) fn put(
         &mut self,
         key: Key,
         place: Span,
         part: Option<usize>,
-        sentence: &[u8],
+        template: &str,
+        gaps: &[Gap<'_>],
     ) -> Result<bool, AllocError> {
         for report in self.listed.iter_mut() {
             if is_same(report.key, key) {
@@ -171,14 +176,16 @@ impl Reports {
                 return Ok(false);
             }
         }
+        let alloc = self.expansion.scope.alloc;
+        let sentence = filled(self.expansion, template, gaps)?;
         let mut report = Report {
             key,
             place,
-            parts: Vec::new(self.alloc),
-            sentence: Vec::from_slice(self.alloc, sentence)?,
-            details: Vec::new(self.alloc),
+            parts: Vec::new(alloc),
+            sentence,
+            details: Vec::new(alloc),
             moved: Moved::Nothing,
-            values: Vec::new(self.alloc),
+            values: Vec::new(alloc),
             is_meant: false,
         };
         report.add_part(part)?;
@@ -196,10 +203,11 @@ impl Reports {
     }
 
     /// Adds a hint to the last report.
-    pub(crate) fn hint(&mut self, text: Vec<u8>) -> Result<(), AllocError> {
+    pub(crate) fn hint(&mut self, template: &str, gaps: &[Gap<'_>]) -> Result<(), AllocError> {
+        let text = filled(self.expansion, template, gaps)?;
         if let Some(report) = self.listed.last_mut() {
             report.details.push(Detail {
-                said: Said::Hint,
+                kind: DetailKind::Hint,
                 text,
                 place: Span::NOWHERE,
             })?;
@@ -207,10 +215,10 @@ impl Reports {
         Ok(())
     }
 
-    /// The reports that are told, in the order of their places, and of their making where these are the same; those of assertions that are carried on
-    /// come last.
+    /// The reports but for those that are meant, in the order of their places, and of their making where these are the same; those of assertions that
+    /// are carried on come last.
     pub(crate) fn ordered(&self) -> Result<Vec<&Report>, AllocError> {
-        let mut ordered = Vec::new(self.alloc);
+        let mut ordered = Vec::new(self.expansion.scope.alloc);
         for report in &self.listed {
             if !report.is_meant {
                 ordered.push(report)?;

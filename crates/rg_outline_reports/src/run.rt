@@ -1,24 +1,44 @@
 //! What a walk of an outline's text found: a run, or how far was looked.
 
-use crate::broken::{Breaks, breaks_of, details_of};
+use crate::broken::{Breach, Breaks};
+use crate::draw::push_details;
 use crate::files::{Format, OutlineSource};
-use crate::lines::{push_details, push_value};
-use crate::places::statement_at;
+use crate::json::{push_json_of_not_found, push_json_of_run};
+use crate::places::statement_of;
 use crate::reports::Valued;
-use crate::run_json::{push_json_of_not_found, push_json_of_run};
 use crate::run_rows::{RunRows, Steps, rows_of};
-use crate::subject::push_line;
+use crate::template::Gap::{Code, Count, Counted, LineOf, Part, Text, WithValues};
+use crate::template::fill;
 use rg_outline::Expansion;
-use rg_outline_syntax::{Span, push_count, push_phrase};
+use rg_outline_syntax::Span;
 use rg_walk::{Bound, BreakingRun, Broken, RunStep, Unbroken, Walked};
 use rg_words::State;
-use std::alloc::AllocError;
+use std::alloc::{AllocError, Global};
 
 /// The most rows of a run that are shown.
 const MOST_ROWS: usize = 200;
 
-/// The most bytes of a statement that is shown.
-const MOST_NAMED: usize = 60;
+/// The words that differ in two states, with their values; of a start those that aren't 0.
+pub(crate) fn shown_values(
+    alloc: Global,
+    before: &State,
+    after: &State,
+    is_start: bool,
+) -> Result<Vec<Valued>, AllocError> {
+    let mut values = Vec::new(alloc);
+    for word in 0..before.len().min(after.len()) {
+        let valued = Valued {
+            word,
+            before: before.get(word),
+            after: after.get(word),
+        };
+        let other = if is_start { 0 } else { valued.after };
+        if valued.before != other {
+            values.push(valued)?;
+        }
+    }
+    Ok(values)
+}
 
 /// Adds the words that aren't 0 at the start.
 pub(crate) fn push_start(
@@ -26,24 +46,13 @@ pub(crate) fn push_start(
     text: &mut Vec<u8>,
     start: &State,
 ) -> Result<(), AllocError> {
-    let mut rest: &[u8] = b"all words are 0";
-    let mut between: &[u8] = b"";
-    for word in 0..start.len() {
-        let before = start.get(word);
-        if before != 0 {
-            text.extend_from_slice(between)?;
-            let after = before;
-            let valued = Valued {
-                word,
-                before,
-                after,
-            };
-            push_value(text, expansion.scope.shown.at(word), valued)?;
-            between = b", ";
-            rest = b", and all other words are 0";
-        }
-    }
-    text.extend_from_slice(rest)
+    let values = shown_values(expansion.scope.alloc, start, start, true)?;
+    let template = if values.is_empty() {
+        "all words are 0"
+    } else {
+        "$0, and all other words are 0"
+    };
+    fill(expansion, text, template, &[WithValues(&values)])
 }
 
 /// Adds the words that differ in two states.
@@ -53,42 +62,13 @@ pub(crate) fn push_changes(
     before: &State,
     after: &State,
 ) -> Result<(), AllocError> {
-    let mut between: &[u8] = b" ";
-    let mut is_any = false;
-    for word in 0..before.len().min(after.len()) {
-        let valued = Valued {
-            word,
-            before: before.get(word),
-            after: after.get(word),
-        };
-        if valued.before != valued.after {
-            text.extend_from_slice(between)?;
-            push_value(text, expansion.scope.shown.at(word), valued)?;
-            between = b", ";
-            is_any = true;
-        }
-    }
-    if !is_any {
-        text.extend_from_slice(b" no word changes")?;
-    }
-    Ok(())
-}
-
-/// Adds a statement in one line; its beginning, where it is long.
-pub(crate) fn push_statement(
-    expansion: &Expansion<'_>,
-    text: &mut Vec<u8>,
-    span: Span,
-) -> Result<(), AllocError> {
-    text.push(b'`')?;
-    let start = text.len();
-    push_phrase(text, span.of(expansion.scope.source))?;
-    if text.len().saturating_sub(start) > MOST_NAMED {
-        text.truncate(start.saturating_add(MOST_NAMED - 3));
-        text.extend_from_slice(b"...")?;
-    }
-    text.push(b'`')?;
-    Ok(())
+    let values = shown_values(expansion.scope.alloc, before, after, false)?;
+    let template = if values.is_empty() {
+        ": no word changes"
+    } else {
+        ": $0"
+    };
+    fill(expansion, text, template, &[WithValues(&values)])
 }
 
 /// Adds a step: who makes it, at which line, and the words that it changes from those before it.
@@ -98,34 +78,23 @@ pub(crate) fn push_step(
     before: &State,
     step: &RunStep,
 ) -> Result<(), AllocError> {
-    match step.who.checked_sub(1) {
-        None => text.extend_from_slice(b"env")?,
-        Some(part) => {
-            text.extend_from_slice(expansion.part_names.at(part))?;
-            if let Some(statement) = statement_at(expansion, part, step.place)? {
-                text.extend_from_slice(b", line ")?;
-                push_line(expansion, text, statement.span)?;
-                text.extend_from_slice(b", ")?;
-                push_statement(expansion, text, statement.span)?;
-            }
-        }
-    }
-    text.push(b':')?;
+    let (template, span) = match statement_of(expansion, step.who, step.place)? {
+        Some(statement) => ("$0, line $1, $2", statement.span),
+        None if step.who == 0 => ("env", Span::NOWHERE),
+        None => ("$0", Span::NOWHERE),
+    };
+    let part = Part(step.who.saturating_sub(1));
+    fill(expansion, text, template, &[part, LineOf(span), Code(span)])?;
     push_changes(expansion, text, before, &step.after)
 }
 
-/// Adds how many steps the first rows stand for, which are not shown.
-fn push_hidden(text: &mut Vec<u8>, rows: &RunRows, hidden: usize) -> Result<(), AllocError> {
+/// How many steps the first rows stand for, which are not shown.
+fn hidden_steps(rows: &RunRows, hidden: usize) -> usize {
     let mut steps = 0usize;
     for count in rows.counts.iter().take(hidden) {
         steps = steps.saturating_add(*count);
     }
-    if steps > 0 {
-        text.extend_from_slice(b"    ")?;
-        push_count(text, steps as u64)?;
-        text.extend_from_slice(b" steps that are not shown\n")?;
-    }
-    Ok(())
+    steps
 }
 
 /// Adds the steps of a run, in rows.
@@ -140,23 +109,26 @@ fn push_steps(
     };
     let rows = rows_of(expansion, steps)?;
     let hidden = rows.texts.len().saturating_sub(MOST_ROWS);
-    push_hidden(text, &rows, hidden)?;
+    let count = hidden_steps(&rows, hidden);
+    if count > 0 {
+        let template = "    $0 steps that are not shown\n";
+        fill(expansion, text, template, &[Count(count as u64)])?;
+    }
     for row in hidden..rows.texts.len() {
-        text.extend_from_slice(b"    ")?;
-        text.extend_from_slice(rows.texts.at(row))?;
-        text.push(b'\n')?;
+        fill(expansion, text, "    $0\n", &[Text(rows.texts.at(row))])?;
     }
     Ok(())
 }
 
-/// Adds the part that makes the last step of a run.
-fn push_last_part(
+/// Adds what a run breaks: `template` has the part that makes its last step at its gap.
+fn push_of_last_part(
     expansion: &Expansion<'_>,
     text: &mut Vec<u8>,
     run: &BreakingRun,
+    template: &str,
 ) -> Result<(), AllocError> {
     let who = run.steps.last().map_or(0, |step| step.who);
-    text.extend_from_slice(expansion.part_names.at(who.saturating_sub(1)))
+    fill(expansion, text, template, &[Part(who.saturating_sub(1))])
 }
 
 /// Adds what a run breaks.
@@ -165,112 +137,89 @@ pub(crate) fn push_broken(
     text: &mut Vec<u8>,
     run: &BreakingRun,
 ) -> Result<(), AllocError> {
-    match run.broken {
-        Broken::Guarantee => {
-            text.extend_from_slice(b"the last step is outside the program's guar")
-        }
+    let template = match run.broken {
+        Broken::Guarantee => "the last step is outside the program's guar",
         Broken::OwnGuarantee => {
-            text.extend_from_slice(b"the last step is outside what ")?;
-            push_last_part(expansion, text, run)?;
-            text.extend_from_slice(
-                b" promises: the invariant, what others rely on, or its own guar",
-            )
+            "the last step is outside what $0 promises: the invariant, what others rely on, or its own guar"
         }
-        Broken::Post => {
-            text.extend_from_slice(b"all parts have ended, and the program's post is false")
-        }
-    }
-}
-
-/// Adds the head of a run: what it breaks.
-fn push_head(
-    expansion: &Expansion<'_>,
-    text: &mut Vec<u8>,
-    run: &BreakingRun,
-) -> Result<(), AllocError> {
-    match breaks_of(expansion, run)? {
-        Breaks::Specification => text.extend_from_slice(b"this run breaks it:\n"),
-        Breaks::Invariant => {
-            text.extend_from_slice(b"your invariant isn't one: this run leaves it:\n")
-        }
-        Breaks::Part => {
-            text.extend_from_slice(b"this run breaks a promise of ")?;
-            push_last_part(expansion, text, run)?;
-            text.extend_from_slice(b", and none of the program:\n")
-        }
-    }
+        Broken::Post => "all parts have ended, and the program's post is false",
+    };
+    push_of_last_part(expansion, text, run, template)
 }
 
 /// Adds a run that breaks the specification, the invariant or what a part promises, its steps in rows: who makes them, the lines and the
 /// statements, and the words that they change; and then what is broken, with its first conjunct that is false and where that stands.
-pub(crate) fn push_run(
+fn push_run(
     expansion: &Expansion<'_>,
     text: &mut Vec<u8>,
     run: &BreakingRun,
 ) -> Result<(), AllocError> {
-    push_head(expansion, text, run)?;
-    text.extend_from_slice(b"    start: ")?;
+    let breach = Breach::of(expansion, run)?;
+    let template = match breach.breaks {
+        Breaks::Specification => "this run breaks it:\n    start: ",
+        Breaks::Invariant => "your invariant isn't one: this run leaves it:\n    start: ",
+        Breaks::Part => "this run breaks a promise of $0, and none of the program:\n    start: ",
+    };
+    push_of_last_part(expansion, text, run, template)?;
     push_start(expansion, text, &run.start)?;
     text.push(b'\n')?;
     push_steps(expansion, text, run)?;
     text.extend_from_slice(b"    ")?;
     push_broken(expansion, text, run)?;
     text.push(b'\n')?;
-    let details = details_of(expansion, run)?;
-    push_details(text, expansion.scope.source, &details)
+    push_details(expansion, text, &breach.details)
 }
 
-/// Adds a count, and what is counted: one, or several.
-fn push_counted(
+/// Adds that no run was found that breaks the specification, how far was looked, and which bound ended the search, with the option that raises it.
+fn push_not_found(
+    expansion: &Expansion<'_>,
     text: &mut Vec<u8>,
-    count: u64,
-    one: &[u8],
-    several: &[u8],
+    unbroken: Unbroken,
 ) -> Result<(), AllocError> {
-    push_count(text, count)?;
-    text.extend_from_slice(if count == 1 { one } else { several })
-}
-
-/// Adds which of the starts, and of the steps of the environment, were not tried.
-fn push_not_tried(text: &mut Vec<u8>, unbroken: Unbroken) -> Result<(), AllocError> {
-    if !unbroken.are_all_starts {
-        text.extend_from_slice(b"; ")?;
-        let one = b" of the states in the pre was tried as a start";
-        let several = b" of the states in the pre were tried as starts";
-        push_counted(text, unbroken.starts, one, several)?;
-    }
-    if unbroken.is_without_others {
-        text.extend_from_slice(b"; not all steps of the environment were tried")?;
-    }
-    Ok(())
-}
-
-/// Adds which bound ended the search, and the option that raises it.
-fn push_bound(text: &mut Vec<u8>, bound: Option<Bound>) -> Result<(), AllocError> {
-    let said: &[u8] = match bound {
-        None => b"",
-        Some(Bound::Steps) => b"; the steps are used up, and --steps N makes up to N",
-        Some(Bound::Bytes) => b"; the memory for states is used up, which no option raises",
-        Some(Bound::Seconds) => b"; the seconds are used up, and --seconds N allows up to N",
-    };
-    text.extend_from_slice(said)
-}
-
-/// Adds that no run was found that breaks the specification, and how far was looked.
-fn push_not_found(text: &mut Vec<u8>, unbroken: Unbroken) -> Result<(), AllocError> {
-    let said: &[u8] = if unbroken.is_all {
-        b"no run breaks it: all were followed, "
+    let gaps = [
+        Counted(unbroken.steps, "step", "steps"),
+        Counted(unbroken.states, "state", "states"),
+        Count(unbroken.depth),
+        Counted(
+            unbroken.starts,
+            "of the states in the pre was tried as a start",
+            "of the states in the pre were tried as starts",
+        ),
+    ];
+    let found = if unbroken.is_all {
+        "no run breaks it: all were followed, $0, $1, depth $2"
     } else {
-        b"no run that breaks it was found within "
+        "no run that breaks it was found within $0, $1, depth $2"
     };
-    text.extend_from_slice(said)?;
-    push_counted(text, unbroken.steps, b" step, ", b" steps, ")?;
-    push_counted(text, unbroken.states, b" state, depth ", b" states, depth ")?;
-    push_count(text, unbroken.depth)?;
-    push_not_tried(text, unbroken)?;
-    push_bound(text, unbroken.ended_by)?;
-    text.push(b'\n')?;
+    let starts = if unbroken.are_all_starts { "" } else { "; $3" };
+    let others = if unbroken.is_without_others {
+        "; not all steps of the environment were tried"
+    } else {
+        ""
+    };
+    let bound = match unbroken.ended_by {
+        None => "\n",
+        Some(Bound::Steps) => "; the steps are used up, and --steps N makes up to N\n",
+        Some(Bound::Bytes) => "; the memory for states is used up, which no option raises\n",
+        Some(Bound::Seconds) => "; the seconds are used up, and --seconds N allows up to N\n",
+    };
+    for template in [found, starts, others, bound] {
+        fill(expansion, text, template, &gaps)?;
+    }
     Ok(())
+}
+
+/// Adds a run, as the outline's reports are printed.
+pub(crate) fn push_breaking(
+    expansion: &Expansion<'_>,
+    text: &mut Vec<u8>,
+    outline: OutlineSource<'_>,
+    run: &BreakingRun,
+) -> Result<(), AllocError> {
+    match outline.format {
+        Format::Plain => push_run(expansion, text, run),
+        Format::Json => push_json_of_run(expansion, text, outline.name.as_bytes(), run),
+    }
 }
 
 /// Adds what a walk found, as the outline's reports are printed.
@@ -280,14 +229,14 @@ pub(crate) fn push_walked(
     outline: OutlineSource<'_>,
     walked: &Walked,
 ) -> Result<(), AllocError> {
-    let file = outline.name.as_bytes();
-    let is_plain = outline.format == Format::Plain;
     match walked {
-        Walked::Breaks(run) if is_plain => push_run(expansion, text, run),
-        Walked::Breaks(run) => push_json_of_run(expansion, text, file, run),
-        Walked::NotFound(found) if is_plain => push_not_found(text, found.unbroken),
-        Walked::NotFound(found) => {
-            push_json_of_not_found(text, expansion.scope.alloc, file, found.unbroken)
-        }
+        Walked::Breaks(run) => push_breaking(expansion, text, outline, run),
+        Walked::NotFound(found) => match outline.format {
+            Format::Plain => push_not_found(expansion, text, found.unbroken()),
+            Format::Json => {
+                let file = outline.name.as_bytes();
+                push_json_of_not_found(text, expansion.scope.alloc, file, found.unbroken())
+            }
+        },
     }
 }

@@ -1,12 +1,13 @@
 //! The steps of a run in rows: each step that changes a word is one, and so is a loop that was gone round many times; steps without a change share
 //! a row.
 
-use crate::places::statement_at;
-use crate::run::{push_changes, push_statement, push_step};
-use crate::subject::{own_line, push_line};
+use crate::places::{own_line, statement_of};
+use crate::run::{push_changes, push_step, shown_values};
+use crate::template::Gap::{Code, Count, LineOf, Part, Text};
+use crate::template::fill;
 use crate::written::is_same_place;
-use rg_outline::{Action, Expansion, Statement};
-use rg_outline_syntax::{Span, Texts, push_count};
+use rg_outline::{Action, Expansion};
+use rg_outline_syntax::{Span, Texts};
 use rg_walk::RunStep;
 use rg_words::State;
 use std::alloc::AllocError;
@@ -66,60 +67,30 @@ impl<'r> Steps<'r> {
     }
 }
 
-/// Whether the words are the same in two states.
-fn is_same_state(first: &State, second: &State) -> bool {
-    for word in 0..first.len().min(second.len()) {
-        if first.get(word) != second.get(word) {
-            return false;
-        }
-    }
-    true
-}
-
-/// Whether a statement is the `skip` that stands for a missing `else`.
-fn is_missing_else(expansion: &Expansion<'_>, statement: Statement) -> bool {
-    let written = statement.span.of(expansion.scope.source);
-    statement.action == Action::Skip && !written.starts_with(b"skip")
-}
-
-/// The statement of a step; none for the environment.
-fn statement_of(
-    expansion: &Expansion<'_>,
-    who: usize,
-    place: usize,
-) -> Result<Option<Statement>, AllocError> {
-    match who.checked_sub(1) {
-        Some(part) => statement_at(expansion, part, place),
-        None => Ok(None),
-    }
-}
-
-/// The steps that are shown: all but those of a missing `else`.
+/// The steps that are shown: all but those of the `skip` that stands for a missing `else`.
 fn shown_of(expansion: &Expansion<'_>, run: Steps<'_>) -> Result<Vec<Shown>, AllocError> {
-    let mut shown = Vec::new(expansion.scope.alloc);
+    let alloc = expansion.scope.alloc;
+    let mut shown = Vec::new(alloc);
     for (index, step) in run.steps.iter().enumerate() {
         let (mut span, mut line) = (Span::NOWHERE, 1);
         if let Some(statement) = statement_of(expansion, step.who, step.place)? {
-            if is_missing_else(expansion, statement) {
+            let written = statement.span.of(expansion.scope.source);
+            if statement.action == Action::Skip && !written.starts_with(b"skip") {
                 continue;
             }
             span = statement.span;
             line = own_line(expansion, statement);
         }
+        let changes = shown_values(alloc, run.before(index), &step.after, false)?;
         shown.push(Shown {
             index,
             who: step.who,
             span,
             line,
-            is_quiet: is_same_state(run.before(index), &step.after),
+            is_quiet: changes.is_empty(),
         })?;
     }
     Ok(shown)
-}
-
-/// Whether two steps are those of one statement of a part, which may be in several rounds of a `for`.
-fn is_same_step(first: Shown, second: Shown) -> bool {
-    first.who != 0 && first.who == second.who && is_same_place(first.span, second.span)
 }
 
 /// How often these first steps are made one after the other.
@@ -127,7 +98,9 @@ fn rounds_of(shown: &[Shown], steps: usize) -> usize {
     let mut again = 0usize;
     let next = shown.get(steps..).unwrap_or(&[]);
     for (first, second) in shown.iter().zip(next) {
-        if !is_same_step(*first, *second) {
+        // (of one part and one statement, which may be in several rounds of a `for`)
+        let is_same = first.who != 0 && first.who == second.who;
+        if !is_same || !is_same_place(first.span, second.span) {
             break;
         }
         again = again.saturating_add(1);
@@ -182,18 +155,13 @@ fn push_lines_of_part(
     if first > last {
         return Ok(false);
     }
-    text.extend_from_slice(between)?;
-    text.extend_from_slice(expansion.part_names.at(part))?;
-    text.extend_from_slice(if first == last {
-        b", line "
+    let template = if first == last {
+        "$0$1, line $2"
     } else {
-        b", lines "
-    })?;
-    push_count(text, first)?;
-    if first != last {
-        text.extend_from_slice(b" to ")?;
-        push_count(text, last)?;
-    }
+        "$0$1, lines $2 to $3"
+    };
+    let gaps = [Text(between), Part(part), Count(first), Count(last)];
+    fill(expansion, text, template, &gaps)?;
     Ok(true)
 }
 
@@ -221,24 +189,10 @@ fn push_loop(
     rounds: usize,
 ) -> Result<(), AllocError> {
     push_lines(expansion, text, shown)?;
-    text.extend_from_slice(b", ")?;
-    push_count(text, rounds as u64)?;
-    text.extend_from_slice(b" times:")?;
+    fill(expansion, text, ", $0 times", &[Count(rounds as u64)])?;
     let first = shown.first().map_or(0, |step| step.index);
     let end = shown.last().map_or(0, |step| step.index.saturating_add(1));
     push_changes(expansion, text, run.before(first), run.before(end))
-}
-
-/// Adds how many steps change nothing, and the parts that make them with their lines.
-fn push_counted(
-    expansion: &Expansion<'_>,
-    text: &mut Vec<u8>,
-    shown: &[Shown],
-) -> Result<(), AllocError> {
-    text.extend_from_slice(b"and ")?;
-    push_count(text, shown.len() as u64)?;
-    text.extend_from_slice(b" steps that change nothing: ")?;
-    push_lines(expansion, text, shown)
 }
 
 /// Adds steps of one part that change no word, as many as a row has room for; how many.
@@ -255,13 +209,14 @@ fn push_quiet(
     text.extend_from_slice(expansion.part_names.at(who.saturating_sub(1)))?;
     for step in shown {
         let end = text.len();
-        text.extend_from_slice(if count == 0 { b", " } else { b"; " })?;
-        if row != Some(step.span.row_start(source)) {
-            text.extend_from_slice(b"line ")?;
-            push_line(expansion, text, step.span)?;
-            text.extend_from_slice(b", ")?;
-        }
-        push_statement(expansion, text, step.span)?;
+        let between: &[u8] = if count == 0 { b", " } else { b"; " };
+        let template = if row == Some(step.span.row_start(source)) {
+            "$0$2"
+        } else {
+            "$0line $1, $2"
+        };
+        let gaps = [Text(between), LineOf(step.span), Code(step.span)];
+        fill(expansion, text, template, &gaps)?;
         let is_wide = count > 0 && text.len().saturating_sub(start) > WIDTH;
         if step.who != who || is_wide {
             text.truncate(end);
@@ -298,7 +253,10 @@ impl RunRows {
         let quiet = shown.get(..quiet_in(shown)).unwrap_or(&[]);
         let mut count = quiet.len();
         if count >= FEWEST_COUNTED {
-            push_counted(expansion, self.texts.unended(), quiet)?;
+            let text = self.texts.unended();
+            let template = "and $0 steps that change nothing: ";
+            fill(expansion, text, template, &[Count(count as u64)])?;
+            push_lines(expansion, text, quiet)?;
         } else if count > 0 {
             count = push_quiet(expansion, self.texts.unended(), quiet)?;
         } else if let Some(first) = shown.first()

@@ -1,8 +1,9 @@
 //! Warnings of steps that use shared words several times at once.
 
 use crate::loads::Loads;
-use crate::promises::{auxiliary_bits, push_words};
+use crate::promises::auxiliary_bits;
 use crate::reports::{Reports, Warning};
+use crate::template::Gap::WordsIn;
 use crate::warnings::warn;
 use rg_outline::{Action, Expansion, Line, Rule, Statement};
 use rg_outline_terms::bit_of;
@@ -64,94 +65,57 @@ fn loaded_by(expansion: &Expansion<'_>, statement: Statement, loads: &Loads, val
     index | loads.tree(expansion, forest.operand(value, 1))
 }
 
-/// Which shared words a statement loads, and which it stores to, as bits.
-fn accesses_of(
-    expansion: &Expansion<'_>,
-    statement: Statement,
-    loads: &Loads,
-    others: Uses,
-) -> Uses {
-    let mut read = loads.tree(expansion, statement.test);
-    for update in expansion.updates_of(statement.updates) {
-        read |= loaded_by(expansion, statement, loads, update.value);
-    }
-    let own = uses_of(expansion, statement);
-    let shared = (others.assigned | others.read) & !auxiliary_bits(expansion);
-    Uses {
-        read,
-        assigned: own.assigned & shared,
-    }
-}
-
-/// What is said of a statement that uses these shared words in one step.
-fn sentence_of(
-    expansion: &Expansion<'_>,
-    statement: Statement,
-    shared: u64,
-) -> Result<Vec<u8>, AllocError> {
-    let mut sentence = Vec::new(expansion.scope.alloc);
-    let (start, end): (&[u8], &[u8]) = if shared.count_ones() < 2 {
-        (
-            b"this assignment reads and writes the shared word ",
-            b" in one step",
-        )
+/// The sentence for a statement that uses so many shared words in one step, with these words at its gap.
+fn sentence_of(statement: Statement, words: u32) -> &'static str {
+    if words < 2 {
+        "this assignment reads and writes the shared word $0 in one step: a machine does so only where it is made atomic"
     } else if statement.action == Action::Assign || statement.is_choice {
-        (
-            b"this assignment uses several shared words in one step (",
-            b")",
-        )
+        "this assignment uses several shared words in one step ($0): a machine does so only where it is made atomic"
     } else {
-        (b"this test reads several shared words in one step (", b")")
-    };
-    sentence.extend_from_slice(start)?;
-    push_words(expansion, &mut sentence, shared)?;
-    sentence.extend_from_slice(end)?;
-    sentence.extend_from_slice(b": a machine does so only where it is made atomic")?;
-    Ok(sentence)
+        "this test reads several shared words in one step ($0): a machine does so only where it is made atomic"
+    }
 }
 
 /// Reports a statement that loads and stores several times at once what others use.
 fn report_statement(
-    expansion: &Expansion<'_>,
-    reports: &mut Reports,
+    reports: &mut Reports<'_>,
     line: Line,
     loads: &Loads,
     others: Uses,
 ) -> Result<(), AllocError> {
+    let expansion = reports.expansion;
     let statement = expansion.statement(line.statement);
-    let own = accesses_of(expansion, statement, loads, others);
-    let mut stores = own.assigned.count_ones();
+    let mut read = loads.tree(expansion, statement.test);
+    for update in expansion.updates_of(statement.updates) {
+        read |= loaded_by(expansion, statement, loads, update.value);
+    }
+    let used = (others.assigned | others.read) & !auxiliary_bits(expansion);
+    let assigned = uses_of(expansion, statement).assigned & used;
+    let mut stores = assigned.count_ones();
     if statement.is_choice {
         stores = stores.min(1);
     }
-    let count = own.read.count_ones().saturating_add(stores);
+    let count = read.count_ones().saturating_add(stores);
     if count < 2 {
         return Ok(());
     }
-    let shared = own.read | own.assigned;
-    let sentence = sentence_of(expansion, statement, shared)?;
-    warn(
-        reports,
-        Warning::SharedWords,
-        statement.span,
-        Some(line.part),
-        &sentence,
-    )
+    let shared = read | assigned;
+    let template = sentence_of(statement, shared.count_ones());
+    let (place, part, gaps) = (statement.span, Some(line.part), [WordsIn(shared)]);
+    warn(reports, Warning::SharedWords, place, part, template, &gaps)
 }
 
 /// Reports each step outside `atomic`, and each test, that needs several accesses to words that other parts use: loads of words that others assign,
 /// and a store to one that others read or assign. Of a choice one branch is loaded. Auxiliary words don't count.
-pub(crate) fn report_shared(
-    expansion: &Expansion<'_>,
-    reports: &mut Reports,
-) -> Result<(), AllocError> {
+pub(crate) fn report_shared(reports: &mut Reports<'_>) -> Result<(), AllocError> {
+    let expansion = reports.expansion;
     for part in 0..expansion.parts.len() {
         let others = uses_of_others(expansion, part);
         let loads = Loads::of(expansion, others.assigned & !auxiliary_bits(expansion))?;
         for line in &expansion.lines {
             let statement = expansion.statement(line.statement);
             if line.part == part && is_plain(*line, statement) {
-                report_statement(expansion, reports, *line, &loads, others)?;
+                report_statement(reports, *line, &loads, others)?;
             }
         }
     }

@@ -1,5 +1,6 @@
 //! Formulas and values as an outline writes them: with no more parentheses than a reader needs.
 
+use crate::show::Pending::{Name, NameFrom, NameUpTo, Number, Numeral, Piece, Text, Tree, Word};
 use crate::written::is_same_place;
 use rg_outline::{Expansion, middle};
 use rg_outline_syntax::{Operator, Span, push_number, push_phrase};
@@ -36,7 +37,14 @@ fn level_of(expansion: &Expansion<'_>, tree: usize) -> u8 {
         Some(FormKind::Keeps) => 3,
         Some(FormKind::Constant) => 5,
         Some(FormKind::Sum) => 9,
-        None => level_of_root(forest.root(tree)),
+        None => match forest.root(tree) {
+            Root::Imply(_) => 1,
+            Root::Join(_) => 2,
+            Root::Not => 3,
+            Root::Compare(_) => 4,
+            Root::Operate(_) | Root::Shift(..) => 5,
+            _ => 9,
+        },
     }
 }
 
@@ -44,18 +52,6 @@ fn level_of(expansion: &Expansion<'_>, tree: usize) -> u8 {
 fn is_quantified(expansion: &Expansion<'_>, tree: usize) -> bool {
     let form = expansion.scope.forest.form(tree);
     form.map(|form| form.kind) == Some(FormKind::Quantified)
-}
-
-/// How tightly a root binds.
-fn level_of_root(root: Root) -> u8 {
-    match root {
-        Root::Imply(_) => 1,
-        Root::Join(_) => 2,
-        Root::Not => 3,
-        Root::Compare(_) => 4,
-        Root::Operate(_) | Root::Shift(..) => 5,
-        _ => 9,
-    }
 }
 
 fn is_sum(root: Root) -> bool {
@@ -72,7 +68,7 @@ pub(crate) fn push_shown(
 ) -> Result<(), AllocError> {
     let most = text.len().saturating_add(MOST_SHOWN);
     let mut open = Vec::new(expansion.scope.alloc);
-    open.push(Pending::Tree(tree, level, by_name))?;
+    open.push(Tree(tree, level, by_name))?;
     for _ in 0..usize::MAX {
         let Some(pending) = open.pop() else {
             break;
@@ -94,24 +90,24 @@ fn push_pending(
     pending: Pending,
 ) -> Result<(), AllocError> {
     match pending {
-        Pending::Text(said) => text.extend_from_slice(said.as_bytes()),
-        Pending::Number(number) => push_number(text, number),
-        Pending::Numeral(written) => { text.extend_from_slice(written.of(expansion.scope.source)) }
-        Pending::Word(word, is_primed) => {
+        Text(words) => text.extend_from_slice(words.as_bytes()),
+        Number(number) => push_number(text, number),
+        Numeral(written) => { text.extend_from_slice(written.of(expansion.scope.source)) }
+        Word(word, is_primed) => {
             text.extend_from_slice(expansion.scope.shown.at(word))?;
             push_prime(text, is_primed)
         }
-        Pending::NameUpTo(word, end) => {
+        NameUpTo(word, end) => {
             let name = expansion.scope.shown.at(word);
             text.extend_from_slice(name.get(..end).unwrap_or(name))
         }
-        Pending::NameFrom(word, start) => {
+        NameFrom(word, start) => {
             let name = expansion.scope.shown.at(word);
             text.extend_from_slice(name.get(start..).unwrap_or(&[]))
         }
-        Pending::Piece(piece) => push_piece(text, piece.of(expansion.scope.source)),
-        Pending::Name(name, is_primed) => push_use(expansion, text, name, is_primed),
-        Pending::Tree(tree, level, by_name) => open_tree(expansion, open, tree, level, by_name),
+        Piece(piece) => push_piece(text, piece.of(expansion.scope.source)),
+        Name(name, is_primed) => push_use(expansion, text, name, is_primed),
+        Tree(tree, level, by_name) => open_tree(expansion, open, tree, level, by_name),
     }
 }
 
@@ -164,16 +160,6 @@ fn push_prime(text: &mut Vec<u8>, is_primed: bool) -> Result<(), AllocError> {
     Ok(())
 }
 
-/// The name of a use, without its arguments.
-fn callee(expansion: &Expansion<'_>, used: Span) -> Span {
-    let written = used.of(expansion.scope.source).iter();
-    let length = written.take_while(|byte| **byte != b'(').count();
-    Span {
-        start: used.start,
-        end: used.start.saturating_add(length),
-    }
-}
-
 /// Adds a name as it is used, but its arguments as they are shown: as they stand they may speak of an index, and don't say which number that is.
 fn open_name(
     expansion: &Expansion<'_>,
@@ -186,17 +172,23 @@ fn open_name(
     let is_primed = reads.primed != 0 && reads.plain == 0;
     let arguments = forest.arguments(tree);
     if arguments.is_empty() {
-        open.push(Pending::Name(used, is_primed))?;
+        open.push(Name(used, is_primed))?;
         return Ok(());
     }
-    open.push(Pending::Text(if is_primed { ")'" } else { ")" }))?;
+    open.push(Text(if is_primed { ")'" } else { ")" }))?;
     for place in (0..arguments.len()).rev() {
         if let Some(argument) = arguments.get(place) {
-            open.push(Pending::Tree(*argument, 0, true))?;
+            open.push(Tree(*argument, 0, true))?;
         }
-        open.push(Pending::Text(if place == 0 { "(" } else { ", " }))?;
+        open.push(Text(if place == 0 { "(" } else { ", " }))?;
     }
-    open.push(Pending::Name(callee(expansion, used), false))?;
+    let written = used.of(expansion.scope.source).iter();
+    let length = written.take_while(|byte| **byte != b'(').count();
+    let callee = Span {
+        start: used.start,
+        end: used.start.saturating_add(length),
+    };
+    open.push(Name(callee, false))?;
     Ok(())
 }
 
@@ -208,62 +200,35 @@ fn number_of(expansion: &Expansion<'_>, tree: usize, number: i128) -> Pending {
         .iter()
         .all(|byte| byte.is_ascii_alphanumeric() || *byte == b'_');
     if is_whole && written.first().copied().unwrap_or(0).is_ascii_digit() {
-        Pending::Numeral(span)
+        Numeral(span)
     } else {
-        Pending::Number(number)
+        Number(number)
     }
 }
 
-/// Whether a piece stands alone between brackets, parentheses or commas.
-fn is_delimited(expansion: &Expansion<'_>, place: Span) -> bool {
-    let source = expansion.scope.source;
-    let before = source.get(..place.start).unwrap_or(&[]);
-    let after = source.get(place.end..).unwrap_or(&[]);
-    let last = before.last().copied().unwrap_or(b' ');
-    let next = after.first().copied().unwrap_or(b' ');
-    b"([".contains(&last) && b")],".contains(&next)
-}
-
-/// Adds a form as it is written, with what stands there for parameters and indices that it doesn't bind.
+/// Adds a form as it is written, with what stands there for parameters and indices that it doesn't bind: in parentheses, unless it stands alone between
+/// brackets, parentheses or commas.
 fn open_written(
     expansion: &Expansion<'_>,
     open: &mut Vec<Pending>,
     form: Form,
 ) -> Result<(), AllocError> {
+    let source = expansion.scope.source;
     let mut end = form.place.end;
     for filled in expansion.scope.forest.filled(form) {
-        let level = if is_delimited(expansion, filled.place) {
-            0
-        } else {
-            9
-        };
+        let before = source.get(..filled.place.start).unwrap_or(&[]).last();
+        let after = source.get(filled.place.end..).unwrap_or(&[]).first();
+        let is_delimited = b"([".contains(&before.copied().unwrap_or(b' '))
+            && b")],".contains(&after.copied().unwrap_or(b' '));
+        let level = if is_delimited { 0 } else { 9 };
         let start = filled.place.end;
-        open.push(Pending::Piece(Span { start, end }))?;
-        open.push(Pending::Tree(filled.tree, level, true))?;
+        open.push(Piece(Span { start, end }))?;
+        open.push(Tree(filled.tree, level, true))?;
         end = filled.place.start;
     }
     let start = form.place.start;
-    open.push(Pending::Piece(Span { start, end }))?;
+    open.push(Piece(Span { start, end }))?;
     Ok(())
-}
-
-/// Adds a tree as it is written, without the parentheses round it.
-fn open_form(
-    expansion: &Expansion<'_>,
-    open: &mut Vec<Pending>,
-    tree: usize,
-    form: Form,
-) -> Result<(), AllocError> {
-    match form.kind {
-        FormKind::Keeps => {
-            let kept = expansion.scope.forest.operand(tree, 0);
-            open_all(
-                open,
-                &[Pending::Text("keeps "), Pending::Tree(kept, 3, true)],
-            )
-        }
-        _ => open_written(expansion, open, form),
-    }
 }
 
 /// Adds what a tree is made of: its name, where it is shown by that; else its form or its root, in parentheses where it binds too loosely.
@@ -282,14 +247,20 @@ fn open_tree(
     }
     let is_loose = level_of(expansion, tree) < level;
     if is_loose {
-        open.push(Pending::Text(")"))?;
+        open.push(Text(")"))?;
     }
     match forest.form(tree) {
-        Some(form) => open_form(expansion, open, tree, form)?,
+        Some(form) if form.kind == FormKind::Keeps => {
+            open_all(
+                open,
+                &[Text("keeps "), Tree(forest.operand(tree, 0), 3, true)],
+            )?
+        }
+        Some(form) => open_written(expansion, open, form)?,
         None => open_root(expansion, open, tree, is_loose || level == 0)?,
     }
     if is_loose {
-        open.push(Pending::Text("("))?;
+        open.push(Text("("))?;
     }
     Ok(())
 }
@@ -311,24 +282,34 @@ fn open_root(
 ) -> Result<(), AllocError> {
     let forest = &expansion.scope.forest;
     let root = forest.root(tree);
-    let operand = |place: usize, level: u8| Pending::Tree(forest.operand(tree, place), level, true);
-    let between = Pending::Text(middle(root));
+    let operand = |place: usize, level: u8| Tree(forest.operand(tree, place), level, true);
+    let between = Text(middle(root));
     let (left, right) = match root {
         Root::Number(number) => return open_all(open, &[number_of(expansion, tree, number)]),
-        Root::Word { word, is_primed } => return open_all(open, &[Pending::Word(word, is_primed)]),
-        Root::Truth(true) => return open_all(open, &[Pending::Text("true")]),
-        Root::Truth(false) => return open_all(open, &[Pending::Text("false")]),
-        Root::Not => return open_all(open, &[Pending::Text("not "), operand(0, 3)]),
-        Root::Inverse => return open_all(open, &[Pending::Text("inv "), operand(0, 9)]),
+        Root::Word { word, is_primed } => return open_all(open, &[Word(word, is_primed)]),
+        Root::Truth(true) => return open_all(open, &[Text("true")]),
+        Root::Truth(false) => return open_all(open, &[Text("false")]),
+        Root::Not => return open_all(open, &[Text("not "), operand(0, 3)]),
+        Root::Inverse => return open_all(open, &[Text("inv "), operand(0, 9)]),
         Root::Shift(_, count) => {
-            let count = Pending::Number(i128::from(count));
+            let count = Number(i128::from(count));
             return open_all(open, &[operand(0, 6), between, count]);
         }
         Root::Choice => {
             if let Some(member) = member_of(expansion, tree) {
                 return open_member(expansion, open, tree, member);
             }
-            return open_choice(expansion, open, tree);
+            let (test, then, otherwise) = (operand(0, 0), operand(1, 5), operand(2, 5));
+            let pending = [
+                Text("(if "),
+                test,
+                Text(" then "),
+                then,
+                Text(" else "),
+                otherwise,
+                Text(")"),
+            ];
+            return open_all(open, &pending);
         }
         Root::Join(_) => return open_chain(expansion, open, tree, is_whole),
         // (what begins with `all` or `some` ends the whole)
@@ -378,11 +359,6 @@ fn number_start(first: &[u8], second: &[u8]) -> usize {
     start
 }
 
-/// How many digits stand at the front.
-fn digits_in(bytes: &[u8]) -> usize {
-    bytes.iter().take_while(|b| b.is_ascii_digit()).count()
-}
-
 /// The first member of a choice that was made of a family with an index over words: then the whole, its test and its member have one place.
 fn member_of(expansion: &Expansion<'_>, tree: usize) -> Option<FirstMember> {
     let forest = &expansion.scope.forest;
@@ -396,7 +372,8 @@ fn member_of(expansion: &Expansion<'_>, tree: usize) -> Option<FirstMember> {
     let (next, _) = first_word(expansion, forest.operand(tree, 2))?;
     let name = expansion.scope.shown.at(word);
     let start = number_start(name, expansion.scope.shown.at(next));
-    let digits = digits_in(name.get(start..).unwrap_or(&[]));
+    let rest = name.get(start..).unwrap_or(&[]).iter();
+    let digits = rest.take_while(|byte| byte.is_ascii_digit()).count();
     Some(FirstMember {
         word,
         is_primed,
@@ -438,35 +415,13 @@ fn open_member(
         plain = forest.unprimed(tree).unwrap_or(tree);
     }
     let index = forest.operand(forest.operand(plain, 0), 0);
-    let prime = Pending::Text(if member.is_primed { "'" } else { "" });
-    open_all(open, &[Pending::NameFrom(member.word, member.end), prime])?;
-    open_all(
-        open,
-        &[
-            Pending::NameUpTo(member.word, member.start),
-            Pending::Tree(index, 5, true),
-        ],
-    )
-}
-
-/// Adds what a choice is made of.
-fn open_choice(
-    expansion: &Expansion<'_>,
-    open: &mut Vec<Pending>,
-    tree: usize,
-) -> Result<(), AllocError> {
-    let operand = |place: usize, level: u8| {
-        Pending::Tree(expansion.scope.forest.operand(tree, place), level, true)
-    };
-    open_all(
-        open,
-        &[Pending::Text(" else "), operand(2, 5), Pending::Text(")")],
-    )?;
-    open_all(
-        open,
-        &[operand(0, 0), Pending::Text(" then "), operand(1, 5)],
-    )?;
-    open_all(open, &[Pending::Text("(if ")])
+    let pending = [
+        NameUpTo(member.word, member.start),
+        Tree(index, 5, true),
+        NameFrom(member.word, member.end),
+        Text(if member.is_primed { "'" } else { "" }),
+    ];
+    open_all(open, &pending)
 }
 
 /// Adds what a chain of `and` or of `or` is made of, from the right. An operand that has a name or a form ends it. Where nothing stands beside the
@@ -490,11 +445,11 @@ fn open_chain(
         if !is_next {
             break;
         }
-        open.push(Pending::Tree(forest.operand(current, 1), level, true))?;
-        open.push(Pending::Text(middle(root)))?;
+        open.push(Tree(forest.operand(current, 1), level, true))?;
+        open.push(Text(middle(root)))?;
         level = 3;
         current = forest.operand(current, 0);
     }
-    open.push(Pending::Tree(current, 3, true))?;
+    open.push(Tree(current, 3, true))?;
     Ok(())
 }

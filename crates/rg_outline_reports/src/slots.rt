@@ -1,9 +1,11 @@
 //! What the conditions of a derivation ask of assertions by their places, and assertions as the text has them: for a search for assertions.
 
 use crate::asked::{Asked, OfLine, OfParts, conditions_of};
-use crate::says::given_and_due;
+use crate::conditions::given_and_due;
+use crate::faults::fits;
+use crate::outlined::{Outlined, read_in};
 use rg_outline::{Assertion, BlockRow, Expansion, Line, push_flat, work_out};
-use rg_outline_syntax::{Fault, FaultKind, Span, Texts, Tokens, parse};
+use rg_outline_syntax::{Fault, FaultKind, Span, Texts};
 use std::alloc::{AllocError, Global};
 
 /// What a condition asks of the assertions of a part.
@@ -50,68 +52,42 @@ fn spot_of(assertion: Assertion) -> Spot {
     }
 }
 
-/// What a condition asks of one assertion, or of two.
-fn asks(demand: Demand, part: usize, given: Assertion, due: Assertion) -> Obligation {
-    Obligation {
-        demand,
-        part,
-        given: Some(spot_of(given)),
-        due: Some(spot_of(due)),
-    }
-}
-
-/// What a condition asks that is given no assertion.
-fn asks_alone(demand: Demand, part: usize, due: Option<Spot>) -> Obligation {
-    Obligation {
-        demand,
-        part,
-        given: None,
-        due,
-    }
-}
-
 /// What a condition of a line asks.
 fn of_line(expansion: &Expansion<'_>, of: OfLine, line: &Line) -> Obligation {
-    let (before, after, part) = (line.before, line.after, line.part);
-    match of {
-        OfLine::Reach | OfLine::Exit => asks(Demand::Leads, part, before, after),
-        OfLine::Step => Obligation {
-            due: None,
-            ..asks(Demand::Guaranteed, part, before, before)
-        },
-        OfLine::PreStable => asks(Demand::Stable, part, before, before),
-        OfLine::PostStable => asks(Demand::Stable, part, after, after),
+    let (before, after) = (Some(line.before), Some(line.after));
+    let (demand, given, due) = match of {
+        OfLine::Reach | OfLine::Exit => (Demand::Leads, before, after),
+        OfLine::Step => (Demand::Guaranteed, before, None),
+        OfLine::PreStable => (Demand::Stable, before, before),
+        OfLine::PostStable => (Demand::Stable, after, after),
         OfLine::PreFollows | OfLine::PostFollows => {
             let is_before = matches!(of, OfLine::PreFollows);
             let (given, due) = given_and_due(expansion, line, is_before);
-            asks(Demand::Leads, part, given, due)
+            (Demand::Leads, Some(given), Some(due))
         }
-        OfLine::RelyFollows | OfLine::GuarFollows => asks_alone(Demand::Other, part, None),
+        OfLine::RelyFollows | OfLine::GuarFollows => (Demand::Other, None, None),
+    };
+    Obligation {
+        demand,
+        part: line.part,
+        given: given.map(|given| spot_of(given)),
+        due: due.map(|due| spot_of(due)),
     }
 }
 
 /// What a condition of the parts asks.
 fn of_parts(expansion: &Expansion<'_>, of: OfParts) -> Obligation {
-    match of {
-        OfParts::Pre(part) => {
-            let pre = expansion.parts.get(part).map(|known| spot_of(known.pre));
-            asks_alone(Demand::Entered, part, pre)
-        }
-        OfParts::Post => asks_alone(Demand::Ended, 0, None),
-        _ => asks_alone(Demand::Other, 0, None),
+    let (demand, part, known) = match of {
+        OfParts::Pre(part) => (Demand::Entered, part, expansion.parts.get(part)),
+        OfParts::Post => (Demand::Ended, 0, None),
+        _ => (Demand::Other, 0, None),
+    };
+    Obligation {
+        demand,
+        part,
+        given: None,
+        due: known.map(|known| spot_of(known.pre)),
     }
-}
-
-/// What each condition of the derivation asks, in the order of their numbers.
-pub(crate) fn obligations_of(expansion: &Expansion<'_>) -> Result<Vec<Obligation>, AllocError> {
-    let mut obligations = Vec::new(expansion.scope.alloc);
-    for asked in &conditions_of(expansion)? {
-        obligations.push(match *asked {
-            Asked::Line(of, _, line) => of_line(expansion, of, line),
-            Asked::Parts(of) => of_parts(expansion, of),
-        })?;
-    }
-    Ok(obligations)
 }
 
 /// What assertions of an outline say as the text has them, or where the outline can't be read.
@@ -136,14 +112,12 @@ fn push_own(
     expansion: &Expansion<'_>,
     texts: &mut Texts,
     assertion: Assertion,
-) -> Result<(), Fault> {
+) -> Result<(), AllocError> {
     let mut text = Vec::new(expansion.scope.alloc);
-    match push_flat(expansion, &mut text, assertion.own) {
-        Err(fault) if is_memory(fault) => return Err(fault),
-        Err(_) => texts.push(&[])?,
-        Ok(()) => texts.push(&text)?,
+    if !fits(push_flat(expansion, &mut text, assertion.own))? {
+        text.clear();
     }
-    Ok(())
+    texts.push(&text)
 }
 
 /// The assertions before each statement of a body.
@@ -164,16 +138,10 @@ fn leading_of(expansion: &Expansion<'_>, body: usize) -> Result<Vec<Before>, Fau
     Ok(all)
 }
 
-/// Whether memory was refused.
-fn is_memory(fault: Fault) -> bool {
-    matches!(fault.kind, FaultKind::Memory)
-}
-
 /// The assertions before the statements of the bodies of an outline.
 fn leading_in(alloc: Global, source: &[u8]) -> Result<Vec<Vec<Before>>, Fault> {
-    let tokens = Tokens::read(alloc, source)?;
-    let written = parse(alloc, source, &tokens)?;
-    let mut expansion = Expansion::new(alloc, source, &written);
+    let read = read_in(alloc, source)?;
+    let mut expansion = Expansion::new(alloc, source, &read.written);
     if let Err(fault) = work_out(&mut expansion) {
         let span = expansion.at.unwrap_or(fault.span);
         return Err(Fault { span, ..fault });
@@ -193,7 +161,7 @@ fn leading_in(alloc: Global, source: &[u8]) -> Result<Vec<Vec<Before>>, Fault> {
 pub fn leading_assertions(alloc: Global, source: &[u8]) -> Result<Leading, AllocError> {
     match leading_in(alloc, source) {
         Ok(parts) => Ok(Leading::Parts(parts)),
-        Err(fault) if is_memory(fault) => Err(AllocError),
+        Err(fault) if matches!(fault.kind, FaultKind::Memory) => Err(AllocError),
         Err(fault) => Ok(Leading::Fault(fault.span)),
     }
 }
@@ -209,23 +177,36 @@ pub struct Member {
     pub family: usize,
 }
 
-/// The written part in which a place lies.
-fn family_of(expansion: &Expansion<'_>, place: Span) -> usize {
-    let parts = &expansion.scope.written.parts;
-    let found = parts.iter().position(|part| part.span.start <= place.start
-        && place.end <= part.span.end);
-    found.unwrap_or(usize::MAX)
-}
-
-/// The parts, in the order of the text.
-pub(crate) fn members_of(expansion: &Expansion<'_>) -> Result<Vec<Member>, AllocError> {
-    let mut members = Vec::new(expansion.scope.alloc);
-    for part in &expansion.parts {
-        members.push(Member {
-            end: spot_of(part.post),
-            owned: part.owned_bits,
-            family: family_of(expansion, part.span),
-        })?;
+impl Outlined<'_> {
+    /// What each condition of the derivation asks, in the order of their numbers.
+    /// An error comes only where memory is refused.
+    pub fn obligations(&self) -> Result<Vec<Obligation>, AllocError> {
+        let expansion = &self.expansion;
+        let mut obligations = Vec::new(expansion.scope.alloc);
+        for asked in &conditions_of(expansion)? {
+            obligations.push(match *asked {
+                Asked::Line(of, _, line) => of_line(expansion, of, line),
+                Asked::Parts(of) => of_parts(expansion, of),
+            })?;
+        }
+        Ok(obligations)
     }
-    Ok(members)
+
+    /// The parts, in the order of the text.
+    /// An error comes only where memory is refused.
+    pub fn members(&self) -> Result<Vec<Member>, AllocError> {
+        let expansion = &self.expansion;
+        let mut members = Vec::new(expansion.scope.alloc);
+        for part in &expansion.parts {
+            let mut written = expansion.scope.written.parts.iter();
+            let family = written.position(|written| written.span.start <= part.span.start
+                && part.span.end <= written.span.end);
+            members.push(Member {
+                end: spot_of(part.post),
+                owned: part.owned_bits,
+                family: family.unwrap_or(usize::MAX),
+            })?;
+        }
+        Ok(members)
+    }
 }

@@ -1,108 +1,66 @@
 //! Warnings of sums that can wrap.
 
-use crate::greatest::{Bound, Bounds, greatest_of};
+use crate::bounds::{Bound, Bounds, maximum_of};
 use crate::reports::{Reports, Warning};
+use crate::template::Gap::{Counted, Number};
 use crate::warnings::warn;
+use crate::words::Seen;
 use crate::written::is_same_place;
 use rg_outline::{Assertion, Expansion, Origin};
-use rg_outline_syntax::{
-    Binder, Comparison, ExpressionKind, Operator, Span, push_count, push_number,
-};
+use rg_outline_syntax::{Binder, Comparison, ExpressionKind, Operator, Span};
 use rg_outline_terms::Root;
 use std::alloc::AllocError;
 
 /// What is known where sums are looked at.
 #[derive(Clone, Copy)]
-struct Looking<'e, 'a> {
-    expansion: &'e Expansion<'a>,
+struct Looking<'e> {
     bounds: &'e Bounds,
     /// Where the sums stand.
     sums: &'e [Span],
 }
 
-/// Where the sums of an outline stand.
-fn sums_of(expansion: &Expansion<'_>) -> Result<Vec<Span>, AllocError> {
-    let mut sums = Vec::new(expansion.scope.alloc);
-    for expression in &expansion.scope.written.expressions {
-        if let ExpressionKind::Bound {
-            binder: Binder::Sum,
-            ..
-        } = expression.kind
-        {
-            sums.push(expression.span)?;
-        }
-    }
-    Ok(sums)
-}
-
-/// So many times `false`.
-fn unseen(expansion: &Expansion<'_>) -> Result<Vec<bool>, AllocError> {
-    let mut seen = Vec::new(expansion.scope.alloc);
-    for _ in 0..expansion.scope.forest.trees.len() {
-        seen.push(false)?;
-    }
-    Ok(seen)
-}
-
-/// Whether a tree is looked at for the first time.
-fn is_first_look(seen: &mut [bool], tree: usize) -> bool {
-    match seen.get_mut(tree) {
-        Some(slot) => {
-            let is_first = !*slot;
-            *slot = true;
-            is_first
-        }
-        None => false,
-    }
-}
-
 /// Reports a sum that can be greater than the width allows in which it is worked out.
 fn report_sum(
-    looking: Looking<'_, '_>,
-    reports: &mut Reports,
+    reports: &mut Reports<'_>,
     place: Span,
-    greatest: u128,
+    maximum: u128,
     width: u32,
 ) -> Result<(), AllocError> {
-    let mut sentence = Vec::new(looking.expansion.scope.alloc);
-    sentence.extend_from_slice(b"this sum can come to ")?;
-    push_number(&mut sentence, i128::try_from(greatest).unwrap_or(i128::MAX))?;
-    sentence.extend_from_slice(b", but it has ")?;
-    push_count(&mut sentence, u64::from(width))?;
-    let bits: &[u8] = if width == 1 { b" bit" } else { b" bits" };
-    sentence.extend_from_slice(bits)?;
-    sentence.extend_from_slice(
-        b" and wraps: declare wider words, or sum `(if .. then 1 else 0)` and compare with a wider word",
-    )?;
-    warn(reports, Warning::SumWraps, place, None, &sentence)
+    let maximum = Number(i128::try_from(maximum).unwrap_or(i128::MAX));
+    let bits = Counted(u64::from(width), "bit", "bits");
+    let template =
+        "this sum can come to $0, but it has $1 and wraps: declare wider words, or sum `(if .. then 1 else 0)` and compare with a wider word";
+    let gaps = [maximum, bits];
+    warn(reports, Warning::SumWraps, place, None, template, &gaps)
 }
 
 /// Reports the outermost sums of a value that can be greater than a width allows. Each tree is looked at once.
 fn report_value(
-    looking: Looking<'_, '_>,
-    reports: &mut Reports,
-    seen: &mut [bool],
+    looking: Looking<'_>,
+    reports: &mut Reports<'_>,
+    seen: &mut Seen,
     value: usize,
     width: u32,
 ) -> Result<(), AllocError> {
-    let forest = &looking.expansion.scope.forest;
-    let mut open = Vec::new(looking.expansion.scope.alloc);
+    let expansion = reports.expansion;
+    let forest = &expansion.scope.forest;
+    let mut open = Vec::new(expansion.scope.alloc);
     open.push(value)?;
     for _ in 0..usize::MAX {
         let Some(tree) = open.pop() else {
             break;
         };
-        if !is_first_look(seen, tree) {
+        if !seen.is_first(tree) {
             continue;
         }
         let root = forest.root(tree);
-        let Bound { greatest, .. } = looking.bounds.tree(forest, tree);
+        let Bound { maximum, .. } = looking.bounds.tree(forest, tree);
         let place = forest.span(tree);
         if root == Root::Operate(Operator::Add)
-            && greatest > greatest_of(width)
+            && maximum > maximum_of(width)
             && looking.sums.iter().any(|sum| is_same_place(*sum, place))
         {
-            report_sum(looking, reports, place, greatest, width)?;
+            report_sum(reports, place, maximum, width)?;
         } else {
             let first = if root == Root::Choice { 1 } else { 0 };
             for operand in first..root.arity() {
@@ -116,13 +74,14 @@ fn report_value(
 /// Reports the sums of a comparison that can wrap, where that matters: in an order, or beside a value that reads no word. An equation of sums with
 /// other words is one modulo the width, on both sides.
 fn report_comparison(
-    looking: Looking<'_, '_>,
-    reports: &mut Reports,
-    seen: &mut [bool],
+    looking: Looking<'_>,
+    reports: &mut Reports<'_>,
+    seen: &mut Seen,
     comparison: Comparison,
     sides: [usize; 2],
 ) -> Result<(), AllocError> {
-    let forest = &looking.expansion.scope.forest;
+    let expansion = reports.expansion;
+    let forest = &expansion.scope.forest;
     let [first, second] = sides;
     let left = looking.bounds.tree(forest, first).width;
     let right = looking.bounds.tree(forest, second).width;
@@ -161,18 +120,19 @@ fn push_formulas(expansion: &Expansion<'_>, formulas: &mut Vec<usize>) -> Result
 
 /// Reports the sums in formulas that can wrap. Each tree is looked at once.
 fn report_formulas(
-    looking: Looking<'_, '_>,
-    reports: &mut Reports,
+    looking: Looking<'_>,
+    reports: &mut Reports<'_>,
     open: &mut Vec<usize>,
 ) -> Result<(), AllocError> {
-    let forest = &looking.expansion.scope.forest;
-    let mut formulas_seen = unseen(looking.expansion)?;
-    let mut values_seen = unseen(looking.expansion)?;
+    let expansion = reports.expansion;
+    let forest = &expansion.scope.forest;
+    let mut formulas_seen = Seen::of(expansion)?;
+    let mut values_seen = Seen::of(expansion)?;
     for _ in 0..usize::MAX {
         let Some(tree) = open.pop() else {
             break;
         };
-        if is_first_look(&mut formulas_seen, tree) {
+        if formulas_seen.is_first(tree) {
             let root = forest.root(tree);
             for operand in 0..root.arity() {
                 open.push(forest.operand(tree, operand))?;
@@ -187,17 +147,23 @@ fn report_formulas(
 }
 
 /// Reports each sum in a formula that is asked or promised whose members together can be greater than the width allows in which it is worked out.
-pub(crate) fn report_sums(
-    expansion: &Expansion<'_>,
-    reports: &mut Reports,
-) -> Result<(), AllocError> {
-    let sums = sums_of(expansion)?;
+pub(crate) fn report_sums(reports: &mut Reports<'_>) -> Result<(), AllocError> {
+    let expansion = reports.expansion;
+    let mut sums = Vec::new(expansion.scope.alloc);
+    for expression in &expansion.scope.written.expressions {
+        if let ExpressionKind::Bound {
+            binder: Binder::Sum,
+            ..
+        } = expression.kind
+        {
+            sums.push(expression.span)?;
+        }
+    }
     if sums.is_empty() {
         return Ok(());
     }
     let bounds = Bounds::of(expansion)?;
     let looking = Looking {
-        expansion,
         bounds: &bounds,
         sums: &sums,
     };

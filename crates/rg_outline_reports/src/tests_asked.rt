@@ -42,18 +42,18 @@ fn truth_of(expansion: &Expansion<'_>, action: Action, place: Span) -> Option<bo
 }
 
 /// What is said of a test that is always this truth.
-fn sentence_of(action: Action, truth: bool) -> &'static [u8] {
+fn sentence_of(action: Action, truth: bool) -> &'static str {
     match (action, truth) {
         (Action::While, true) => {
-            b"this test is always true: write `while true` where that is meant"
+            "this test is always true: write `while true` where that is meant"
         }
-        (Action::While, false) => b"this test is always false, so the body is never done",
+        (Action::While, false) => "this test is always false, so the body is never done",
         (Action::Await, true) => {
-            b"this guard is always true, so nothing is waited for: write `atomic`, or `await true`, where that is meant"
+            "this guard is always true, so nothing is waited for: write `atomic`, or `await true`, where that is meant"
         }
-        (Action::Await, false) => b"this guard is always false, so this part waits for ever",
-        (_, true) => b"this test is always true, so it asks nothing: leave the `if` out",
-        (_, false) => b"this test is always false, so what stands after `then` is never done",
+        (Action::Await, false) => "this guard is always false, so this part waits for ever",
+        (_, true) => "this test is always true, so it asks nothing: leave the `if` out",
+        (_, false) => "this test is always false, so what stands after `then` is never done",
     }
 }
 
@@ -85,19 +85,17 @@ fn compares_itself(
 }
 
 /// Reports each comparison in a test of which both sides are the same.
-fn report_same_sides(
-    expansion: &Expansion<'_>,
-    test: usize,
-    reports: &mut Reports,
-) -> Result<(), AllocError> {
+fn report_same_sides(reports: &mut Reports<'_>, test: usize) -> Result<(), AllocError> {
+    let expansion = reports.expansion;
     for expression in expressions_in(expansion.scope.written, test) {
         if let Some(truth) = compares_itself(expansion, *expression)? {
-            let said: &[u8] = if truth {
-                b"both sides of this comparison are the same, so it is always true: compare with another word or a number"
+            let template = if truth {
+                "both sides of this comparison are the same, so it is always true: compare with another word or a number"
             } else {
-                b"both sides of this comparison are the same, so it is always false: compare with another word or a number"
+                "both sides of this comparison are the same, so it is always false: compare with another word or a number"
             };
-            warn(reports, Warning::AsksNothing, expression.span, None, said)?;
+            let place = expression.span;
+            warn(reports, Warning::AsksNothing, place, None, template, &[])?;
         }
     }
     Ok(())
@@ -105,19 +103,17 @@ fn report_same_sides(
 
 /// Reports each test and each guard that is always true or always false, and each that compares a word with itself. `while true` and `await true`
 /// are meant.
-pub(crate) fn report_tests(
-    expansion: &Expansion<'_>,
-    reports: &mut Reports,
-) -> Result<(), AllocError> {
+pub(crate) fn report_tests(reports: &mut Reports<'_>) -> Result<(), AllocError> {
+    let expansion = reports.expansion;
     let written = expansion.scope.written;
     for item in &written.items {
         if let Some((action, test)) = test_of(expansion, *item) {
             let place = expression_span(written, test);
             if let Some(truth) = truth_of(expansion, action, item.span) {
-                let said = sentence_of(action, truth);
-                warn(reports, Warning::AsksNothing, place, None, said)?;
+                let template = sentence_of(action, truth);
+                warn(reports, Warning::AsksNothing, place, None, template, &[])?;
             }
-            report_same_sides(expansion, test, reports)?;
+            report_same_sides(reports, test)?;
         }
     }
     Ok(())

@@ -2,7 +2,7 @@
 
 use crate::faults::printable;
 use crate::files::Format;
-use crate::made::{JsonObject, push_json_line};
+use crate::json::JsonObject;
 use std::alloc::{AllocError, Global};
 
 /// The line that says that the file of this name can't be read, and why: `rgc: NAME: REASON`, or a JSON value.
@@ -15,17 +15,14 @@ pub fn unread_line(
 ) -> Result<Vec<u8>, AllocError> {
     let mut line = Vec::new(alloc);
     if format == Format::Json {
-        let mut object = JsonObject::new(alloc);
-        object.put_text("kind", b"unread");
+        let mut object = JsonObject::of_kind(alloc, b"unread");
         object.put_text("file", name.as_bytes());
         object.put_text("reason", reason.as_bytes());
-        push_json_line(&mut line, alloc, object.value())?;
+        object.push_to(&mut line)?;
         return Ok(line);
     }
-    line.extend_from_slice(b"rgc: ")?;
-    line.extend_from_slice(name.as_bytes())?;
-    line.extend_from_slice(b": ")?;
-    line.extend_from_slice(reason.as_bytes())?;
-    line.push(b'\n')?;
+    for piece in ["rgc: ", name, ": ", reason, "\n"] {
+        line.extend_from_slice(piece.as_bytes())?;
+    }
     printable(alloc, &line)
 }

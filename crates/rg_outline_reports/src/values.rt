@@ -42,6 +42,15 @@ pub fn values_of(alloc: Global, state: &State) -> Result<Vec<u64>, AllocError> {
     Ok(values)
 }
 
+/// The state in which all words are 0.
+pub(crate) fn zeros(expansion: &Expansion<'_>) -> Result<Vec<u64>, AllocError> {
+    let mut values = Vec::new(expansion.scope.alloc);
+    for _ in &expansion.scope.words {
+        values.push(0)?;
+    }
+    Ok(values)
+}
+
 /// Whether a formula is true in two states.
 pub(crate) fn is_true(
     expansion: &Expansion<'_>,

@@ -9,6 +9,7 @@ use crate::relies::report_relies;
 use crate::reports::{Cause, Key, Reports, Warning};
 use crate::shared::report_shared;
 use crate::sums::report_sums;
+use crate::template::Gap;
 use crate::tests_asked::report_tests;
 use rg_outline::Expansion;
 use rg_outline_syntax::{Clause, HeadKind, Span};
@@ -16,18 +17,19 @@ use std::alloc::AllocError;
 
 /// Reports a warning at a place, of a part or of the program.
 pub(crate) fn warn(
-    reports: &mut Reports,
+    reports: &mut Reports<'_>,
     warning: Warning,
     place: Span,
     part: Option<usize>,
-    sentence: &[u8],
+    template: &str,
+    gaps: &[Gap<'_>],
 ) -> Result<(), AllocError> {
     let key = Key {
         cause: Cause::Warned(warning),
         at: place,
         what: place,
     };
-    reports.put(key, place, part, sentence)?;
+    reports.put(key, place, part, template, gaps)?;
     Ok(())
 }
 
@@ -49,23 +51,22 @@ pub(crate) fn clause_span(expansion: &Expansion<'_>, clause: Clause) -> Option<S
 /// Reports all warnings of an outline that was worked out. `shown` are the questions to which the answer is yes, and `outside` the indices that are
 /// outside their ranges: that takes a search, so who calls says it.
 pub(crate) fn report_warnings(
-    expansion: &Expansion<'_>,
+    reports: &mut Reports<'_>,
     shown: &[Asks],
     outside: &[Outside],
-    reports: &mut Reports,
 ) -> Result<(), AllocError> {
     let is_unmet = shown.iter().any(|asks| *asks == Asks::PreUnmet);
-    if is_unmet && let Some(place) = clause_span(expansion, Clause::Pre) {
-        let said = b"no state meets the pre, so nothing is proved of any run";
-        warn(reports, Warning::PreUnmet, place, None, said)?;
+    if is_unmet && let Some(place) = clause_span(reports.expansion, Clause::Pre) {
+        let template = "no state meets the pre, so nothing is proved of any run";
+        warn(reports, Warning::PreUnmet, place, None, template, &[])?;
     }
-    report_empty_promises(expansion, shown, reports)?;
-    report_post(expansion, reports)?;
-    report_auxiliary_alone(expansion, reports)?;
-    report_relies(expansion, reports)?;
-    report_sums(expansion, reports)?;
-    report_tests(expansion, reports)?;
-    report_outside(expansion, outside, reports)?;
-    report_shared(expansion, reports)?;
-    report_unused(expansion, reports)
+    report_empty_promises(reports, shown)?;
+    report_post(reports)?;
+    report_auxiliary_alone(reports)?;
+    report_relies(reports)?;
+    report_sums(reports)?;
+    report_tests(reports)?;
+    report_outside(reports, outside)?;
+    report_shared(reports)?;
+    report_unused(reports)
 }

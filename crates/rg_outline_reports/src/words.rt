@@ -18,26 +18,28 @@ pub(crate) struct Words {
     choices: Vec<usize>,
 }
 
-/// So many times `false` as there are trees, where an outline has indices over words: the words of such choices aren't noted one by one.
-fn unseen_choices(expansion: &Expansion<'_>) -> Result<Vec<bool>, AllocError> {
-    let mut seen = Vec::new(expansion.scope.alloc);
-    if !expansion.scope.chosen.is_empty() {
-        for _ in 0..expansion.scope.forest.trees.len() {
-            seen.push(false)?;
-        }
-    }
-    Ok(seen)
+/// Which trees of an outline were looked at.
+#[derive(Drop)]
+pub(crate) struct Seen {
+    trees: Vec<bool>,
 }
 
-/// Whether a tree was looked at before, where that is noted.
-fn was_seen(seen: &mut [bool], tree: usize) -> bool {
-    match seen.get_mut(tree) {
-        Some(slot) => {
-            let is_seen = *slot;
-            *slot = true;
-            is_seen
+impl Seen {
+    /// None was.
+    pub(crate) fn of(expansion: &Expansion<'_>) -> Result<Seen, AllocError> {
+        let mut trees = Vec::new(expansion.scope.alloc);
+        for _ in 0..expansion.scope.forest.trees.len() {
+            trees.push(false)?;
         }
-        None => false,
+        Ok(Seen { trees })
+    }
+
+    /// Whether a tree is looked at for the first time.
+    pub(crate) fn is_first(&mut self, tree: usize) -> bool {
+        match self.trees.get_mut(tree) {
+            Some(slot) => !std::mem::replace(slot, true),
+            None => false,
+        }
     }
 }
 
@@ -121,14 +123,14 @@ impl Words {
         tree: usize,
     ) -> Result<(), AllocError> {
         let forest = &expansion.scope.forest;
-        let mut seen = unseen_choices(expansion)?;
+        let mut seen = Seen::of(expansion)?;
         let mut open = Vec::new(expansion.scope.alloc);
         open.push(tree)?;
         for _ in 0..usize::MAX {
             let Some(tree) = open.pop() else {
                 break;
             };
-            if was_seen(&mut seen, tree) {
+            if !seen.is_first(tree) {
                 continue;
             }
             let root = forest.root(tree);

@@ -46,10 +46,11 @@ pub(crate) fn stop<L: Round>(rt: &impl Wait, table: &Table<'_, L>) {
 }
 
 /// One turn. A part that is blocked waits here until the floor changes.
-fn take_turn<L: Round>(
+fn take_turn<L: Round, G: Gate>(
     rt: &impl Wait,
     program: &Program,
     table: &Table<'_, L>,
+    gate: &G,
     seat: &mut Seat<L>,
 ) -> Result<Turn, AllocError>
     requires { program_tree program.now ≡ L.program }
@@ -57,11 +58,15 @@ fn take_turn<L: Round>(
     let mut floor = table.floor.lock(rt);
     let turn = floor.turn(program, seat)?;
     match &turn {
-        Turn::Did(_) => table.changed.notify_all(),
+        Turn::Did(_) => {
+            table.changed.notify_all();
+            gate.stepped();
+        }
         Turn::Blocked => {
+            gate.rests(seat.part(), false);
             let _floor = table.changed.wait(rt, floor);
         }
-        Turn::Ended | Turn::Over(_) => {}
+        Turn::Ended | Turn::Over(_) => gate.rests(seat.part(), true),
     }
     Ok(turn)
 }
@@ -87,8 +92,8 @@ fn take_turns<L: Round, G: Gate, R: Wait>(
     let mut nth = 0u64;
     for _ in rt.forever() {
         nth = nth.saturating_add(1);
-        gate.before(seat.part(), nth);
-        match take_turn(rt, program, table, seat)? {
+        gate.before(rt, seat.part(), nth);
+        match take_turn(rt, program, table, gate, seat)? {
             Turn::Did(step) => send_record(rt, to, step)?,
             Turn::Blocked => {}
             Turn::Ended | Turn::Over(_) => break,

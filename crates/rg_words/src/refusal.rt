@@ -3,6 +3,7 @@
 ghost use Rattle.std.specs.Prelude.{◌≡◌, None};
 
 use crate::sink::WriteFault;
+use itoa::Buffer;
 use std::alloc::{AllocError, AllocFailed};
 use std::error::Error;
 use std::fmt;
@@ -146,10 +147,11 @@ impl fmt::Display for Place {
     ghost output = { λ place. Some (place_text place) };
 
     fn fmt<W: fmt::Write>(&self, f: &mut fmt::Formatter<W>) -> fmt::Result {
+        let mut digits = Buffer::new();
         match self {
-            Place::Line(number) => write!(f, "line {number}"),
-            Place::Condition(number) => write!(f, "condition {number}"),
-            Place::Move(number) => write!(f, "move {number}"),
+            Place::Line(number) => write!(f, "line {}", digits.format(*number)),
+            Place::Condition(number) => write!(f, "condition {}", digits.format(*number)),
+            Place::Move(number) => write!(f, "move {}", digits.format(*number)),
         }
     }
 }
@@ -162,7 +164,8 @@ impl fmt::Display for Refusal {
     ghost output = { λ refusal. Some (refusal_text refusal) };
 
     fn fmt<W: fmt::Write>(&self, f: &mut fmt::Formatter<W>) -> fmt::Result {
-        write!(f, "refused {}", self.number.code())?;
+        let mut digits = Buffer::new();
+        write!(f, "refused {}", digits.format(self.number.code()))?;
         if let Some(file) = self.file {
             write!(f, " {file}")?;
         }

@@ -3,6 +3,7 @@
 ghost use Rattle.std.specs.Prelude.{◌≡◌, ◌++◌, IfOk, OnOk, string_bytes};
 ghost use Rattle.rgc.specs.Failures.{value_text, state_line, failure_text};
 
+use itoa::Buffer;
 use rg_words::{Layout, State};
 use std::alloc::{AllocError, Global};
 
@@ -10,6 +11,8 @@ use std::alloc::{AllocError, Global};
 fn value_text(alloc: Global, name: &str, value: u64) -> Result<String, AllocError>
     ensures { IfOk result (λ text. string_bytes text ≡ value_text name.now value) }
 {
+    let mut digits = Buffer::new();
+    let value = digits.format(value);
     format!(in alloc; " {name}={value}")
 }
 

@@ -18,6 +18,7 @@ ghost use Rattle.rg_accept.specs.Names.{names_of_conditions};
 ghost use Rattle.rg_accept.specs.Stages.{derived_program, derived_lines};
 
 use crate::failures::failure_text;
+use itoa::Buffer;
 use rg_accept::Derived;
 use rg_find::{Judged, judge};
 use rg_hints::Lines;
@@ -44,6 +45,8 @@ pub struct Unproved {
 fn section_of(alloc: Global, number: usize, lines: &Lines) -> Result<String, Refusal>
     ensures { IfErr result (λ e. e ≡ no_memory) }
 {
+    let mut digits = Buffer::new();
+    let number = digits.format(number);
     let mut section = format!(in alloc; "section {number}\n")?;
     let text = lines.text(alloc)?;
     section.push_str(&text)?;
@@ -499,9 +502,10 @@ fn unproved_text(
 ) -> Result<String, AllocError>
     ensures { IfOk result (λ t. string_bytes t ≡ unproved_text words.now (map string_bytes names.now) unproved.now) }
 {
-    let number = unproved.number;
-    let name = name_at(names, number);
+    let name = name_at(names, unproved.number);
     let reported = reported_of(alloc, words, &unproved.judged)?;
+    let mut digits = Buffer::new();
+    let number = digits.format(unproved.number);
     format!(in alloc; "condition {number} {name}{reported}")
 }
 

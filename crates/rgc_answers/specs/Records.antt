@@ -69,6 +69,10 @@ why_name Stopped = codes "stopped"
 abbrev pub end_data : Why → Data
 end_data why = object (member (codes "kind") (string (codes "run")) (member (codes "why") (string (why_name why)) no_members))
 
--- what is left of a run: its records, the moves that were passed over, and why it is over
+-- what stands after the records of a run: the moves that were passed over, and why it is over
+abbrev pub ending_text : ClosedView → List ℕ
+ending_text closed = passed_text closed.refused ++ json_line (end_data closed.why)
+
+-- what is left of a run: its records, and what stands after them
 abbrev pub run_text : ProgramTree → ClosedView → List ℕ
-run_text program closed = records_text program closed.history ++ (passed_text closed.refused ++ json_line (end_data closed.why))
+run_text program closed = records_text program closed.history ++ ending_text closed

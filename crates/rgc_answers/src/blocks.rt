@@ -7,6 +7,7 @@ ghost use Rattle.rg_accept.specs.Stages.{derived_program, derived_lines};
 ghost use Rattle.rgc_answers.specs.Blocks.{fixed_text, word_text, words_text, shown_text, block_text, blocks_text, formulas_text};
 
 use crate::formulas::formula_of;
+use itoa::Buffer;
 use rg_tree::condition::Condition;
 use rg_tree::print::print;
 use rg_words::Layout;
@@ -27,7 +28,8 @@ fn word_text(alloc: Global, layout: &Layout, word: usize) -> Result<String, Allo
 {
     let before = fixed_text(layout.is_fixed(word));
     let name = layout.name(word);
-    let width = layout.width(word);
+    let mut digits = Buffer::new();
+    let width = digits.format(layout.width(word));
     format!(in alloc; "{before}{name}:{width}")
 }
 
@@ -58,6 +60,8 @@ fn block_text(alloc: Global, number: usize, name: &str, c: &Condition) -> Result
     ensures { IfOk result (λ t. string_bytes t ≡ block_text number name.now (condition_tree c.now)) }
 {
     let shown = shown_text(alloc, c)?;
+    let mut digits = Buffer::new();
+    let number = digits.format(number);
     format!(in alloc; "{number} {name}\n{shown}\n")
 }
 

@@ -11,6 +11,7 @@ ghost use Rattle.rg_accept.specs.Stages.{derived_program, derived_lines};
 
 use crate::json_line::line_of;
 use crate::listing::listing;
+use itoa::Buffer;
 use rg_code::code::Code;
 use rg_tree::print::print;
 use rg_tree::program::Program;
@@ -76,7 +77,11 @@ fn condition_line(
     ensures { IfOk result (λ line. string_bytes line ≡ condition_line format number name.now) }
 {
     match format {
-        Format::Plain => format!(in alloc; "{number} {name}\n"),
+        Format::Plain => {
+            let mut digits = Buffer::new();
+            let number = digits.format(number);
+            format!(in alloc; "{number} {name}\n")
+        }
         Format::Json => {
             let value = condition_value(alloc, number, name)?;
             line_of(alloc, &value)

@@ -36,5 +36,5 @@ pub use numbers::{kind_text, numbers_text, part_name};
 pub use picture::{MOST_DRAWN, draw};
 pub use proof_lines::{Range, proofs_text, unproved_text};
 pub use refusals::{refusal_json, refusal_value};
-pub use run_json::run_text;
+pub use run_json::write_run;
 pub use running::{Run, Unread, draw_run, passed_lines, play_run, why_line};

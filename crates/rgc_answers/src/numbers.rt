@@ -6,6 +6,7 @@ ghost use Rattle.serde_json.specs.View.{view};
 ghost use Rattle.rgc_answers.specs.Numbers.{kind_text, part_name, statement_data, statement_line, lines_text, numbers_text};
 
 use crate::json_line::line_of;
+use itoa::Buffer;
 use rg_tree::numbered::{Numbered, StatementKind};
 use rg_tree::part::Part;
 use rg_tree::program::Program;
@@ -62,8 +63,9 @@ fn statement_line(
 {
     match format {
         Format::Plain => {
-            let number = statement.number;
-            let line = statement.line;
+            let (mut numbers, mut lines) = (Buffer::new(), Buffer::new());
+            let number = numbers.format(statement.number);
+            let line = lines.format(statement.line);
             let kind = kind_text(statement.kind);
             format!(in alloc; "{number} {name} {line} {kind}\n")
         }

@@ -11,7 +11,7 @@ use Rattle.rgc.specs.Pieces.{bytes_of, IsBuiltInPieces}
 use Rattle.rgc_answers.specs.Accepted.{IsOver}
 use Rattle.rgc_answers.proofs.Listings.{lawful_over}
 use Rattle.rgc_line.specs.declared.command.Settings.{Settings}
-use Rattle.rgc_commands.specs.Answers.{HasCode, IsLeftOfFiles, IsLeftOfOutline, IsReady, NoneAreApart}
+use Rattle.rgc_commands.specs.Answers.{AsInFiles, HasCode, IsLeftOfFiles, IsLeftOfOutline, IsReady}
 use Rattle.rgc_commands.specs.Flagged.{is_left_out}
 use Rattle.rgc_commands.specs.Code.{Shown, AreAmong, coded_program, coded_code, coded_blocks, IsPrinted}
 use Rattle.rgc_commands.specs.Left.{LacksPlan, LacksCode}
@@ -39,11 +39,11 @@ of_three P Q files follows = by_files files.text files.derivation files.proofs
     by_files None d p h = absurd h
 
 -- the text of the code of files
-pub files_code : (names : Option (Bor (List ℕ))) (files : Files) (c : Coded) (form : Shown) (text : List ℕ)
-    → OfThree files (λ t d p. IsLeftOfFiles names t d p (coded_program c) (coded_blocks c)) → (flags : List Bool) → AreAmong flags [] → IsPrinted form flags c text → OfThree files (λ t d p. HasCode (IsLeftOfFiles names t d p) NoneAreApart form text)
-files_code names files c form text left flags among printed =
-    of_three (λ t d p. IsLeftOfFiles names t d p (coded_program c) (coded_blocks c)) (λ t d p. HasCode (IsLeftOfFiles names t d p) NoneAreApart form text) files
-    (λ t d p l. record { coded = c; left = l; over = coded_over c; apart = flags; are_apart = among_none flags among; printed = printed }) left
+pub files_code : (names priority : Option (Bor (List ℕ))) (files : Files) (c : Coded) (form : Shown) (text : List ℕ)
+    → OfThree files (λ t d p. IsLeftOfFiles names t d p (coded_program c) (coded_blocks c)) → (flags : List Bool) → AreAmong flags [] → IsPrinted form priority [] flags c text → OfThree files (λ t d p. HasCode (IsLeftOfFiles names t d p) AsInFiles priority form text)
+files_code names priority files c form text left flags among printed =
+    of_three (λ t d p. IsLeftOfFiles names t d p (coded_program c) (coded_blocks c)) (λ t d p. HasCode (IsLeftOfFiles names t d p) AsInFiles priority form text) files
+    (λ t d p l. record { coded = c; left = l; over = coded_over c; apart = flags; lines = []; are = (among_none flags among, refl); printed = printed }) left
 
 -- code of files that is ready to run
 pub ready_files : (names : Option (Bor (List ℕ))) (files : Files) (ready : Ready) (start moves : Option (Bor (List ℕ))) (limit : ℕ)
@@ -55,13 +55,13 @@ ready_files names files ready start moves limit left first moving same =
 
 -- what is left of files, or of an outline, has no C
 pub files_lack : (s : Settings) (in_c : Bool) (files : Files) (q : ProgramTree) (blocks : List (List BlockTree))
-    → OfThree files (λ t d p. IsLeftOfFiles s.erase t d p q blocks) → in_c ≡ true → (lines : List ℕ) → LacksPlan q lines → LacksCodeOfFiles s in_c files lines
+    → OfThree files (λ t d p. IsLeftOfFiles s.erase t d p q blocks) → in_c ≡ true → (lines : List ℕ) → LacksPlan s.priority q lines → LacksCodeOfFiles s in_c files lines
 files_lack s in_c files q blocks left asked lines lacks =
-    of_three (λ t d p. IsLeftOfFiles s.erase t d p q blocks) (λ t d p. LacksCode (IsBuiltInPieces t d p) s.erase [] in_c lines) files
+    of_three (λ t d p. IsLeftOfFiles s.erase t d p q blocks) (λ t d p. LacksCode (IsBuiltInPieces t d p) s.erase [] s.priority in_c lines) files
     (λ t d p l. record { program = l.program; whole = l.whole; built = l.built; why = inr (asked, record { left = q; blocks = blocks; is_left = l.is_left; lacks = lacks }) }) left
 
 pub outline_lacks : (s : Settings) (in_c : Bool) (outline : OutlineFiles) (q : ProgramTree) (blocks : List (List BlockTree))
-    → IsLeftOfOutline s.erase s.keeps_aux outline q blocks → in_c ≡ true → (lines : List ℕ) → LacksPlan q lines → LacksCodeOfOutline s in_c lines outline
+    → IsLeftOfOutline s.erase s.keeps_aux outline q blocks → in_c ≡ true → (lines : List ℕ) → LacksPlan s.priority q lines → LacksCodeOfOutline s in_c lines outline
 outline_lacks s in_c outline q blocks l asked lines lacks =
     record { program = l.program; whole = l.whole; built = l.built; why = inr (asked, record { left = q; blocks = blocks; is_left = l.is_left; lacks = lacks }) }
 

@@ -34,6 +34,11 @@ use Rattle.rgc_outlines.specs.Built.{IsBuiltOutline}
 use Rattle.rgc_outlines.specs.Cut.{IsOfPieces}
 use Rattle.rgc_outlines.specs.Proved.{IsProvedOutline}
 use Rattle.rgc_outlines.specs.WalkedRefuted.{IsRefuted}
+use Rattle.rgc_outlines.specs.WalkReport.{IsReportOf}
+use Rattle.rgc_outlines.specs.Verdict.{name_text}
+use Rattle.rgc_outlines.specs.declared.verdict.VerdictForm.{VerdictForm}
+use Rattle.rg_outline_reports.specs.WalkReport.{reported_lines}
+use Rattle.rg_outline_reports.specs.declared.walk_report.WalkReport.{WalkReport}
 use Rattle.rgc_line.specs.declared.command.Command.{Command}
 use Rattle.rgc_line.specs.declared.command.Command.TheVariants as command
 use Rattle.rgc_line.specs.declared.command.Settings.{Settings}
@@ -130,18 +135,23 @@ pub record IsLeftOfOutline (names : Option (Bor (List ℕ))) (keeps_aux : Bool) 
   pub built : IsBuiltOutline outline program whole
   pub is_left : IsLeftBy (flags_for program.words names (auxiliary_of keeps_aux outline)) program whole left blocks
 
--- no part is apart from another at a word: what is printed rests on no assertion
-abbrev pub NoneAreApart : ProgramTree → List Bool → Type 0
-NoneAreApart p apart = apart ≡ []
+-- of files: no part is apart from another at a word, so what is printed rests on no assertion; and the lines that are printed are those of the text
+abbrev pub AsInFiles : ProgramTree → List Bool → List ℕ → Type 0
+AsInFiles p apart lines = (apart ≡ []) × (lines ≡ [])
 
--- the text of code that is left so is printed in this form, its parts being apart so
-pub record HasCode (IsLeft : ProgramTree → List (List BlockTree) → Type 0) (AreApart : ProgramTree → List Bool → Type 0) (form : Shown) (text : List ℕ) : Type 0 where
+-- of an outline: its parts are apart at these words; which of its lines are printed for those of the text isn't said
+abbrev pub AsInOutline : ProgramTree → List Bool → List ℕ → Type 0
+AsInOutline p apart lines = PartsAreApart p apart
+
+-- the text of code that is left so is printed in this form, its parts interrupting each other so, and being apart so, with lines for those of its text
+pub record HasCode (IsLeft : ProgramTree → List (List BlockTree) → Type 0) (Are : ProgramTree → List Bool → List ℕ → Type 0) (priority : Option (Bor (List ℕ))) (form : Shown) (text : List ℕ) : Type 0 where
   pub coded : Coded
   pub left : IsLeft (coded_program coded) (coded_blocks coded)
   pub over : ∥ IsOver (coded_program coded) (coded_code coded) ∥₁
   pub apart : List Bool
-  pub are_apart : AreApart (coded_program coded) apart
-  pub printed : IsPrinted form apart coded text
+  pub lines : List ℕ
+  pub are : Are (coded_program coded) apart lines
+  pub printed : IsPrinted form priority lines apart coded text
 
 -- code that is left so is ready to run, with a start and with moves where the command names such files
 pub record IsReady {A : Type 0} (IsLeft : ProgramTree → List (List BlockTree) → Type 0) (files : Files) (start moves : Option A) (limit : ℕ) (ready : Ready) : Type 0 where
@@ -160,12 +170,21 @@ pub record IsVerified (conditions : ℕ) (files : OutlineFiles) : Type 0 where
 
 -- after a verdict is printed how each step is done in C, where that is asked for
 abbrev pub HasMore : Settings → OutlineFiles → List ℕ → Type 0
-HasMore s outline more = s.has_accesses ≡ true → HasCode (IsLeftOfOutline s.erase s.keeps_aux outline) PartsAreApart accesses more
+HasMore s outline more = s.has_accesses ≡ true → HasCode (IsLeftOfOutline s.erase s.keeps_aux outline) AsInOutline s.priority accesses more
 
 -- an outline's text is printed, or goes to a file
 abbrev pub IsTextOf : Bool → OutlineFiles → List ℕ → Type 0
 IsTextOf true outline text = text ≡ []
 IsTextOf false outline text = text ≡ outline.text.items
+
+-- what a walk of the program that a text spells found is printed, after an outline's name or without one; where that is a run, the program doesn't satisfy its
+-- specification
+pub record HasWalked (text : List ℕ) (is_broken : Bool) (printed : List ℕ) : Type 0 where
+  pub report : WalkReport
+  pub is : IsReportOf text is_broken report
+  pub form : VerdictForm
+  pub lines : printed ≡ name_text form ++ reported_lines report
+  pub refuted : is_broken ≡ true → IsRefuted text
 
 -- the text of these files spells a program, and the pieces of their derivation spell lines that derive its parts
 pub record IsExpansion (is_put : Bool) (text : List ℕ) (outline : OutlineFiles) : Type 0 where
@@ -194,17 +213,17 @@ IsAnswer s (command.Find _ _ (Some chosen)) files (Found condition found) =
     OfTwo files (λ text derivation. IsChosen text derivation chosen.condition (condition_tree condition) × IsJudged (condition_tree condition) found)
 IsAnswer s (command.Explain number) files (Explained explained entry) = explained ≡ number
 IsAnswer s (command.Emit _ _ _) files (Code code) =
-    (form : Shown) × IsCodeForm s form × OfThree files (λ text derivation proofs. HasCode (IsLeftOfFiles s.erase text derivation proofs) NoneAreApart form (string_bytes code))
+    (form : Shown) × IsCodeForm s form × OfThree files (λ text derivation proofs. HasCode (IsLeftOfFiles s.erase text derivation proofs) AsInFiles s.priority form (string_bytes code))
 IsAnswer s (command.EmitOutline _) files (Code code) =
-    (form : Shown) × IsCodeForm s form × OfOutline files (λ outline. HasCode (IsLeftOfOutline s.erase s.keeps_aux outline) PartsAreApart form (string_bytes code))
+    (form : Shown) × IsCodeForm s form × OfOutline files (λ outline. HasCode (IsLeftOfOutline s.erase s.keeps_aux outline) AsInOutline s.priority form (string_bytes code))
 IsAnswer s (command.Accesses _ _ _) files (Code code) =
-    OfThree files (λ text derivation proofs. HasCode (IsLeftOfFiles s.erase text derivation proofs) NoneAreApart accesses (string_bytes code))
-IsAnswer s (command.AccessesOutline _) files (Code code) = OfOutline files (λ outline. HasCode (IsLeftOfOutline s.erase s.keeps_aux outline) PartsAreApart accesses (string_bytes code))
+    OfThree files (λ text derivation proofs. HasCode (IsLeftOfFiles s.erase text derivation proofs) AsInFiles s.priority accesses (string_bytes code))
+IsAnswer s (command.AccessesOutline _) files (Code code) = OfOutline files (λ outline. HasCode (IsLeftOfOutline s.erase s.keeps_aux outline) AsInOutline s.priority accesses (string_bytes code))
 IsAnswer s (command.Run _ _ _ start moves limit _) files (Run ready) =
     OfThree files (λ text derivation proofs. IsReady (IsLeftOfFiles s.erase text derivation proofs) files start moves limit ready)
 IsAnswer s (command.RunOutline _ start moves limit _) files (Run ready) = OfOutline files (λ outline. IsReady (IsLeftOfOutline None true outline) files start moves limit ready)
 IsAnswer s (command.Verify _ _ false _) files (Verified verified) = OfOutline files (λ outline. IsVerified verified.conditions outline × HasMore s outline verified.more.items)
-IsAnswer s (command.Verify _ _ true _) files (Walked is_broken text) = OfOutline files (λ outline. is_broken ≡ true → IsRefuted outline.text.items)
+IsAnswer s (command.Verify _ _ true _) files (Walked is_broken text) = OfOutline files (λ outline. HasWalked outline.text.items is_broken text.items)
 IsAnswer s (command.Challenge _ _) files (Verified verified) = OfOutline files (IsVerified verified.conditions)
 IsAnswer s (command.Outline _ _ text _ _ _) files (Expanded printed) = OfOutline files (IsExpansion (is_some text) printed.items)
 IsAnswer s _ files _ = ⊥

@@ -9,6 +9,7 @@ use Rattle.rg_code.specs.CodeTrees.{code_blocks}
 use Rattle.rg_code.specs.declared.code.Code.{Code}
 use Rattle.rg_c_plan.specs.Kinds.{kinds_of, unplanned}
 use Rattle.rg_c_plan.specs.Sound.{IsSound}
+use Rattle.rg_c_plan.specs.declared.order.Rank.{Rank}
 use Rattle.rg_c_plan.specs.declared.kind.Kind.{Kind}
 use Rattle.rg_c.specs.Headers.{header_text}
 use Rattle.rg_c_report.specs.Reports.{report_text}
@@ -16,6 +17,7 @@ use Rattle.rgc_answers.specs.Listing.{listing_data}
 use Rattle.rgc_line.specs.declared.command.Format.{Format}
 use Rattle.rgc_line.specs.declared.command.Format.TheVariants.{Plain, Json}
 use Rattle.rgc_line.specs.declared.command.Settings.{Settings}
+use Rattle.rgc_commands.specs.Priority.{IsOrdered}
 use Rattle.rgc_commands.specs.Titles.{is_title}
 use Rattle.rgc_commands.specs.declared.code.Coded.{Coded}
 use Rattle.rgc_commands.specs.declared.code.Coded.TheVariants.{Whole, Left}
@@ -74,19 +76,25 @@ AreAmong [] those = Unit {0}
 AreAmong (f ∷ fs) [] = ⊥
 AreAmong (f ∷ fs) (b ∷ bs) = (f ≡ true → b ≡ true) × AreAmong fs bs
 
--- the kinds are those that the program's words have in C where its parts are apart at these: each step is done at once, and no two parties meet at a plain word outside of critical sections, but
--- for parts that are apart
-pub record IsPlan (kinds : List Kind) (apart : List Bool) (p : ProgramTree) : Type 0 where
-  pub is : kinds ≡ kinds_of p apart
-  pub possible : unplanned p apart ≡ None
-  pub sound : IsSound kinds p
+-- the kinds are those that the program's words have in C where its parts interrupt each other so, and are apart at these: each step is done at once, and no two parties
+-- meet at a plain word outside of critical sections, but for parts that are apart
+pub record IsPlan (kinds : List Kind) (order : List (Option Rank)) (apart : List Bool) (p : ProgramTree) : Type 0 where
+  pub is : kinds ≡ kinds_of p order apart
+  pub possible : unplanned p order apart ≡ None
+  pub sound : IsSound kinds order p
 
--- a program, whose parts are apart at these words, and its code are printed so
-abbrev pub IsPrintedAs : Shown → List Bool → ProgramTree → Code → List ℕ → Type 0
-IsPrintedAs listing apart p code text = text ≡ compact_text (listing_data code) ++ codes "\n"
-IsPrintedAs (header name traced) apart p code text = (kinds : List Kind) × IsPlan kinds apart p × (text ≡ header_text name traced kinds p)
-IsPrintedAs accesses apart p code text = (kinds : List Kind) × IsPlan kinds apart p × (text ≡ report_text p kinds)
+-- the same of an order that a text says
+abbrev pub IsPlanned : Option (Bor (List ℕ)) → List (Option Rank) → List Kind → List Bool → ProgramTree → Type 0
+IsPlanned priority order kinds apart p = IsOrdered priority p order × IsPlan kinds order apart p
+
+-- a program, whose parts interrupt each other as a text says and are apart at these words, and its code are printed so, with these lines for those of its text
+abbrev pub IsPrintedAs : Shown → Option (Bor (List ℕ)) → List ℕ → List Bool → ProgramTree → Code → List ℕ → Type 0
+IsPrintedAs listing priority lines apart p code text = text ≡ compact_text (listing_data code) ++ codes "\n"
+IsPrintedAs (header name traced) priority lines apart p code text =
+    (order : List (Option Rank)) × (kinds : List Kind) × IsPlanned priority order kinds apart p × (text ≡ header_text name traced lines order kinds p)
+IsPrintedAs accesses priority lines apart p code text =
+    (order : List (Option Rank)) × (kinds : List Kind) × IsPlanned priority order kinds apart p × (text ≡ report_text p order kinds lines)
 
 -- code is printed so
-abbrev pub IsPrinted : Shown → List Bool → Coded → List ℕ → Type 0
-IsPrinted form apart c text = IsPrintedAs form apart (coded_program c) (coded_code c) text
+abbrev pub IsPrinted : Shown → Option (Bor (List ℕ)) → List ℕ → List Bool → Coded → List ℕ → Type 0
+IsPrinted form priority lines apart c text = IsPrintedAs form priority lines apart (coded_program c) (coded_code c) text

@@ -11,8 +11,10 @@ use Rattle.rg_erase.specs.Faults.{fault_of}
 use Rattle.rg_erase.specs.Shadows.{AreShadows}
 use Rattle.rg_erase.specs.declared.fault.Fault.{Fault}
 use Rattle.rg_c_plan.specs.Kinds.{unplanned}
+use Rattle.rg_c_plan.specs.declared.order.Rank.{Rank}
 use Rattle.rg_c_plan.specs.declared.planned.Unplanned.{Unplanned}
 use Rattle.rgc_commands.specs.Flagged.{stranger, flags_for}
+use Rattle.rgc_commands.specs.Priority.{misordered, order_for}
 use Rattle.rgc_commands.specs.Sentences.{unknown_line, fault_line, unplanned_line}
 
 -- these words are erased from a program; what is left satisfies its specification, its runs are what stays of the program's, and these are exactly the blocks of
@@ -49,21 +51,25 @@ IsLeft false erased p code q blocks = (q ≡ p) × (blocks ≡ code)
 abbrev pub IsLeftBy : List Bool → ProgramTree → List (List BlockTree) → ProgramTree → List (List BlockTree) → Type 0
 IsLeftBy erased p code q blocks = IsLeft (list_any (λ b. b) erased) erased p code q blocks
 
--- a step of a program can't be done at once in C, as these lines report
-abbrev pub LacksPlan : ProgramTree → List ℕ → Type 0
-LacksPlan p lines = (step : Unplanned) × (unplanned p [] ≡ Some step) × (lines ≡ unplanned_line p.words step)
+-- there is no C for a program whose parts interrupt each other so, as these lines report
+abbrev pub IsUnplanned : List (Option Rank) → ProgramTree → List ℕ → Type 0
+IsUnplanned order p lines = (why : Unplanned) × (unplanned p order [] ≡ Some why) × (lines ≡ unplanned_line p.words why)
 
--- the same of a step of what is left
-pub record HasNoC (IsLeft : ProgramTree → List (List BlockTree) → Type 0) (lines : List ℕ) : Type 0 where
+-- its parts aren't those of which a text says which interrupt which, or there is no C
+abbrev pub LacksPlan : Option (Bor (List ℕ)) → ProgramTree → List ℕ → Type 0
+LacksPlan priority p lines = (misordered p priority ≡ Some lines) ⊎ IsUnplanned (order_for p priority) p lines
+
+-- the same of what is left
+pub record HasNoC (IsLeft : ProgramTree → List (List BlockTree) → Type 0) (priority : Option (Bor (List ℕ))) (lines : List ℕ) : Type 0 where
   pub left : ProgramTree
   pub blocks : List (List BlockTree)
   pub is_left : IsLeft left blocks
-  pub lacks : LacksPlan left lines
+  pub lacks : LacksPlan priority left lines
 
--- the code of a program that is built isn't had without words that are named and flagged: these have to stay; or C is asked for, and a step of what is left
--- has none
-pub record LacksCode (IsBuilt : ProgramTree → List (List BlockTree) → Type 0) (names : Option (Bor (List ℕ))) (flagged : List Bool) (in_c : Bool) (lines : List ℕ) : Type 0 where
+-- the code of a program that is built isn't had without words that are named and flagged: these have to stay; or C is asked for, with such an order of the parts, and what
+-- is left has none
+pub record LacksCode (IsBuilt : ProgramTree → List (List BlockTree) → Type 0) (names : Option (Bor (List ℕ))) (flagged : List Bool) (priority : Option (Bor (List ℕ))) (in_c : Bool) (lines : List ℕ) : Type 0 where
   pub program : ProgramTree
   pub whole : List (List BlockTree)
   pub built : IsBuilt program whole
-  pub why : HaveToStay names flagged program lines ⊎ ((in_c ≡ true) × HasNoC (IsLeftBy (flags_for program.words names flagged) program whole) lines)
+  pub why : HaveToStay names flagged program lines ⊎ ((in_c ≡ true) × HasNoC (IsLeftBy (flags_for program.words names flagged) program whole) priority lines)

@@ -1,6 +1,7 @@
 pub mod Explanation
 pub mod Flagged
 pub mod Sentences
+pub mod Priority
 pub mod Left
 pub mod Titles
 pub mod Code

@@ -4,9 +4,13 @@ use Rattle.std.specs.Borrow.{Bor}
 use Rattle.rg_outline_reports.specs.declared.files.NoFiles.{NoFiles}
 use Rattle.rg_outline_reports.specs.declared.files.NoFiles.TheVariants.{Reported}
 use Rattle.rg_outline_reports.specs.declared.files.OutlineFiles.{OutlineFiles}
+use Rattle.rg_outline_reports.specs.declared.files.OutlineSource.{OutlineSource}
 use Rattle.rg_outline_reports.specs.declared.outlined.Outlined.{Outlined}
+use Rattle.rg_outline_reports.specs.declared.worked_out.WorkedOut.{WorkedOut}
+use Rattle.rg_outline_reports.specs.WorkedOut.{worked_source, worked_result}
 use Rattle.rgc.specs.Pieces.{bytes_of}
 use Rattle.rgc_commands.specs.declared.files.Files.{Files}
+use Rattle.rgc_commands.specs.declared.given.Given.{Given}
 
 -- the bytes of the pieces of a file, in their order
 abbrev pub Pieces : Type 0
@@ -62,3 +66,24 @@ abbrev pub IsRead : {A B : Type 0} → Option A → Option B → Option B → Ty
 IsRead None file bytes = bytes ≡ None
 IsRead (Some name) (Some found) bytes = bytes ≡ Some found
 IsRead (Some name) None bytes = ⊥
+
+-- an outline was worked out to this: no other outline was
+pub record IsWorkedOut (outline : OutlineSource) (expanded : Result Outlined NoFiles) : Type 0 where
+  pub worked : WorkedOut
+  pub of : worked_source worked ≡ outline
+  pub is : expanded ≡ worked_result worked
+
+-- the same of the outline of a command, where it is over one
+abbrev pub IsOutlineOf : Option OutlineSource → Option (Bor (Result Outlined NoFiles)) → Type 0
+IsOutlineOf None None = Unit {0}
+IsOutlineOf (Some outline) (Some expanded) = IsWorkedOut outline expanded.now
+IsOutlineOf _ _ = ⊥
+
+-- these are the files that are given, the outline among them worked out
+pub record AreGiven (given : Given) (files : Files) : Type 0 where
+  pub text : files.text ≡ given.text
+  pub derivation : files.derivation ≡ given.derivation
+  pub proofs : files.proofs ≡ given.proofs
+  pub start : files.start ≡ given.start
+  pub moves : files.moves ≡ given.moves
+  pub outline : IsOutlineOf given.outline files.outline

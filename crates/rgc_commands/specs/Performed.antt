@@ -15,10 +15,14 @@ use Rattle.rgc_line.specs.declared.command.Settings.{Settings}
 use Rattle.rgc_line.specs.declared.line.Line.{Line}
 use Rattle.rgc_commands.specs.Answers.{IsAnswer, AreNotesOf, has_succeeded}
 use Rattle.rgc_commands.specs.Delivered.{IsDelivered, IsCutOff}
+use Rattle.rgc_commands.specs.Of.{AreGiven}
+use Rattle.rgc_commands.specs.Put.{ArePut}
 use Rattle.rgc_commands.specs.Stops.{IsStop, fits}
 use Rattle.rgc_commands.specs.declared.answers.Answer.{Answer}
 use Rattle.rgc_commands.specs.declared.answers.Answer.TheVariants.{Found, Run}
 use Rattle.rgc_commands.specs.declared.files.Files.{Files}
+use Rattle.rgc_commands.specs.declared.given.Given.{Given}
+use Rattle.rgc_commands.specs.declared.sides.Sides.{Sides}
 use Rattle.rgc_commands.specs.declared.stops.Stop.{Stop}
 use Rattle.rgc_commands.specs.declared.stops.Stop.TheVariants.{Device, Refused, Unverified, Fault, Usage}
 
@@ -124,3 +128,12 @@ pub record IsDone (line : Line) (files : Files) (old new : Option (List ℕ)) : 
   pub is : IsAnswer line.settings line.command files answer
   pub has : has_succeeded answer ≡ true
   pub delivered : IsDelivered line.settings.format answer old new
+
+-- what a line has done over the files that it is given, the outline among them worked out once: what is done, what was put beside the output, and what is
+-- reported are of this one expansion
+pub record HasPerformed (status : ℕ) (line : Line) (given : Given) (before after : Sides) (old new : Option (List ℕ)) (failed fails : ℕ) (quiet reported : Option (List ℕ)) (quiet_failed reported_failed : ℕ) : Type 0 where
+  pub files : Files
+  pub are : AreGiven given files
+  pub done : status ≡ 0 → IsDone line files old new
+  pub sides : status ≡ 0 → ArePut line.command files before after
+  pub performed : IsPerformed status line files old new failed fails quiet reported quiet_failed reported_failed

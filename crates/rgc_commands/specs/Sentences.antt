@@ -4,6 +4,7 @@ use Rattle.rg_words.specs.Layout.{Word}
 use Rattle.rg_erase.specs.declared.fault.Fault.{Fault}
 use Rattle.rg_erase.specs.declared.fault.Fault.TheVariants.{NothingLeft, Pre, Rely, Read}
 use Rattle.rg_c_plan.specs.declared.planned.Unplanned.{Unplanned}
+use Rattle.rg_c_plan.specs.declared.planned.Unplanned.TheVariants.{Step, Wait}
 use Rattle.rg_c_report.specs.Words.{name_of}
 
 -- a name is that of no word
@@ -21,9 +22,17 @@ fault_line words (Rely k) =
     codes "error: " ++ (name ++ (codes " can't be erased: the rely says something else of it than its value after a step, once, as `" ++ (name ++ (codes "' = " ++ (name ++ codes "` does\n")))))
 fault_line words (Read line k) = codes "error: line " ++ (decimal line ++ (codes ": " ++ (name_of words k ++ codes " can't be erased: what stays reads it\n")))
 
--- no C does a step at once
-abbrev pub unplanned_line : List Word → Unplanned → List ℕ
-unplanned_line words step =
+-- no C does the step at this line at once, for this word
+abbrev pub step_line : List Word → ℕ → ℕ → List ℕ
+step_line words row k =
     codes "error: line "
-    ++ (decimal step.line
-    ++ (codes ": no C does this step at once: it accesses " ++ (name_of words step.word ++ codes ", which the world outside accesses too, and another shared word\n")))
+    ++ (decimal row ++ (codes ": no C does this step at once: it accesses " ++ (name_of words k ++ codes ", which the world outside accesses too, and another shared word\n")))
+
+-- a part that interrupts another one may wait at this line
+abbrev pub wait_line : ℕ → List ℕ
+wait_line row = codes "error: line " ++ (decimal row ++ codes ": its part interrupts another one, which stands still, so it must not wait: let it ask with `if`\n")
+
+-- why there is no C
+abbrev pub unplanned_line : List Word → Unplanned → List ℕ
+unplanned_line words (Step row k) = step_line words row k
+unplanned_line words (Wait row) = wait_line row

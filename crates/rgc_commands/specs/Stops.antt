@@ -112,12 +112,12 @@ AreFilesRefused (Explain _) files e = ⊥
 
 -- the code of files isn't had, or that of an outline, as settings ask for it
 abbrev pub LacksCodeOfFiles : Settings → Bool → Files → List ℕ → Type 0
-LacksCodeOfFiles s in_c files lines = OfThree files (λ text derivation proofs. LacksCode (IsBuiltInPieces text derivation proofs) s.erase [] in_c lines)
+LacksCodeOfFiles s in_c files lines = OfThree files (λ text derivation proofs. LacksCode (IsBuiltInPieces text derivation proofs) s.erase [] s.priority in_c lines)
 
 abbrev pub LacksCodeOfOutline : Settings → Bool → List ℕ → OutlineFiles → Type 0
-LacksCodeOfOutline s in_c lines outline = LacksCode (IsBuiltOutline outline) s.erase (auxiliary_of s.keeps_aux outline) in_c lines
+LacksCodeOfOutline s in_c lines outline = LacksCode (IsBuiltOutline outline) s.erase (auxiliary_of s.keeps_aux outline) s.priority in_c lines
 
--- these lines report that the outline of a command is refused; or that words have to stay, or that a step has no C, where the command is about code
+-- these lines report that the outline of a command is refused; or that words have to stay, or that there is no C, where the command is about code
 abbrev pub IsFault : Settings → Command → Files → List ℕ → Type 0
 IsFault s (Emit _ _ _) files lines = LacksCodeOfFiles s s.is_c files lines
 IsFault s (Accesses _ _ _) files lines = LacksCodeOfFiles s true files lines
@@ -144,9 +144,9 @@ asks_for_c s = s.is_c || (is_some s.prefix || s.is_traced)
 abbrev pub asks_for_form : Settings → Bool
 asks_for_form s = asks_for_c s || s.is_smt
 
--- a verdict can be followed by how each step is done in C, without words that are erased; no words are erased else
+-- a verdict can be followed by how each step is done in C, without words that are erased; else no words are erased, and no order of parts is given
 abbrev pub fits_verdict : Settings → Bool → Option (Bor (List ℕ)) → Bool
-fits_verdict s is_runs_only text = if s.has_accesses then not is_runs_only && (not (is_some text) && is_plain s.format) else not (is_some s.erase)
+fits_verdict s is_runs_only text = if s.has_accesses then not is_runs_only && (not (is_some text) && is_plain s.format) else (not (is_some s.erase) && not (is_some s.priority))
 
 -- clauses can be printed as the settings ask for, which have no JSON
 abbrev pub fits_clauses : Settings → Bool

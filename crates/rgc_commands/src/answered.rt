@@ -34,14 +34,14 @@ fn asks_for_form(settings: &Settings<'_>) -> bool
     asks_for_c(settings) || settings.is_smt
 }
 
-/// Whether a verdict can be followed by how each step is done in C, where that is asked for; else no words are erased.
+/// Whether a verdict can be followed by how each step is done in C, where that is asked for; else no words are erased, and no order of parts is given.
 fn fits_verdict(settings: &Settings<'_>, is_runs_only: bool, text: Option<&str>) -> bool
     ensures { result ≡ fits_verdict settings.now is_runs_only text.entry }
 {
     if settings.has_accesses {
         !is_runs_only && text.is_none() && is_plain(settings.format)
     } else {
-        settings.erase.is_none()
+        settings.erase.is_none() && settings.priority.is_none()
     }
 }
 
@@ -79,6 +79,9 @@ fn unfit(settings: &Settings<'_>, command: &Command<'_>) -> &'static str {
         Command::Clauses { .. } => "error: --format takes plain or smt2\n",
         Command::Verify { .. } if settings.has_accesses && !settings.is_c => {
             "error: --accesses goes without --runs-only, --text and --format json\n"
+        }
+        Command::Verify { .. } if settings.priority.is_some() => {
+            "error: --priority goes with --accesses\n"
         }
         _ => UNFIT,
     }

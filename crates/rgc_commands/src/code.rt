@@ -6,11 +6,12 @@ ghost use Rattle.rg_tree.specs.ProgramTrees.{program as program_tree};
 ghost use Rattle.rg_accept.specs.Stages.{emitted_program, emitted_blocks};
 ghost use Rattle.rg_apart.specs.Laws.{IsLeftOf, PartsAreApart};
 ghost use Rattle.rgc_commands.specs.Flagged.{flags_for};
-ghost use Rattle.rgc_commands.specs.Code.{AreAmong, coded_program, coded_blocks, is_in_c, IsCodeForm, IsPlan, IsPrinted, IsPrintedAs, shown, title_of};
-ghost use Rattle.rgc_commands.specs.Left.{IsLeftBy, NamesStranger, CantBeErased, HaveToStay, LacksPlan};
+ghost use Rattle.rgc_commands.specs.Code.{AreAmong, coded_program, coded_blocks, is_in_c, IsCodeForm, IsPlan, IsPlanned, IsPrinted, IsPrintedAs, shown, title_of};
+ghost use Rattle.rgc_commands.specs.Left.{IsLeftBy, NamesStranger, CantBeErased, HaveToStay, IsUnplanned, LacksPlan};
 ghost use Rattle.rgc_commands.specs.Inner.Stops.{IsFaultStop, IsFormStop};
 
 use crate::names::{flags_for, stranger};
+use crate::priority::order_for;
 use crate::sentences::{fault_line, push_lost, unknown_line, unplanned_line};
 use crate::stops::Stop;
 use crate::titles::is_title;
@@ -19,7 +20,9 @@ use rg_apart::laws::parts_stand_where_they_stood;
 use rg_apart::search::{Search, find_apart};
 use rg_c::header::{Options, header};
 use rg_c_plan::kind::Kind;
+use rg_c_plan::order::Rank;
 use rg_c_plan::plan::plan;
+use rg_c_plan::planned::Unplanned;
 use rg_c_report::report::report;
 use rg_code::checked::Checked;
 use rg_erase::{Erased, erase};
@@ -75,8 +78,8 @@ pub(crate) fn code_form<'a>(alloc: Global, settings: &Settings<'a>) -> Result<Fo
     ensures stopped { IfErr result IsFormStop }
 {
     if !settings.is_c {
-        if settings.prefix.is_some() || settings.is_traced {
-            return Err(Stop::Usage("error: --name and --trace go with --format c\n"));
+        if settings.prefix.is_some() || settings.is_traced || settings.priority.is_some() {
+            return Err(Stop::Usage("error: --name, --trace and --priority go with --format c\n"));
         }
         return Ok(Form::Listing);
     }
@@ -200,14 +203,14 @@ pub(crate) fn left_with<P: Watcher + Copy>(
     left_of(alloc, emitted, &flags, search, notes)
 }
 
-/// A kind for each word of a program of which no parts are apart.
-fn plain_kinds(alloc: Global, program: &Program) -> Result<Vec<Kind>, Stop>
-    ensures kinds { IfOk result (λ kinds. IsPlan kinds.items [] (program_tree program.now)) }
-    ensures stopped { IfErr result (IsFaultStop (LacksPlan (program_tree program.now))) }
+/// A kind for each word of a program whose parts interrupt each other so, and of which no parts are apart.
+fn plain_kinds(alloc: Global, program: &Program, order: &[Option<Rank>]) -> Result<Vec<Kind>, Stop>
+    ensures kinds { IfOk result (λ kinds. IsPlan kinds.items order.now [] (program_tree program.now)) }
+    ensures stopped { IfErr result (IsFaultStop (IsUnplanned order.now (program_tree program.now))) }
 {
-    match plan(alloc, program, &[])? {
+    match plan(alloc, program, order, &[])? {
         Ok(plan) => Ok(plan.kinds),
-        Err(step) => Err(Stop::Fault(unplanned_line(alloc, &program.layout, step)?)),
+        Err(why) => Err(Stop::Fault(unplanned_line(alloc, &program.layout, why)?)),
     }
 }
 
@@ -223,62 +226,96 @@ fn clear(flags: &mut [bool], word: usize) -> bool
     was
 }
 
-/// A kind for each word of a program whose parts are apart at these: the flag of a word at which a step isn't done at once is cleared, and where no flag is in the
-/// way of a step, all are.
-fn kinds_of(alloc: Global, program: &Program, apart: &[bool]) -> Result<Vec<Kind>, Stop>
-    ensures kinds { IfOk result (λ kinds. (some : List Bool) × AreAmong some apart.now × IsPlan kinds.items some (program_tree program.now)) }
-    ensures stopped { IfErr result (IsFaultStop (LacksPlan (program_tree program.now))) }
+/// Clears the flag of the word for which a step isn't done at once, and answers whether it was set.
+fn clear_for(flags: &mut [bool], why: Unplanned) -> bool
+    ensures { (those : List Bool) → AreAmong flags.old those → AreAmong flags.new those }
+{
+    match why {
+        Unplanned::Step(_, word) => clear(flags, word),
+        Unplanned::Wait(_) => false,
+    }
+}
+
+/// A kind for each word of a program whose parts interrupt each other so, and are apart at these: the flag of a word at which a step isn't done at once is cleared, and
+/// where no flag is in the way of a step, all are.
+fn kinds_of(
+    alloc: Global,
+    program: &Program,
+    order: &[Option<Rank>],
+    apart: &[bool],
+) -> Result<Vec<Kind>, Stop>
+    ensures kinds { IfOk result (λ kinds. (some : List Bool) × AreAmong some apart.now × IsPlan kinds.items order.now some (program_tree program.now)) }
+    ensures stopped { IfErr result (IsFaultStop (IsUnplanned order.now (program_tree program.now))) }
 {
     let mut some = Vec::from_slice(alloc, apart)?;
     for _ in 0..apart.len() {
-        match plan(alloc, program, &some)? {
+        match plan(alloc, program, order, &some)? {
             Ok(plan) => return Ok(plan.kinds),
-            Err(step) => {
-                if !clear(&mut some, step.word) {
-                    return plain_kinds(alloc, program);
+            Err(why) => {
+                if !clear_for(&mut some, why) {
+                    return plain_kinds(alloc, program, order);
                 }
             }
         }
     }
-    plain_kinds(alloc, program)
+    plain_kinds(alloc, program, order)
 }
 
-/// The text of a checked program, whose parts are apart at these words, in a form.
+/// The rank of each part of a program, as a text says, if there is one, and a kind for each word.
+fn planned(
+    alloc: Global,
+    program: &Program,
+    priority: Option<&str>,
+    apart: &[bool],
+) -> Result<(Vec<Option<Rank>>, Vec<Kind>), Stop>
+    ensures planned { IfOk result (λ r. (some : List Bool) × AreAmong some apart.now × IsPlanned priority.entry r.0.items r.1.items some (program_tree program.now)) }
+    ensures stopped { IfErr result (IsFaultStop (LacksPlan priority.entry (program_tree program.now))) }
+{
+    let order = order_for(alloc, program, priority)?;
+    let kinds = kinds_of(alloc, program, &order, apart)?;
+    Ok((order, kinds))
+}
+
+/// The text of a checked program, whose parts interrupt each other as a text says and are apart at these words, in a form, with these lines for those of its text.
 fn form_text<E: Checked>(
     alloc: Global,
     left: &E,
+    priority: Option<&str>,
     apart: &[bool],
+    lines: &[u64],
     form: Form<'_>,
 ) -> Result<String, Stop>
-    ensures printed { IfOk result (λ text. (some : List Bool) × AreAmong some apart.now × IsPrintedAs (shown form.entry) some (program_tree (E.program_of left.now)) (E.code_of left.now) (string_bytes text)) }
-    ensures stopped { IfErr result (IsFaultStop (λ lines. (is_in_c (shown form.entry) ≡ true) × LacksPlan (program_tree (E.program_of left.now)) lines)) }
+    ensures printed { IfOk result (λ text. (some : List Bool) × AreAmong some apart.now × IsPrintedAs (shown form.entry) priority.entry lines.now some (program_tree (E.program_of left.now)) (E.code_of left.now) (string_bytes text)) }
+    ensures stopped { IfErr result (IsFaultStop (λ lines. (is_in_c (shown form.entry) ≡ true) × LacksPlan priority.entry (program_tree (E.program_of left.now)) lines)) }
 {
     let program = left.program();
     match form {
         Form::Listing => Ok(listing_text(alloc, left.code())?),
         Form::C(options) => {
-            let kinds = kinds_of(alloc, program, apart)?;
-            Ok(header(alloc, program, &kinds, &options)?)
+            let (order, kinds) = planned(alloc, program, priority, apart)?;
+            Ok(header(alloc, program, &order, &kinds, lines, &options)?)
         }
         Form::Accesses => {
-            let kinds = kinds_of(alloc, program, apart)?;
-            Ok(report(alloc, program, &kinds)?)
+            let (order, kinds) = planned(alloc, program, priority, apart)?;
+            Ok(report(alloc, program, &order, &kinds, lines)?)
         }
     }
 }
 
-/// The text of code, whose parts are apart at these words, in a form.
+/// The text of code, whose parts interrupt each other as a text says and are apart at these words, in a form, with these lines for those of its text.
 pub(crate) fn code_text(
     alloc: Global,
     code: &Coded,
+    priority: Option<&str>,
     apart: &[bool],
+    lines: &[u64],
     form: Form<'_>,
 ) -> Result<String, Stop>
-    ensures printed { IfOk result (λ text. (some : List Bool) × AreAmong some apart.now × IsPrinted (shown form.entry) some code.now (string_bytes text)) }
-    ensures stopped { IfErr result (IsFaultStop (λ lines. (is_in_c (shown form.entry) ≡ true) × LacksPlan (coded_program code.now) lines)) }
+    ensures printed { IfOk result (λ text. (some : List Bool) × AreAmong some apart.now × IsPrinted (shown form.entry) priority.entry lines.now some code.now (string_bytes text)) }
+    ensures stopped { IfErr result (IsFaultStop (λ lines. (is_in_c (shown form.entry) ≡ true) × LacksPlan priority.entry (coded_program code.now) lines)) }
 {
     match code {
-        Coded::Whole(emitted) => form_text(alloc, emitted, apart, form),
-        Coded::Left(erased) => form_text(alloc, erased, apart, form),
+        Coded::Whole(emitted) => form_text(alloc, emitted, priority, apart, lines, form),
+        Coded::Left(erased) => form_text(alloc, erased, priority, apart, lines, form),
     }
 }

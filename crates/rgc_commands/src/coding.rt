@@ -5,7 +5,7 @@ ghost use Rattle.std.specs.Borrow.{Bor};
 ghost use Rattle.rgc_line.specs.declared.command.Command.TheVariants.{Emit, EmitOutline, Accesses, AccessesOutline, Run as the_run, RunOutline};
 ghost use Rattle.rgc_outlines.specs.Proved.{IsProvedOf};
 ghost use Rattle.rg_apart.specs.Laws.{PartsAreApart};
-ghost use Rattle.rgc_commands.specs.Answers.{auxiliary_of, HasCode, IsAnswer, IsLeftOfFiles, IsLeftOfOutline, NoneAreApart};
+ghost use Rattle.rgc_commands.specs.Answers.{AsInFiles, AsInOutline, auxiliary_of, HasCode, IsAnswer, IsLeftOfFiles, IsLeftOfOutline};
 ghost use Rattle.rgc_commands.specs.Code.{coded_program, coded_blocks, is_in_c, shown};
 ghost use Rattle.rgc_commands.specs.Inner.Stops.{IsFilesStop, IsOutlineStop, IsProofStop};
 ghost use Rattle.rgc_commands.specs.Of.{OfOutline, OfThree};
@@ -24,7 +24,7 @@ use rg_watch::{Unwatched, Watcher};
 use rgc::{InThreads, build_in_pieces};
 use rgc_answers::{Context, Run};
 use rgc_line::Settings;
-use rgc_outlines::{Proved, naming_of};
+use rgc_outlines::{Proved, lines_of, naming_of};
 use std::alloc::Global;
 use std::sync::Wait;
 use std::thread::Threads;
@@ -75,7 +75,7 @@ fn search_for<'a, P>(form: Form<'_>, watcher: &'a P) -> Option<Search<'a, P>> {
 }
 
 /// What is left of the code of an outline, without the words that the settings name, and without auxiliary ones unless they stay, with flags of the words at which
-/// its parts are found to be apart; what is lost is noted.
+/// its parts are found to be apart, and the lines that are printed for those of its text; what is lost is noted.
 fn left_of_outline<R: Threads + Wait + Sync, P: Watcher + Copy>(
     context: &Context<'_, R, P>,
     settings: &Settings<'_>,
@@ -83,23 +83,26 @@ fn left_of_outline<R: Threads + Wait + Sync, P: Watcher + Copy>(
     outlined: &Outlined<'_>,
     proved: Proved,
     notes: &mut Vec<u8>,
-) -> Result<(Coded, Vec<bool>), Stop>
+) -> Result<(Coded, Vec<bool>, Vec<u64>), Stop>
     requires { IsProvedOf outlined.now.files proved }
     ensures left { IfOk result (λ r. IsLeftOfOutline settings.now.erase settings.now.keeps_aux outlined.now.files (coded_program r.0) (coded_blocks r.0)) }
     ensures apart { IfOk result (λ r. PartsAreApart (coded_program r.0) r.1.items) }
     ensures stopped { (steps : ℕ) → (in_c : Bool) → IfErr result (IsProofStop outlined.now.files steps (λ lines. LacksCodeOfOutline settings.now in_c lines outlined.now.files)) }
 {
     let emitted = proved.code(context)?;
+    let in_header = matches!(form, Form::C(_));
+    let lines = lines_of(context.alloc, outlined, emitted.program(), in_header)?;
     let auxiliary = auxiliary_of(settings.keeps_aux, outlined);
     let search = search_for(form, context.watcher);
-    left_with(
+    let (code, apart) = left_with(
         context.alloc,
         emitted,
         settings.erase,
         auxiliary,
         search,
         notes,
-    )
+    )?;
+    Ok((code, apart, lines))
 }
 
 /// The text of the code of an outline that is proved, in a form.
@@ -112,11 +115,18 @@ pub(crate) fn proved_text<R: Threads + Wait + Sync, P: Watcher + Copy>(
     notes: &mut Vec<u8>,
 ) -> Result<String, Stop>
     requires { IsProvedOf outlined.now.files proved }
-    ensures text { IfOk result (λ text. HasCode (IsLeftOfOutline settings.now.erase settings.now.keeps_aux outlined.now.files) PartsAreApart (shown form.entry) (string_bytes text)) }
+    ensures text { IfOk result (λ text. HasCode (IsLeftOfOutline settings.now.erase settings.now.keeps_aux outlined.now.files) AsInOutline settings.now.priority (shown form.entry) (string_bytes text)) }
     ensures stopped { (steps : ℕ) → IfErr result (IsProofStop outlined.now.files steps (λ lines. LacksCodeOfOutline settings.now (is_in_c (shown form.entry)) lines outlined.now.files)) }
 {
-    let (code, apart) = left_of_outline(context, settings, form, outlined, proved, notes)?;
-    code_text(context.alloc, &code, &apart, form)
+    let (code, apart, lines) = left_of_outline(context, settings, form, outlined, proved, notes)?;
+    code_text(
+        context.alloc,
+        &code,
+        settings.priority,
+        &apart,
+        &lines,
+        form,
+    )
 }
 
 /// The text of the code of files, in a form.
@@ -127,11 +137,11 @@ fn files_text<R: Threads + Wait + Sync, P>(
     files: &Files<'_>,
     notes: &mut Vec<u8>,
 ) -> Result<String, Stop>
-    ensures text { IfOk result (λ text. OfThree files.now (λ t d p. HasCode (IsLeftOfFiles settings.now.erase t d p) NoneAreApart (shown form.entry) (string_bytes text))) }
+    ensures text { IfOk result (λ text. OfThree files.now (λ t d p. HasCode (IsLeftOfFiles settings.now.erase t d p) AsInFiles settings.now.priority (shown form.entry) (string_bytes text))) }
     ensures stopped { IfErr result (IsFilesStop settings.now (is_in_c (shown form.entry)) files.now) }
 {
     let code = left_of_files(context, settings, files, notes)?;
-    code_text(context.alloc, &code, &[], form)
+    code_text(context.alloc, &code, settings.priority, &[], &[], form)
 }
 
 /// The text of the code of an outline, in a form.
@@ -142,7 +152,7 @@ fn outline_text<R: Threads + Wait + Sync, P: Watcher + Copy + Sync>(
     files: &Files<'_>,
     notes: &mut Vec<u8>,
 ) -> Result<String, Stop>
-    ensures text { IfOk result (λ text. OfOutline files.now (λ o. HasCode (IsLeftOfOutline settings.now.erase settings.now.keeps_aux o) PartsAreApart (shown form.entry) (string_bytes text))) }
+    ensures text { IfOk result (λ text. OfOutline files.now (λ o. HasCode (IsLeftOfOutline settings.now.erase settings.now.keeps_aux o) AsInOutline settings.now.priority (shown form.entry) (string_bytes text))) }
     ensures stopped { IfErr result (IsOutlineStop files.now (LacksCodeOfOutline settings.now (is_in_c (shown form.entry)))) }
 {
     let outlined = outlined_of(context.alloc, files)?;

@@ -7,6 +7,7 @@ use crate::derivation_entries::derivation_entry;
 use crate::proof_entries::proof_entry;
 use crate::run_entries::run_entry;
 use crate::text_entries::text_entry;
+use itoa::Buffer;
 use std::alloc::{AllocError, Global};
 
 /// A refusal: what it means, and what to do.
@@ -42,8 +43,14 @@ pub(crate) fn entry_of(number: u64) -> Option<Entry> {
 pub(crate) fn explanation(alloc: Global, number: u64, entry: Entry) -> Result<String, AllocError>
     ensures { IfOk result (λ text. string_bytes text ≡ explanation_text number entry) }
 {
+    let mut digits = Buffer::new();
     format!(in alloc;
         "refused {} {}: {}\n\n{}\n\nWhat to do: {}\n{}",
-        number, entry.name, entry.when, entry.meaning, entry.remedy, entry.example
+        digits.format(number),
+        entry.name,
+        entry.when,
+        entry.meaning,
+        entry.remedy,
+        entry.example
     )
 }

@@ -2,6 +2,7 @@
 
 use crate::Files;
 use crate::entries::{entry_of, explanation};
+use itoa::Buffer;
 use rg_words::{Place, Refusal, SourceFile};
 use std::alloc::{AllocError, Global};
 
@@ -58,8 +59,9 @@ fn push_line(
     number: u64,
 ) -> Result<(), AllocError> {
     if let Some(line) = line_of(source, number) {
-        let head = format!(in alloc; "{number} | ")?;
-        text.extend_from_slice(head.as_bytes())?;
+        let mut digits = Buffer::new();
+        text.extend_from_slice(digits.format(number).as_bytes())?;
+        text.extend_from_slice(b" | ")?;
         for byte in &line[..line.len().min(MOST_SHOWN)] {
             text.push(shown(*byte))?;
         }

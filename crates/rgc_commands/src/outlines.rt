@@ -1,12 +1,14 @@
 //! The answers of the commands over an outline.
 
-ghost use Rattle.std.specs.Prelude.{◌≡◌, ℕ, List, Option, Some, true, false, is_some, string_bytes, map, IfOk, IfErr, OnOk};
+ghost use Rattle.std.specs.Prelude.{◌≡◌, ◌++◌, ℕ, List, Option, Some, true, false, is_some, string_bytes, map, IfOk, IfErr, OnOk};
 ghost use Rattle.std.specs.Borrow.{Bor};
 ghost use Rattle.rg_accept.specs.Stages.{derived_program, derived_lines};
 ghost use Rattle.rgc_line.specs.declared.command.Command.TheVariants.{Challenge, Outline, Verify};
 ghost use Rattle.rgc_line.specs.declared.command.Settings.{Settings as LineSettings};
 ghost use Rattle.rgc_outlines.specs.Cut.{IsOfPieces};
 ghost use Rattle.rgc_outlines.specs.Proved.{IsProvedOf};
+ghost use Rattle.rgc_outlines.specs.Verdict.{name_text};
+ghost use Rattle.rg_outline_reports.specs.WalkReport.{reported_lines};
 ghost use Rattle.rgc_commands.specs.Answers.{IsAnswer, IsTextOf, HasMore};
 ghost use Rattle.rgc_commands.specs.Of.{files_of, outline_files, IsReportedBy};
 ghost use Rattle.rgc_commands.specs.Put.{AreProofs, ArePut, IsPut};
@@ -19,7 +21,7 @@ use crate::coding::proved_text;
 use crate::files::{Expanded, Files};
 use crate::sides::Sides;
 use crate::stops::Stop;
-use rg_outline_reports::{NoFiles, Outlined};
+use rg_outline_reports::{NoFiles, Outlined, WalkReport};
 use rg_watch::Watcher;
 use rgc::{Derived, Unproved};
 use rgc_answers::Context;
@@ -101,7 +103,7 @@ fn unverified<R, P: Watcher + Copy>(
         push_name(walk.form, &mut report)?;
         show(&mut own, &mut report);
         let walked = walk_report(alloc, outlined, unproved, walk.most, &mut own)?;
-        report.extend_from_slice(&walked.reported)?;
+        report.extend_from_slice(walked.report.lines())?;
     }
     Ok(report)
 }
@@ -246,6 +248,20 @@ fn verify_conditions<'a, R: Threads + Wait + Sync, P: Watcher + Copy + Sync>(
     }))
 }
 
+/// The lines that report what a walk found, after the outline's name where they begin with it.
+fn walked_text(
+    alloc: Global,
+    form: VerdictForm<'_>,
+    report: &WalkReport,
+) -> Result<Vec<u8>, AllocError>
+    ensures { IfOk result (λ text. text.items ≡ name_text form.entry ++ reported_lines report.now) }
+{
+    let mut text = Vec::new(alloc);
+    push_name(form, &mut text)?;
+    text.extend_from_slice(report.lines())?;
+    Ok(text)
+}
+
 /// What is found of the runs of an outline's program alone. Where none breaks its specification, the warning of one that gets stuck is noted.
 fn walk<'a, R, P: Watcher + Copy>(
     context: &Context<'_, R, P>,
@@ -263,9 +279,8 @@ fn walk<'a, R, P: Watcher + Copy>(
     let mut own = *context.watcher;
     let outlined = verified_outline(alloc, asked, files, sides)?;
     let runs = runs_only(alloc, outlined, asked.steps, &mut own)?;
-    let mut text = Vec::new(alloc);
-    push_name(form_of(settings.format, asked.outlines), &mut text)?;
-    text.extend_from_slice(&runs.reported)?;
+    let form = form_of(settings.format, asked.outlines);
+    let text = walked_text(alloc, form, &runs.report)?;
     if !runs.is_broken {
         notes.extend_from_slice(&runs.warnings)?;
     }
@@ -364,6 +379,7 @@ fn put(outlined: &Outlined<'_>, written: Written<'_>, sides: &mut Sides) -> Resu
     if written.derivation.is_some() {
         let derivation = &outlined.files.derivation;
         sides.derivation.extend_from_slice(derivation)?;
+        sides.cuts.extend_from_slice(&outlined.files.cuts)?;
     }
     if written.map.is_some() {
         sides.map = outlined.map()?;

@@ -4,17 +4,19 @@ ghost use Rattle.std.specs.Prelude.{◌≡◌, ◌≤◌, ◌++◌, [], string_b
 ghost use Rattle.rg_words.specs.Written.{CanCount};
 ghost use Rattle.rgc_answers.specs.Failures.{NoFailure};
 ghost use Rattle.rgc_commands.specs.Delivered.{IsDelivered, IsCutOff};
-ghost use Rattle.rgc_commands.specs.Performed.{IsBelow, IsDone, IsFirst, IsPerformed, IsReported, IsUnverifiedReported, TellsRefusal, Writes, answer_status, refusal_status, reported_line};
+ghost use Rattle.rgc_commands.specs.Performed.{HasPerformed, IsBelow, IsDone, IsFirst, IsPerformed, IsReported, IsUnverifiedReported, TellsRefusal, Writes, answer_status, refusal_status, reported_line};
 ghost use Rattle.rgc_commands.specs.Put.{ArePut};
 ghost use Rattle.rgc_commands.specs.Inner.Reported.{IsPassed};
 
 use crate::answered::answer;
 use crate::answers::{Answer, has_succeeded};
 use crate::explained::explained;
+use crate::given::{Given, files_with};
 use crate::rendered::render;
 use crate::runs::print_ready;
 use crate::sides::Sides;
 use crate::{Files, Stop};
+use rg_outline_reports::{Reading, WorkedOut};
 use rg_watch::Watcher;
 use rg_words::{Out, Refusal, RefusalNumber, write_all};
 use rgc_answers::{Context, reason, refusal_json};
@@ -233,13 +235,8 @@ fn tell<W: Out, F: Out>(
     }
 }
 
-/// Does the command over the bytes of its files in the threads of the context (a run has one for each part besides), and answers the program's
-/// status: 0 done, 1 refused or no proof found, 2 where the words don't fit (a range of conditions that isn't one, no refusal of the number to
-/// explain), 3 where a file can't be read, where the output can't be written, or where memory is refused. A refusal is one line on `faults`,
-/// and what explains it below, where that is asked; why the search of `find` gave up is one line there. Warnings, what is lost where words are erased, and
-/// moves of a run that were passed over are reported there too, and change no status. Each search has a copy of the watcher, which hears of a long one.
-/// What is written beside the output is put into `sides`.
-pub fn perform<R: Threads + Wait + Sync, W: Out, F: Out, P: Watcher + Copy + Sync>(
+/// Does the command over the bytes of its files, the outline among them worked out.
+fn carry_out<R: Threads + Wait + Sync, W: Out, F: Out, P: Watcher + Copy + Sync>(
     context: &Context<'_, R, P>,
     line: &Line<'_>,
     files: &Files<'_>,
@@ -287,4 +284,37 @@ pub fn perform<R: Threads + Wait + Sync, W: Out, F: Out, P: Watcher + Copy + Syn
             tell_refusal(alloc, &line.settings, refusal, &[], faults)
         }
     }
+}
+
+/// Does the command over the bytes of its files in the threads of the context (a run has one for each part besides), and answers the program's
+/// status: 0 done, 1 refused or no proof found, 2 where the words don't fit (a range of conditions that isn't one, no refusal of the number to
+/// explain), 3 where a file can't be read, where the output can't be written, or where memory is refused. A refusal is one line on `faults`,
+/// and what explains it below, where that is asked; why the search of `find` gave up is one line there. Warnings, what is lost where words are erased, and
+/// moves of a run that were passed over are reported there too, and change no status. Each search has a copy of the watcher, which hears of a long one.
+/// What is written beside the output is put into `sides`.
+pub fn perform<R: Threads + Wait + Sync, W: Out, F: Out, P: Watcher + Copy + Sync>(
+    context: &Context<'_, R, P>,
+    line: &Line<'_>,
+    given: &Given<'_>,
+    out: &mut W,
+    faults: &mut F,
+    sides: &mut Sides,
+) -> u8
+    requires out { CanCount (W.failures out.old) }
+    requires faults { CanCount (F.failures faults.old) }
+    ensures status { result ≤ 3 }
+    ensures failures { result ≡ 0 → W.failures out.new ≡ W.failures out.old }
+
+    // All that is said is said of the files that are given, and of one expansion, of just the outline that is given: what went out, what was put beside it,
+    // and what is reported, and why.
+    ensures performed { HasPerformed result line.now given.now sides.old sides.new (W.contents out.old) (W.contents out.new) (W.failures out.old) (W.failures out.new) (F.contents faults.old) (F.contents faults.new) (F.failures faults.old) (F.failures faults.new) }
+{
+    let Some(outline) = given.outline else {
+        let files = files_with(*given, None);
+        return carry_out(context, line, &files, out, faults, sides);
+    };
+    let reading = Reading::of(context.alloc, outline);
+    let worked = WorkedOut::of(context.alloc, &reading);
+    let files = files_with(*given, Some(worked.expanded()));
+    carry_out(context, line, &files, out, faults, sides)
 }

@@ -1,13 +1,15 @@
 //! A run, whose lines go out as its steps are made.
 
-ghost use Rattle.std.specs.Prelude.{◌≡◌, IfOk, IfErr, OnOk};
+ghost use Rattle.std.specs.Prelude.{◌≡◌, ◌++◌, IfOk, IfErr, OnOk};
 ghost use Rattle.std.specs.Io.KnownBytes.{Appends};
+ghost use Rattle.rg_words.specs.Stopped.{IsFailure};
 ghost use Rattle.rg_words.specs.Written.{CanCount};
 ghost use Rattle.rg_tree.specs.ProgramTrees.{program as program_tree};
 ghost use Rattle.rg_code.specs.CodeTrees.{code_blocks};
 ghost use Rattle.rgc_answers.specs.Failures.{NoFailure};
 ghost use Rattle.rgc_answers.specs.Refused.{IsUnbegun, IsRunStopped};
-ghost use Rattle.rgc_answers.specs.Running.{IsRunLeft};
+ghost use Rattle.rgc_answers.specs.Running.{IsRunLeft, why_text};
+ghost use Rattle.rgc_outlines.specs.Reported.{reported_lines};
 ghost use Rattle.rgc_commands.specs.Code.{coded_program, coded_blocks};
 ghost use Rattle.rgc_commands.specs.Delivered.{HasRun};
 ghost use Rattle.rgc_commands.specs.Inner.Wordings.{live_text, rest_text, HasPlayed, IsWording};
@@ -17,7 +19,7 @@ use rg_code::checked::Checked;
 use rg_floor::closed::Closed;
 use rg_tree::program::Program;
 use rg_words::{Out, Refusal, write_all};
-use rgc_answers::{Context, Run, Unread, draw_run, passed_lines, play_run, run_text, why_line};
+use rgc_answers::{Context, Run, Unread, draw_run, passed_lines, play_run, why_line, write_run};
 use rgc_line::Format;
 use rgc_outlines::{Naming, draw_reported, push_reported};
 use std::alloc::{AllocError, Global};
@@ -55,30 +57,44 @@ fn played<'e, R: Threads + Wait + Sync, P, E: Checked, W: Out>(
     }
 }
 
-/// What goes out after the steps of a run.
-fn rest_text(
+/// What goes out of a run in the words of an outline: a line for each step, and why it is over.
+fn named_text(
+    alloc: Global,
+    program: &Program,
+    closed: &Closed<'_>,
+    naming: &Naming,
+) -> Result<Vec<u8>, AllocError>
+    ensures { IfOk result (λ text. text.items ≡ reported_lines naming.now (program_tree program.now) closed.now.history ++ why_text closed.now.why) }
+{
+    let records = closed.records_from(alloc, 1)?;
+    let mut text = Vec::new(alloc);
+    push_reported(&mut text, naming, program, &records)?;
+    text.extend_from_slice(why_line(closed.why()).as_bytes())?;
+    Ok(text)
+}
+
+/// Writes what goes out after the steps of a run.
+fn write_rest<W: Out>(
     alloc: Global,
     program: &Program,
     closed: &Closed<'_>,
     wording: Wording<'_>,
-) -> Result<Vec<u8>, AllocError>
-    ensures { IfOk result (λ text. text.items ≡ rest_text wording.entry (program_tree program.now) closed.now) }
+    out: &mut W,
+) -> Result<(), Refusal>
+    requires { CanCount (W.failures out.old) }
+    ensures printed { OnOk result (Appends (W.contents out.old) (W.contents out.new) (rest_text wording.entry (program_tree program.now) closed.now)) }
+    ensures failures { NoFailure result (W.failures out.old) (W.failures out.new) }
+    ensures stopped { IfErr result (IsFailure (W.failures out.old) (W.failures out.new)) }
 {
-    let why = why_line(closed.why());
     match wording {
-        Wording::Plain => Vec::from_slice(alloc, why.as_bytes()),
-        Wording::Json => {
-            let text = run_text(alloc, program, closed)?;
-            Ok(text.into_bytes())
-        }
+        Wording::Plain => write_all(out, why_line(closed.why()).as_bytes())?,
+        Wording::Json => write_run(alloc, program, closed, out)?,
         Wording::Named(naming) => {
-            let records = closed.records_from(alloc, 1)?;
-            let mut text = Vec::new(alloc);
-            push_reported(&mut text, naming, program, &records)?;
-            text.extend_from_slice(why.as_bytes())?;
-            Ok(text)
+            let text = named_text(alloc, program, closed, naming)?;
+            write_all(out, &text)?;
         }
     }
+    Ok(())
 }
 
 /// The lines that report the moves that were passed over; none where they are among what goes out.
@@ -139,10 +155,9 @@ fn print_run<R: Threads + Wait + Sync, P, E: Checked, W: Out>(
         is_drawn,
     } = how;
     let closed = played(context, checked, run, wording, out)?;
-    let rest = rest_text(context.alloc, checked.program(), &closed, wording)?;
     let passed = passed_of(context.alloc, &closed, wording)?;
     *picture = picture_of(context.alloc, &closed, wording, is_drawn)?;
-    write_all(out, &rest)?;
+    write_rest(context.alloc, checked.program(), &closed, wording, out)?;
     Ok(passed)
 }
 

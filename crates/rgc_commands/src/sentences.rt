@@ -4,8 +4,9 @@ ghost use Rattle.std.specs.Prelude.{◌≡◌, length, string_bytes, IfOk};
 ghost use Rattle.rg_tree.specs.View.{formula};
 ghost use Rattle.rg_tree.specs.Fits.{FormulaFits};
 ghost use Rattle.rg_c_report.specs.Words.{name_of};
-ghost use Rattle.rgc_commands.specs.Sentences.{unknown_line, fault_line, unplanned_line};
+ghost use Rattle.rgc_commands.specs.Sentences.{unknown_line, fault_line, step_line, wait_line, unplanned_line};
 
+use itoa::Buffer;
 use rg_c_plan::planned::Unplanned;
 use rg_erase::{Fault, lost};
 use rg_tree::print::print;
@@ -57,28 +58,54 @@ pub(crate) fn fault_line(alloc: Global, layout: &Layout, fault: Fault) -> Result
                 name, name, name
             )
         }
-        Fault::Read(line, word) => format!(in alloc;
-            "error: line {}: {} can't be erased: what stays reads it\n",
-            line,
-            name_of(layout, word)
-        ),
+        Fault::Read(line, word) => {
+            let mut digits = Buffer::new();
+            format!(in alloc;
+                "error: line {}: {} can't be erased: what stays reads it\n",
+                digits.format(line),
+                name_of(layout, word)
+            )
+        }
     }
 }
 
-/// That no C does a step at once.
+/// That no C does the step at this line at once, for this word.
+fn step_line(alloc: Global, layout: &Layout, line: u32, word: usize) -> Result<Vec<u8>, AllocError>
+    ensures { IfOk result (λ text. text.items ≡ step_line layout.now line word) }
+{
+    let mut digits = Buffer::new();
+    let line = format!(in alloc;
+        "error: line {}: no C does this step at once: it accesses {}, which the world outside accesses too, and another shared word\n",
+        digits.format(line),
+        name_of(layout, word)
+    )?;
+    Ok(line.into_bytes())
+}
+
+/// That a part which interrupts another one may wait at this line.
+fn wait_line(alloc: Global, line: u32) -> Result<Vec<u8>, AllocError>
+    ensures { IfOk result (λ text. text.items ≡ wait_line line) }
+{
+    let mut digits = Buffer::new();
+    let line = format!(in alloc;
+        "error: line {}: its part interrupts another one, which stands still, so it must not wait: let it ask with `if`\n",
+        digits.format(line)
+    )?;
+    Ok(line.into_bytes())
+}
+
+/// Why there is no C.
 pub(crate) fn unplanned_line(
     alloc: Global,
     layout: &Layout,
-    step: Unplanned,
+    why: Unplanned,
 ) -> Result<Vec<u8>, AllocError>
-    ensures { IfOk result (λ line. line.items ≡ unplanned_line layout.now step) }
+    ensures { IfOk result (λ line. line.items ≡ unplanned_line layout.now why) }
 {
-    let line = format!(in alloc;
-        "error: line {}: no C does this step at once: it accesses {}, which the world outside accesses too, and another shared word\n",
-        step.line,
-        name_of(layout, step.word)
-    )?;
-    Ok(line.into_bytes())
+    match why {
+        Unplanned::Step(line, word) => step_line(alloc, layout, line, word),
+        Unplanned::Wait(line) => wait_line(alloc, line),
+    }
 }
 
 /// Whether a formula says nothing.

@@ -13,6 +13,8 @@ pub struct Sides {
     pub text: Vec<u8>,
     /// Its derivation, which may be longer than a file may be.
     pub derivation: Vec<u8>,
+    /// The places of the derivation at which a further piece of it begins.
+    pub cuts: Vec<usize>,
     /// The pieces of the proofs that were found of it.
     pub proofs: Vec<String>,
     /// Which place of the outline each line of its derivation and each condition comes from.
@@ -25,6 +27,7 @@ impl Sides {
         ensures picture { result.picture.items ≡ [] }
         ensures text { result.text.items ≡ [] }
         ensures derivation { result.derivation.items ≡ [] }
+        ensures cuts { result.cuts.items ≡ [] }
         ensures proofs { result.proofs.items ≡ [] }
         ensures map { result.map.items ≡ [] }
     {
@@ -32,6 +35,7 @@ impl Sides {
             picture: Vec::new(alloc),
             text: Vec::new(alloc),
             derivation: Vec::new(alloc),
+            cuts: Vec::new(alloc),
             proofs: Vec::new(alloc),
             map: Vec::new(alloc),
         }

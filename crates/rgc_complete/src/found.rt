@@ -148,7 +148,7 @@ fn unfound_of<R, P: Watcher + Copy>(
     }
     let runs = runs_only(alloc, outlined, Some(MOST_STEPS_OF_RUNS), &mut own)?;
     if runs.is_broken {
-        report.extend_from_slice(&runs.reported)?;
+        report.extend_from_slice(runs.report.lines())?;
     }
     report.extend_from_slice(&unfound_report(alloc, subject, outlined, failure)?)?;
     Ok(Completed::Unfound(report))

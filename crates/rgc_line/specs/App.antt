@@ -90,6 +90,10 @@ prefix = field OptionalText "name"
 abbrev pub trace : Rule
 trace = field Flag "trace"
 
+-- which parts run on one core, and which interrupt which
+abbrev pub priority : Rule
+priority = field OptionalText "priority"
+
 -- whether a verdict is followed by how each step is done in C
 abbrev pub accesses : Rule
 accesses = field Flag "accesses"
@@ -112,14 +116,14 @@ row_of Number = leaf (codes "number") (field File "TEXT" ∷ format ∷ explaine
 row_of Check = leaf (codes "check") (field File "TEXT" ∷ field File "DERIVATION" ∷ field Files "PROOFS" ∷ derivation_files ∷ threads ∷ format ∷ explained ∷ [])
 row_of Conditions = leaf (codes "conditions") (field File "TEXT" ∷ field File "DERIVATION" ∷ field Flag "formulas" ∷ derivation_files ∷ format ∷ explained ∷ [])
 row_of Prove = leaf (codes "prove") (field File "TEXT" ∷ field File "DERIVATION" ∷ field NumberOrMillion "steps" ∷ field OptionalText "conditions" ∷ derivation_files ∷ threads ∷ seconds ∷ field RepeatedFile "output" ∷ format ∷ explained ∷ [])
-row_of Emit = leaf (codes "emit") (field OptionalFile "outline" ∷ field Place "TEXT" ∷ field Place "DERIVATION" ∷ field Places "PROOFS" ∷ derivation_files ∷ threads ∷ output ∷ explained ∷ erase ∷ keep_aux ∷ format ∷ prefix ∷ trace ∷ [])
-row_of Accesses = leaf (codes "accesses") (field OptionalFile "outline" ∷ field Place "TEXT" ∷ field Place "DERIVATION" ∷ field Places "PROOFS" ∷ derivation_files ∷ threads ∷ output ∷ explained ∷ erase ∷ keep_aux ∷ [])
+row_of Emit = leaf (codes "emit") (field OptionalFile "outline" ∷ field Place "TEXT" ∷ field Place "DERIVATION" ∷ field Places "PROOFS" ∷ derivation_files ∷ threads ∷ output ∷ explained ∷ erase ∷ keep_aux ∷ format ∷ prefix ∷ trace ∷ priority ∷ [])
+row_of Accesses = leaf (codes "accesses") (field OptionalFile "outline" ∷ field Place "TEXT" ∷ field Place "DERIVATION" ∷ field Places "PROOFS" ∷ derivation_files ∷ threads ∷ output ∷ explained ∷ erase ∷ keep_aux ∷ priority ∷ [])
 row_of Run = leaf (codes "run") (field OptionalFile "start" ∷ field OptionalFile "moves" ∷ field NumberOrMillion "limit" ∷ field OptionalFile "draw" ∷ field OptionalFile "outline" ∷ field Place "TEXT" ∷ field Place "DERIVATION" ∷ field Places "PROOFS" ∷ derivation_files ∷ threads ∷ format ∷ explained ∷ seed ∷ erase ∷ [])
 row_of Valid = leaf (codes "valid") (field File "TEXT" ∷ field File "PROOFS" ∷ threads ∷ explained ∷ [])
 row_of Clauses = leaf (codes "clauses") (field File "TEXT" ∷ derivation_files ∷ condition ∷ output ∷ format ∷ explained ∷ [])
 row_of Find = leaf (codes "find") (field File "TEXT" ∷ derivation_files ∷ condition ∷ field NumberOrMillion "steps" ∷ seconds ∷ output ∷ explained ∷ [])
 row_of Outline = leaf (codes "outline") (field File "OUTLINE" ∷ field OptionalNumber "steps" ∷ field OptionalFile "text" ∷ derivation_files ∷ field RepeatedFile "proofs" ∷ field OptionalFile "map" ∷ threads ∷ seconds ∷ [])
-row_of Verify = leaf (codes "verify") (field Files "OUTLINE" ∷ field OptionalNumber "steps" ∷ field Flag "runs-only" ∷ field OptionalFile "text" ∷ threads ∷ seconds ∷ format ∷ warnings ∷ accesses ∷ complete ∷ [])
+row_of Verify = leaf (codes "verify") (field Files "OUTLINE" ∷ field OptionalNumber "steps" ∷ field Flag "runs-only" ∷ field OptionalFile "text" ∷ threads ∷ seconds ∷ format ∷ warnings ∷ accesses ∷ priority ∷ complete ∷ [])
 row_of Complete = leaf (codes "complete") (field File "OUTLINE" ∷ field OptionalNumber "steps" ∷ field Flag "invariant" ∷ field Flag "in-place" ∷ threads ∷ seconds ∷ format ∷ warnings ∷ [])
 row_of Challenge = leaf (codes "challenge") (field File "OUTLINE" ∷ field Flag "refused" ∷ threads ∷ seconds ∷ format ∷ [])
 row_of Explain = leaf (codes "explain") (field NeededNumber "NUMBER" ∷ [])
@@ -177,5 +181,6 @@ pub record HasSettings (rows : List Row) (settings : Settings) : Type 0 where
   pub smt : AsksForSmt rows settings.is_smt
   pub prefix : HasValue rows prefix.id (optional file settings.prefix)
   pub traced : HasValue rows trace.id (flag settings.is_traced)
+  pub priority : HasValue rows priority.id (optional file settings.priority)
   pub accesses : HasValue rows accesses.id (flag settings.has_accesses)
   pub complete : HasValue rows complete.id (flag settings.is_completed)

@@ -8,8 +8,8 @@ ghost use Rattle.rgc_line.specs.Named.{named};
 ghost use Rattle.rgc_line.specs.declared.fields.FieldFault.TheVariants.{UnknownFormat};
 
 use crate::commands::{
-    COMPLETED, ERASE, EXPLAINED, FORMAT, KEEP_AUX, OUTPUT, PREFIX, SECONDS, SEED, SHOWN_ACCESSES,
-    THREADS, TRACED, WARNINGS,
+    COMPLETED, ERASE, EXPLAINED, FORMAT, KEEP_AUX, OUTPUT, PREFIX, PRIORITY, SECONDS, SEED,
+    SHOWN_ACCESSES, THREADS, TRACED, WARNINGS,
 };
 use crate::fields::{FieldFault, is_given, number_or_none, option};
 use clap::ArgMatches;
@@ -72,6 +72,8 @@ pub struct Settings<'a> {
     pub prefix: Option<&'a str>,
     /// Whether steps are marked in the C.
     pub is_traced: bool,
+    /// Which parts run on one core, and which interrupt which: `isr > main`, with commas between cores.
+    pub priority: Option<&'a str>,
     /// Whether a verdict is followed by how each step is done in C.
     pub has_accesses: bool,
     /// Whether assertions that an outline lacks are searched for first.
@@ -93,6 +95,7 @@ pub const PLAIN: Settings<'static> = Settings {
     is_smt: false,
     prefix: None,
     is_traced: false,
+    priority: None,
     has_accesses: false,
     is_completed: false,
 };
@@ -154,6 +157,7 @@ pub fn settings_of<'a>(matches: &ArgMatches<'a>) -> Result<Settings<'a>, FieldFa
         is_smt: is_smt(matches),
         prefix: option(matches, PREFIX.id),
         is_traced: is_given(matches, TRACED.id),
+        priority: option(matches, PRIORITY.id),
         has_accesses: is_given(matches, SHOWN_ACCESSES.id),
         is_completed: is_given(matches, COMPLETED.id),
     })

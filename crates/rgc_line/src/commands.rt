@@ -156,6 +156,8 @@ pub const PREFIX: Field = field!(OptionalText "name");
 
 pub const TRACED: Field = field!(Flag "trace");
 
+pub const PRIORITY: Field = field!(OptionalText "priority");
+
 pub const SHOWN_ACCESSES: Field = field!(Flag "accesses");
 
 pub const COMPLETED: Field = field!(Flag "complete");
@@ -225,6 +227,7 @@ pub static COMMANDS: [Row; 15] = [
             FORMAT,
             PREFIX,
             TRACED,
+            PRIORITY,
         ],
     },
     Row {
@@ -241,6 +244,7 @@ pub static COMMANDS: [Row; 15] = [
             EXPLAINED,
             ERASE,
             KEEP_AUX,
+            PRIORITY,
         ],
     },
     Row {
@@ -313,6 +317,7 @@ pub static COMMANDS: [Row; 15] = [
             FORMAT,
             WARNINGS,
             SHOWN_ACCESSES,
+            PRIORITY,
             COMPLETED,
         ],
     },

@@ -91,7 +91,7 @@ can't be read or written, or memory is refused. A file named `-` is standard inp
 `rgc help NAME` and `rgc NAME --help` say more of a command.";
 
 /// What is said of a file or an option wherever its command says nothing else.
-static SHARED: [(&str, &str); 18] = [
+static SHARED: [(&str, &str); 19] = [
     (
         "TEXT",
         "the program: its words, its specification and its parts",
@@ -154,6 +154,12 @@ static SHARED: [(&str, &str); 18] = [
     (
         "keep-aux",
         "leave in the words that the outline marks aux; goes with --outline",
+    ),
+    (
+        "priority",
+        "parts of one core, the one that interrupts the others first, as\n\
+         \"isr > main\"; a comma before those of another core. While a part runs\n\
+         that interrupts others they stand still, so its steps need no section",
     ),
     ("text", "write the program's text to the file"),
     (

@@ -3,14 +3,15 @@
 use crate::memory::Memory;
 use crate::replace::{Output, write_outputs};
 use crate::terminal::Terminal;
-use crate::{Means, done_with, is_strict, performed, reported, shown, tell};
-use rg_outline_reports::{OutlineSource, Outlined, read_outline};
+use crate::{Means, done_and_drawn, is_strict, performed, reported, shown, tell};
+use rg_outline_reports::{OutlineSource, Outlined};
 use rg_outline_syntax::own_start;
 use rg_words::{Refusal, RefusalNumber};
-use rgc_commands::{Context, Expanded, Files, Sides};
+use rgc_commands::{Context, Given, Sides};
 use rgc_complete::{Completed, Completion, complete, complete_with_invariant};
 use rgc_line::{Command, Format, Line, Outlines};
 use std::alloc::AllocError;
+use std::fs;
 use std::sync::Wait;
 use std::thread::Threads;
 
@@ -22,6 +23,21 @@ pub fn completes(line: &Line<'_>) -> bool {
     match line.command {
         Command::Complete { .. } => true,
         Command::Verify { is_runs_only, .. } => line.settings.is_completed && !is_runs_only,
+        _ => false,
+    }
+}
+
+/// Whether an outline is to be rewritten that no regular file holds, as what comes through a fifo or from a device: nothing of it is left once it is read.
+pub fn rewrites_no_file(rt: &HostRuntime, line: &Line<'_>) -> bool {
+    match line.command {
+        Command::Complete {
+            outline,
+            is_in_place: true,
+            ..
+        } => match fs::metadata(rt, outline) {
+            Ok(found) => !found.is_file() && !found.is_dir(),
+            Err(_) => false,
+        },
         _ => false,
     }
 }
@@ -111,7 +127,7 @@ fn delivered<R: Threads + Wait + Sync>(
 fn printed<R: Threads + Wait + Sync>(
     means: &Means<'_, '_, '_, R>,
     line: &Line<'_>,
-    files: &Files<'_>,
+    files: &Given<'_>,
     found: &Completion,
 ) -> Result<u8, AllocError> {
     let rt = means.rt;
@@ -136,52 +152,31 @@ fn printed<R: Threads + Wait + Sync>(
 }
 
 /// Does the command over an outline that was found; the status.
-fn done_over_found<'a, R: Threads + Wait + Sync>(
+fn done_again<R: Threads + Wait + Sync>(
     means: &Means<'_, '_, '_, R>,
     line: &Line<'_>,
-    files: Files<'a>,
-    found: &'a Completion,
-    expanded: &'a Expanded<'a>,
+    files: Given<'_>,
+    outline: OutlineSource<'_>,
+    found: &Completion,
 ) -> Result<u8, AllocError> {
+    let outline = OutlineSource {
+        source: &found.source,
+        ..outline
+    };
+    let files = Given {
+        text: Some(own_file(&found.source)),
+        outline: Some(outline),
+        ..files
+    };
     if let Command::Complete { .. } = line.command {
-        let files = Files {
-            outline: Some(expanded),
-            ..files
-        };
         return printed(means, line, &files, found);
     }
-    let status = done_with(means, line, files, expanded)?;
+    let status = done_and_drawn(means, line, &files)?;
     if status == 0 {
         let said = said_of(means.rt, line, found)?;
         return Ok(shown(means.rt, line.settings.format, &said, status));
     }
     Ok(status)
-}
-
-/// Works out an outline that was found, and does the command over it; the status.
-fn done_again<R: Threads + Wait + Sync>(
-    means: &Means<'_, '_, '_, R>,
-    line: &Line<'_>,
-    files: Files<'_>,
-    outline: OutlineSource<'_>,
-    found: &Completion,
-) -> Result<u8, AllocError> {
-    let alloc = means.rt.alloc();
-    let outline = OutlineSource {
-        source: &found.source,
-        ..outline
-    };
-    let files = Files {
-        text: Some(own_file(&found.source)),
-        ..files
-    };
-    match read_outline(alloc, outline) {
-        Ok(read) => {
-            let expanded = Outlined::of(alloc, outline, &read);
-            done_over_found(means, line, files, found, &expanded)
-        }
-        Err(none) => done_over_found(means, line, files, found, &Err(none)),
-    }
 }
 
 /// Reports a refusal; the status.
@@ -221,7 +216,7 @@ fn searched<R: Threads + Wait + Sync>(
 pub fn done_completed<R: Threads + Wait + Sync>(
     means: &Means<'_, '_, '_, R>,
     line: &Line<'_>,
-    files: Files<'_>,
+    files: Given<'_>,
     outlined: &Outlined<'_>,
 ) -> Result<Option<u8>, AllocError> {
     match searched(means, line, outlined) {

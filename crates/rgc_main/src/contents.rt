@@ -4,7 +4,7 @@ use crate::pieces::PieceNames;
 use crate::{outline_format, reported};
 use rg_outline_reports::unread_line;
 use rg_words::limits::{MOST_PROOF_BYTES, MOST_TEXT_BYTES};
-use rgc_commands::Files;
+use rgc_commands::Given;
 use rgc_line::{Format, Named};
 use std::alloc::{AllocError, Global};
 use std::fs::File;
@@ -175,7 +175,7 @@ impl Contents {
         &'a self,
         derivation: &'a [&'a [u8]],
         proofs: &'a [&'a [u8]],
-    ) -> Files<'a> {
+    ) -> Given<'a> {
         let mut of_derivation = None;
         if self.derivation.is_some() {
             of_derivation = Some(derivation);
@@ -184,7 +184,7 @@ impl Contents {
         if self.proofs.is_some() {
             of_proofs = Some(proofs);
         }
-        Files {
+        Given {
             text: self.text.as_ref().map(|bytes| bytes.as_slice()),
             derivation: of_derivation,
             proofs: of_proofs,

@@ -21,7 +21,7 @@ ghost use Rattle.std.specs.Prelude.{◌≡◌};
 ghost use Rattle.rg_words.specs.Written.{CanCount};
 
 use clap::error::ErrorKind;
-use completed::{completes, done_completed, verifying};
+use completed::{completes, done_completed, rewrites_no_file, verifying};
 use contents::{Contents, lent, reads_input_twice};
 use largest::{Kind, largest_told};
 use memory::Memory;
@@ -33,7 +33,7 @@ use rg_outline_reports::{
     Format as OutlineFormat, Input, Inputs, NoFiles, OutlineSource, Outlined, read_outline,
 };
 use rg_words::{Buffered, Device, Out, write_all};
-use rgc_commands::{Context, Expanded, Files, Sides, perform};
+use rgc_commands::{Context, Given, Sides, perform};
 use rgc_line::{Command, Format, Line, LineFault, PLAIN};
 use screen::Screen;
 use sides::{add_pieces, can_hold, write_sides};
@@ -175,7 +175,7 @@ fn way_of(rt: &HostRuntime, line: &Line<'_>) -> Way {
 fn performed<R: Threads + Wait + Sync, W: Out, F: Out>(
     means: &Means<'_, '_, '_, R>,
     line: &Line<'_>,
-    files: &Files<'_>,
+    files: &Given<'_>,
     out: &mut W,
     faults: &mut F,
     sides: &mut Sides,
@@ -199,7 +199,7 @@ fn performed<R: Threads + Wait + Sync, W: Out, F: Out>(
 fn buffered<R: Threads + Wait + Sync>(
     means: &Means<'_, '_, '_, R>,
     line: &Line<'_>,
-    files: &Files<'_>,
+    files: &Given<'_>,
     sides: &mut Sides,
 ) -> Result<u8, AllocError> {
     let rt = means.rt;
@@ -227,12 +227,11 @@ pub(crate) fn reported(rt: &HostRuntime, bytes: &[u8]) {
     let _ = write_all(&mut faults, bytes);
 }
 
-/// Writes what a command has printed to where it goes; the status. What `prove` tells of conditions without a proof goes to standard error
-/// too, or there alone where the output is a file's; the answer of `find` goes to standard output alone.
+/// Writes what a command has printed; the status. What `prove` reports of conditions goes to standard error too, or there alone where there is a file.
 fn written<R: Threads + Wait + Sync>(
     means: &Means<'_, '_, '_, R>,
     line: &Line<'_>,
-    files: &Files<'_>,
+    files: &Given<'_>,
     bytes: &[u8],
     status: u8,
 ) -> Result<u8, AllocError> {
@@ -274,7 +273,7 @@ fn written<R: Threads + Wait + Sync>(
 fn condition_names<R: Threads + Wait + Sync>(
     means: &Means<'_, '_, '_, R>,
     line: &Line<'_>,
-    files: &Files<'_>,
+    files: &Given<'_>,
 ) -> Result<Vec<u8>, AllocError> {
     let alloc = means.rt.alloc();
     let mut names = Memory::new(alloc);
@@ -303,7 +302,7 @@ fn condition_names<R: Threads + Wait + Sync>(
 fn write_proofs<R: Threads + Wait + Sync>(
     means: &Means<'_, '_, '_, R>,
     line: &Line<'_>,
-    files: &Files<'_>,
+    files: &Given<'_>,
     proofs: &[u8],
 ) -> Result<u8, AllocError> {
     let rt = means.rt;
@@ -322,7 +321,7 @@ fn write_proofs<R: Threads + Wait + Sync>(
 fn whole<R: Threads + Wait + Sync>(
     means: &Means<'_, '_, '_, R>,
     line: &Line<'_>,
-    files: &Files<'_>,
+    files: &Given<'_>,
     sides: &mut Sides,
 ) -> Result<u8, AllocError> {
     let rt = means.rt;
@@ -344,7 +343,7 @@ fn whole<R: Threads + Wait + Sync>(
 fn done<R: Threads + Wait + Sync>(
     means: &Means<'_, '_, '_, R>,
     line: &Line<'_>,
-    files: &Files<'_>,
+    files: &Given<'_>,
     sides: &mut Sides,
 ) -> Result<u8, AllocError> {
     match way_of(means.rt, line) {
@@ -362,14 +361,14 @@ fn done<R: Threads + Wait + Sync>(
 fn done_and_drawn<R: Threads + Wait + Sync>(
     means: &Means<'_, '_, '_, R>,
     line: &Line<'_>,
-    files: &Files<'_>,
+    files: &Given<'_>,
 ) -> Result<u8, AllocError> {
     let mut sides = Sides::new(means.rt.alloc());
     let status = done(means, line, files, &mut sides)?;
     if status != 0 {
         return Ok(status);
     }
-    write_sides(means, &line.command, files, &sides)
+    write_sides(means, &line.command, files.outline, &sides)
 }
 
 /// Files with fewer bytes together are checked in about the time that threads take to start.
@@ -390,13 +389,13 @@ fn size_of_pieces(file: Option<&[&[u8]]>) -> usize {
 }
 
 /// Whether a text, a derivation and proofs are small together.
-fn are_small(files: &Files<'_>) -> bool {
+fn are_small(files: &Given<'_>) -> bool {
     let size = size_of(files.text).saturating_add(size_of_pieces(files.derivation));
     size.saturating_add(size_of_pieces(files.proofs)) < FEW_BYTES
 }
 
 /// How many threads suit so many processors and these files: as many, or one where small files are checked.
-fn suiting(command: &Command<'_>, files: &Files<'_>, processors: usize) -> usize {
+fn suiting(command: &Command<'_>, files: &Given<'_>, processors: usize) -> usize {
     match command {
         Command::Check { .. }
         | Command::Emit { .. }
@@ -412,7 +411,7 @@ fn most_threads<R: Threads>(
     rt: &HostRuntime,
     threads: &R,
     line: &Line<'_>,
-    files: &Files<'_>,
+    files: &Given<'_>,
 ) -> usize {
     match line.settings.threads {
         _ if has_small_stacks(rt) => 1,
@@ -456,11 +455,20 @@ fn format_of(line: &Line<'_>) -> OutlineFormat {
     }
 }
 
-/// Does the command over the outline of this name, with the files that it uses, which is worked out once where it can be read; the status.
+/// What was made of an outline; nothing where it is refused, which `perform` reports.
+pub(crate) fn unless_refused<T>(made: Result<T, NoFiles>) -> Result<Option<T>, AllocError> {
+    match made {
+        Ok(made) => Ok(Some(made)),
+        Err(NoFiles::Reported(_)) => Ok(None),
+        Err(NoFiles::Memory) => Err(AllocError),
+    }
+}
+
+/// Does the command over the outline of this name, with the files that it uses, where it can be read; the status.
 fn done_over<'a, R: Threads + Wait + Sync>(
     means: &Means<'_, '_, '_, R>,
     line: &Line<'_>,
-    files: Files<'a>,
+    files: Given<'a>,
     name: &'a str,
     joined: &'a Option<Joined>,
 ) -> Result<u8, AllocError> {
@@ -469,7 +477,6 @@ fn done_over<'a, R: Threads + Wait + Sync>(
     let Some(joined) = joined else {
         return done_and_drawn(means, &asked, &files);
     };
-    let alloc = means.rt.alloc();
     let outline = OutlineSource {
         name,
         source: &joined.text,
@@ -477,35 +484,38 @@ fn done_over<'a, R: Threads + Wait + Sync>(
         format: format_of(line),
         has_warnings: line.settings.warnings != Some(NO_WARNINGS),
     };
-    match read_outline(alloc, outline) {
-        Ok(read) => {
-            let expanded = Outlined::of(alloc, outline, &read);
-            if let (true, Ok(outlined)) = (completes(line), &expanded)
-                && let Some(status) = done_completed(means, line, files, outlined)?
-            {
-                return Ok(status);
-            }
-            done_with(means, &asked, files, &expanded)
-        }
-        Err(none) => done_with(means, &asked, files, &Err(none)),
+    let files = Given {
+        outline: Some(outline),
+        ..files
+    };
+    match done_otherwise(means, line, files, outline)? {
+        Some(status) => Ok(status),
+        None => done_and_drawn(means, &asked, &files),
     }
 }
 
-/// Does the command over an outline that was worked out to this; the status.
-fn done_with<'a, R: Threads + Wait + Sync>(
+/// Does a run, whose start and moves are in the outline's words, or completes the outline; the status. Nothing for others, or where the outline is refused.
+fn done_otherwise<R: Threads + Wait + Sync>(
     means: &Means<'_, '_, '_, R>,
     line: &Line<'_>,
-    files: Files<'a>,
-    expanded: &'a Expanded<'a>,
-) -> Result<u8, AllocError> {
-    let files = Files {
-        outline: Some(expanded),
-        ..files
-    };
-    match (line.command, expanded) {
-        (Command::RunOutline { .. }, Ok(outlined)) => run_over(means, line, &files, outlined),
-        _ => done_and_drawn(means, line, &files),
+    files: Given<'_>,
+    outline: OutlineSource<'_>,
+) -> Result<Option<u8>, AllocError> {
+    let is_run = matches!(line.command, Command::RunOutline { .. });
+    if !is_run && !completes(line) {
+        return Ok(None);
     }
+    let alloc = means.rt.alloc();
+    let Some(read) = unless_refused(read_outline(alloc, outline))? else {
+        return Ok(None);
+    };
+    let Some(outlined) = unless_refused(Outlined::of(alloc, outline, &read))? else {
+        return Ok(None);
+    };
+    if is_run {
+        return Ok(Some(run_over(means, line, &files, &outlined)?));
+    }
+    done_completed(means, line, files, &outlined)
 }
 
 /// A file of a run, where it is named and can be read.
@@ -520,7 +530,7 @@ fn input_of<'a>(name: Option<&'a str>, source: Option<&'a [u8]>) -> Option<Input
 fn run_over<R: Threads + Wait + Sync>(
     means: &Means<'_, '_, '_, R>,
     line: &Line<'_>,
-    files: &Files<'_>,
+    files: &Given<'_>,
     outlined: &Outlined<'_>,
 ) -> Result<u8, AllocError> {
     let named = line.command.named();
@@ -538,17 +548,16 @@ fn run_over<R: Threads + Wait + Sync>(
 /// What is told of a run whose start isn't in the pre begins so.
 const OUTSIDE_PRE: &[u8] = b"refused 61 ";
 
-/// Runs the program of an outline, from this start and with these moves; the status. Where the start isn't in the pre, it is reported what of that is
-/// false.
+/// Runs the program of an outline, from this start and with these moves; the status. Of a start outside the pre it is reported what of that is false.
 fn run_from<R: Threads + Wait + Sync>(
     means: &Means<'_, '_, '_, R>,
     line: &Line<'_>,
-    files: &Files<'_>,
+    files: &Given<'_>,
     outlined: &Outlined<'_>,
     inputs: &Inputs,
 ) -> Result<u8, AllocError> {
     let rt = means.rt;
-    let files = Files {
+    let files = Given {
         start: inputs.start.as_ref().map(|bytes| bytes.as_slice()),
         moves: inputs.moves.as_ref().map(|bytes| bytes.as_slice()),
         ..*files
@@ -565,7 +574,7 @@ fn run_from<R: Threads + Wait + Sync>(
     if status != 0 {
         return Ok(status);
     }
-    write_sides(means, &line.command, &files, &sides)
+    write_sides(means, &line.command, files.outline, &sides)
 }
 
 /// Whether the line asks to keep the auxiliary words of what is no outline.
@@ -649,6 +658,10 @@ fn run<R: Threads + Wait + Sync>(
         let _ = eprintln!(rt; "error: {words}");
         return Ok(Ended::MISFIT);
     }
+    if rewrites_no_file(rt, line) {
+        let _ = eprintln!(rt; "error: --in-place takes a regular file");
+        return Ok(Ended::MISFIT);
+    }
     if let Some(clash) = clash_of(rt, line, names)? {
         report_clash(rt, clash)?;
         return Ok(Ended::MISFIT);
@@ -668,7 +681,7 @@ fn run_with<R: Threads + Wait + Sync>(
     time: &Time,
     line: &Line<'_>,
     names: &PieceNames<'_>,
-    files: Files<'_>,
+    files: Given<'_>,
 ) -> Result<Ended, AllocError> {
     let joined = joined_of(rt, outline_of(line), files.text)?;
     let used: &[String] = match &joined {
@@ -759,8 +772,7 @@ fn work<R: Threads + Wait + Sync>(rt: &HostRuntime, threads: &R) -> Result<u8, A
     run_words(rt, threads, words.as_slice())
 }
 
-/// Does what the words ask for in a thread with a stack of its own, so that a small limit of the process doesn't matter; or in this one, where no thread
-/// can be had and its stack holds the deepest condition. Where it doesn't, memory is refused.
+/// Does what the words ask for in a thread with a stack of its own; or in this one, if no thread can be had and its stack suffices. Else memory is refused.
 fn work_with_room<R: Threads + Wait + Sync>(
     rt: &HostRuntime,
     threads: &R,

@@ -3,9 +3,11 @@
 use crate::largest::{Kind, largest_told};
 use crate::pieces::cut_at;
 use crate::replace::{Output, write_outputs};
-use crate::{Means, reported};
+use crate::{Means, reported, unless_refused};
+use itoa::Buffer;
+use rg_outline_reports::{OutlineSource, Outlined, read_outline};
 use rg_words::limits::MOST_TEXT_BYTES;
-use rgc_commands::{Files, Sides};
+use rgc_commands::Sides;
 use rgc_line::Command;
 use std::alloc::{AllocError, Global};
 
@@ -13,6 +15,8 @@ use std::alloc::{AllocError, Global};
 pub fn can_hold(rt: &HostRuntime, names: &[&str], pieces: &[&[u8]], option: &str) -> bool {
     let count = pieces.len();
     if count > names.len() {
+        let mut digits = Buffer::new();
+        let count = digits.format(count);
         let _ = eprintln!(rt; "error: one file can't hold this: give --{option} {count} times");
         return false;
     }
@@ -56,18 +60,22 @@ pub fn add_pieces<'a>(
 }
 
 /// Where the derivation of an outline is cut into pieces that files can hold; nowhere where a file can hold it.
-fn cuts_of<'a>(files: &Files<'a>, derivation: &[u8]) -> &'a [usize] {
-    match files.outline {
-        Some(Ok(outlined)) if derivation.len() > MOST_TEXT_BYTES => outlined.files.cuts.as_slice(),
-        _ => &[],
+fn cuts_of(sides: &Sides) -> &[usize] {
+    if sides.derivation.len() > MOST_TEXT_BYTES {
+        sides.cuts.as_slice()
+    } else {
+        &[]
     }
 }
 
-/// The map of an outline that was worked out; nothing where there is none.
-fn map_of(alloc: Global, files: &Files<'_>) -> Result<Vec<u8>, AllocError> {
-    match files.outline {
-        Some(Ok(outlined)) => outlined.map(),
-        _ => Ok(Vec::new(alloc)),
+/// The map of an outline; nothing where it stands for no files.
+fn map_of(alloc: Global, outline: OutlineSource<'_>) -> Result<Vec<u8>, AllocError> {
+    let Some(read) = unless_refused(read_outline(alloc, outline))? else {
+        return Ok(Vec::new(alloc));
+    };
+    match unless_refused(Outlined::of(alloc, outline, &read))? {
+        Some(outlined) => outlined.map(),
+        None => Ok(Vec::new(alloc)),
     }
 }
 
@@ -75,7 +83,7 @@ fn map_of(alloc: Global, files: &Files<'_>) -> Result<Vec<u8>, AllocError> {
 /// bytes.
 fn can_hold_all<R>(
     means: &Means<'_, '_, '_, R>,
-    files: &Files<'_>,
+    outline: OutlineSource<'_>,
     derivation: &[&[u8]],
     proofs: &[&[u8]],
     sides: &Sides,
@@ -87,7 +95,7 @@ fn can_hold_all<R>(
     if holds_derivation && holds_proofs {
         return Ok(true);
     }
-    let map = map_of(alloc, files)?;
+    let map = map_of(alloc, outline)?;
     if !holds_derivation {
         let whole = sides.derivation.as_slice();
         reported(rt, &largest_told(alloc, Kind::Derivation, whole, &map)?);
@@ -106,16 +114,16 @@ fn can_hold_all<R>(
 /// them; the status.
 fn write_outline<R>(
     means: &Means<'_, '_, '_, R>,
-    files: &Files<'_>,
+    outline: OutlineSource<'_>,
     sides: &Sides,
     text: Option<&str>,
     map: Option<&str>,
 ) -> Result<u8, AllocError> {
     let (rt, alloc) = (means.rt, means.rt.alloc());
     let side = sides;
-    let derivation = cut_at(alloc, &side.derivation, cuts_of(files, &side.derivation))?;
+    let derivation = cut_at(alloc, &side.derivation, cuts_of(side))?;
     let proofs = slices_of(alloc, &side.proofs)?;
-    if !can_hold_all(means, files, &derivation, &proofs, sides)? {
+    if !can_hold_all(means, outline, &derivation, &proofs, sides)? {
         return Ok(1);
     }
     let mut outputs = Vec::new(alloc);
@@ -130,7 +138,7 @@ fn write_outline<R>(
 pub fn write_sides<R>(
     means: &Means<'_, '_, '_, R>,
     command: &Command<'_>,
-    files: &Files<'_>,
+    outline: Option<OutlineSource<'_>>,
     sides: &Sides,
 ) -> Result<u8, AllocError> {
     let mut outputs = Vec::new(means.rt.alloc());
@@ -139,7 +147,9 @@ pub fn write_sides<R>(
             add_output(&mut outputs, draw, &sides.picture, "draw")?;
         }
         Command::Outline { text, map, .. } => {
-            return write_outline(means, files, sides, text, map);
+            if let Some(outline) = outline {
+                return write_outline(means, outline, sides, text, map);
+            }
         }
         Command::Verify { text, .. } => {
             add_output(&mut outputs, text, &sides.text, "text")?;

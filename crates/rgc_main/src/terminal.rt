@@ -3,6 +3,7 @@
 use crate::is_coloured;
 use crate::paint::painted;
 use crate::screen::Screen;
+use itoa::Buffer;
 use rg_watch::Watcher;
 use rg_words::{Device, write_all};
 use std::io::IsTerminal;
@@ -114,6 +115,9 @@ impl Watcher for Terminal<'_> {
             self.calls.saturating_add(1)
         };
         if is_looked && self.is_due() {
+            let (mut met, mut kept) = (Buffer::new(), Buffer::new());
+            let conflicts = met.format(conflicts);
+            let learned = kept.format(learned);
             let _ = eprintln!(self.rt; "{conflicts} conflicts, {learned} learned clauses");
         }
         self.goes_on()
@@ -121,6 +125,9 @@ impl Watcher for Terminal<'_> {
 
     fn walked(&mut self, steps: u64, states: usize) -> bool {
         if self.is_due() {
+            let (mut made, mut met) = (Buffer::new(), Buffer::new());
+            let steps = made.format(steps);
+            let states = met.format(states);
             let _ = eprintln!(self.rt; "{steps} steps of runs, {states} states");
         }
         self.goes_on()
@@ -128,6 +135,8 @@ impl Watcher for Terminal<'_> {
 
     fn asked(&mut self, questions: usize) -> bool {
         if self.is_due() {
+            let mut digits = Buffer::new();
+            let questions = digits.format(questions);
             let _ = eprintln!(self.rt; "{questions} questions to find assertions");
         }
         self.goes_on()
@@ -150,6 +159,8 @@ impl Watcher for Terminal<'_> {
 /// Reports that the time was over, where it was.
 pub fn report_over(rt: &HostRuntime, time: &Time) {
     if let Some(most) = time.over() {
+        let mut digits = Buffer::new();
+        let most = digits.format(most);
         let _ = eprintln!(rt;
             "the {most} seconds of --seconds are over: what has no answer was given up"
         );

@@ -3,6 +3,7 @@ pub mod Cut
 pub mod Unproved
 pub mod Refuted
 pub mod WalkedRefuted
+pub mod WalkReport
 pub mod Proved
 pub mod Verdict
 pub mod Refused

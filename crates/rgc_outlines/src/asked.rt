@@ -13,6 +13,7 @@ ghost use Rattle.rgc_outlines.specs.Inner.Proved.{HasProofs};
 
 use crate::derive_outline;
 use crate::known::Known;
+use itoa::Buffer;
 use rg_find::{Judged, judge};
 use rg_outline_reports::OutlineFiles;
 use rg_tree::condition::Condition;
@@ -35,6 +36,8 @@ fn push_section(
     if lines.is_empty() {
         return Ok(());
     }
+    let mut digits = Buffer::new();
+    let number = digits.format(number);
     let head = format!(in alloc; "section {number}\n")?;
     let size = head.len().saturating_add(lines.len());
     if let Some(last) = pieces.last_mut() {

@@ -3,7 +3,7 @@
 use crate::answers::{Answer, Answered};
 use rg_outline_challenge::{ChangeGroup, Counts, push_change_alone};
 use rg_outline_reports::{
-    ChangeTold, ChangesTold, OutlineSource, push_json_of_change, push_json_of_changes,
+    ChangeCounts, ChangeEntry, OutlineSource, push_json_of_change, push_json_of_changes,
 };
 use rg_outline_syntax::Span;
 use std::alloc::{AllocError, Global};
@@ -36,7 +36,7 @@ fn push_answered(
 ) -> Result<(), AllocError> {
     let mut change = Vec::new(alloc);
     push_change_alone(alloc, &mut change, outline.source, &answered.change)?;
-    let entry = ChangeTold {
+    let entry = ChangeEntry {
         place: answered.change.place,
         change: &change,
         group: group_word(answered.change.group),
@@ -58,11 +58,11 @@ pub(crate) fn json_lines_of(
     for answered in answers {
         push_answered(alloc, &mut lines, outline, answered)?;
     }
-    let entry = ChangesTold {
+    let counts = ChangeCounts {
         surviving: counts.surviving as u64,
         breaking: counts.breaking as u64,
         undecided: counts.undecided as u64,
     };
-    push_json_of_changes(&mut lines, alloc, outline, entry, unspoken)?;
+    push_json_of_changes(&mut lines, alloc, outline, counts, unspoken)?;
     Ok(lines)
 }

@@ -22,7 +22,7 @@ pub use asked::is_proved;
 pub use challenges::{Challenge, Options, challenge_changes};
 pub use claims::confirmed;
 pub use known::Known;
-pub use naming::{Naming, draw_reported, naming_of, push_reported};
+pub use naming::{Naming, draw_reported, lines_of, naming_of, push_reported};
 pub use pieces::{derive_outline, short_derivations_are_accepted, short_derivations_are_built};
 pub use proved::{Counts, Proved, prove_outline, proved_outlines_are_accepted};
 pub use unproved::{unproved_report, walk_report};

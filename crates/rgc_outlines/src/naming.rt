@@ -199,6 +199,31 @@ fn text_lines(
     Ok(lines)
 }
 
+/// The outline's line of each line of its text that has a statement, after a first one for none; 0 for each other line, and, where only written statements are
+/// asked for, for the `skip` of an `else` that isn't there, which else has that of its `if`.
+/// An error comes only where memory is refused.
+pub fn lines_of(
+    alloc: Global,
+    outlined: &Outlined<'_>,
+    program: &Program,
+    only_written: bool,
+) -> Result<Vec<u64>, AllocError> {
+    let Places {
+        mut lines,
+        added,
+        ..
+    } = outlined.places()?;
+    if only_written {
+        for number in &added {
+            if let Some(slot) = lines.get_mut(*number) {
+                *slot = 0;
+            }
+        }
+    }
+    let statements = program.numbered(alloc)?;
+    text_lines(alloc, &statements, &lines)
+}
+
 /// How an outline names the words of its program, and its statements by their lines.
 /// An error comes only where memory is refused.
 pub fn naming_of(
@@ -206,7 +231,7 @@ pub fn naming_of(
     outlined: &Outlined<'_>,
     program: &Program,
 ) -> Result<Naming, AllocError> {
-    let Places { words, lines } = outlined.places()?;
+    let Places { words, lines, .. } = outlined.places()?;
     let statements = program.numbered(alloc)?;
     let lines = text_lines(alloc, &statements, &lines)?;
     Ok(Naming::new(words, lines))

@@ -3,6 +3,7 @@
 ghost use Rattle.std.specs.Prelude.{IsTrue, IfOk, IfErr};
 ghost use Rattle.rg_parse.specs.Programs.{IsProgramRefusal};
 ghost use Rattle.rgc_outlines.specs.WalkedRefuted.{IsRefuted};
+ghost use Rattle.rgc_outlines.specs.WalkReport.{IsReportOf};
 
 use crate::claims::confirmed;
 use crate::walk::{BOUNDS, WalkedRuns, runs_within};
@@ -97,6 +98,8 @@ pub fn walk_report<W: Watcher>(
 ) -> Result<WalkedRuns, Refusal>
     // A run is reported only where the program that the outline's text spells doesn't satisfy its specification.
     ensures broken { IfOk result (λ runs. IsTrue runs.is_broken → IsRefuted outlined.now.files.text.items) }
+    // What is reported is what a walk of this program found.
+    ensures report { IfOk result (λ runs. IsReportOf outlined.now.files.text.items runs.is_broken runs.report) }
     ensures refused { IfErr result (IsProgramRefusal outlined.now.files.text.items) }
 {
     let states = states_of(alloc, unproved)?;

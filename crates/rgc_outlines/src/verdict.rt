@@ -5,6 +5,7 @@ ghost use Rattle.serde_json.specs.View.{view};
 ghost use Rattle.serde_json.specs.Written.{compact_text};
 ghost use Rattle.rgc_outlines.specs.Verdict.{verdict_data, verdict_text, name_text};
 
+use itoa::Buffer;
 use serde_json::{Value, json};
 use std::alloc::{AllocError, Global};
 
@@ -56,12 +57,15 @@ pub fn verdict_line(
 ) -> Result<String, AllocError>
     ensures { IfOk result (λ line. string_bytes line ≡ verdict_text form.entry conditions found) }
 {
+    let (mut all_digits, mut found_digits) = (Buffer::new(), Buffer::new());
+    let all = all_digits.format(conditions);
+    let by_search = found_digits.format(found);
     match form {
         VerdictForm::Alone => format!(in alloc;
-            "verified: {conditions} conditions, {found} by search\n"
+            "verified: {all} conditions, {by_search} by search\n"
         ),
         VerdictForm::Named(name) => format!(in alloc;
-            "{name}: verified: {conditions} conditions, {found} by search\n"
+            "{name}: verified: {all} conditions, {by_search} by search\n"
         ),
         VerdictForm::Json(name) => counts_line(alloc, name, conditions, found),
     }

@@ -4,8 +4,9 @@ ghost use Rattle.std.specs.Prelude.{IsTrue, IfOk, IfErr};
 ghost use Rattle.rg_parse.specs.Programs.{IsProgramRefusal};
 ghost use Rattle.rg_walk.specs.Breaking.{OnBreaks};
 ghost use Rattle.rgc_outlines.specs.WalkedRefuted.{IsRefuted};
+ghost use Rattle.rgc_outlines.specs.WalkReport.{IsReportOf, IsWalkOf};
 
-use rg_outline_reports::{Format, Outlined};
+use rg_outline_reports::{Format, Outlined, WalkReport};
 use rg_parse::program;
 use rg_walk::{Bounds, Walked, walk};
 use rg_watch::Watcher;
@@ -38,7 +39,7 @@ pub struct WalkedRuns {
     /// Whether one of them breaks the specification of the program, or, where parts are looked at, of a part.
     pub is_broken: bool,
     /// It, in the outline's words; or that none was found, and how far was looked: there may be one.
-    pub reported: Vec<u8>,
+    pub report: WalkReport,
     /// The warning of a run that gets stuck, if there is one.
     pub warnings: Vec<u8>,
 }
@@ -58,6 +59,8 @@ pub fn walk_text<W: Watcher>(
 ) -> Result<Walked, Refusal>
     // A run is given only where the text's program doesn't satisfy its specification.
     ensures breaks { IfOk result (λ walked. OnBreaks walked (IsRefuted text.now)) }
+    // It is one of this program, and breaks the specification.
+    ensures walked { IfOk result (IsWalkOf text.now) }
     ensures refused { IfErr result (IsProgramRefusal text.now) }
 {
     let program = match program(alloc, text) {
@@ -75,7 +78,7 @@ fn push_stuck(
     warnings: &mut Vec<u8>,
 ) -> Result<(), AllocError> {
     if let Walked::NotFound(found) = walked
-        && let Some(run) = &found.stuck
+        && let Some(run) = found.stuck()
     {
         let lines = outlined.stuck(run)?;
         if !warnings.is_empty() && outlined.outline.format == Format::Plain {
@@ -131,18 +134,20 @@ pub(crate) fn runs_within<W: Watcher>(
     watcher: &mut W,
 ) -> Result<WalkedRuns, Refusal>
     ensures broken { IfOk result (λ runs. IsTrue runs.is_broken → IsRefuted outlined.now.files.text.items) }
+    ensures report { IfOk result (λ runs. IsReportOf outlined.now.files.text.items runs.is_broken runs.report) }
     ensures refused { IfErr result (IsProgramRefusal outlined.now.files.text.items) }
 {
     let walked = match walk_text(alloc, &outlined.files.text, given, bounds, watcher) {
         Ok(walked) => walked,
         Err(refusal) => return Err(refusal),
     };
-    let reported = outlined.walked(&walked)?;
+    let is_broken = matches!(walked, Walked::Breaks(_));
     let mut warnings = Vec::new(alloc);
     push_stuck(outlined, &walked, &mut warnings)?;
+    let report = WalkReport::of(outlined, walked)?;
     Ok(WalkedRuns {
-        is_broken: matches!(walked, Walked::Breaks(_)),
-        reported,
+        is_broken,
+        report,
         warnings,
     })
 }
@@ -161,6 +166,8 @@ pub fn runs_only<W: Watcher>(
 ) -> Result<WalkedRuns, Refusal>
     // A run is reported only where the program that the outline's text spells doesn't satisfy its specification.
     ensures broken { IfOk result (λ runs. IsTrue runs.is_broken → IsRefuted outlined.now.files.text.items) }
+    // What is reported is what a walk of this program found: a run of it that breaks the specification, or that none was found.
+    ensures report { IfOk result (λ runs. IsReportOf outlined.now.files.text.items runs.is_broken runs.report) }
     ensures refused { IfErr result (IsProgramRefusal outlined.now.files.text.items) }
 {
     let bounds = Bounds {

@@ -1,7 +1,7 @@
 //! Commands with their files, and what they print.
 
 use crate::program::{DERIVATION, PROOFS, TEXT};
-use rgc_commands::Files;
+use rgc_commands::Given;
 use rgc_line::{Chosen, Command};
 
 /// The bytes of the files of a command over texts.
@@ -16,8 +16,8 @@ pub(crate) struct Texts {
 
 impl Texts {
     /// The files that the command takes.
-    pub(crate) fn files(self) -> Files<'static> {
-        Files {
+    pub(crate) fn files(self) -> Given<'static> {
+        Given {
             text: self.text,
             derivation: self.derivation,
             proofs: self.proofs,

@@ -42,7 +42,7 @@ struct Held {
 }
 
 impl Gate for Held {
-    fn before(&self, part: usize, nth: u64) {
+    fn before<R: Wait>(&self, _rt: &R, part: usize, nth: u64) {
         let (own, other, is_held) = if part == 1 {
             (&self.first, &self.second, self.first_is_held)
         } else {

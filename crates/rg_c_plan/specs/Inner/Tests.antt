@@ -7,7 +7,7 @@ use Rattle.rg_c_plan.specs.Apart.{may_be_apart}
 use Rattle.rg_c_plan.specs.Kinds.{crowds}
 use Rattle.rg_c_plan.specs.Ways.{kind_at}
 use Rattle.rg_c_plan.specs.declared.kind.Kind.{Kind}
-use Rattle.rg_c_plan.specs.declared.kind.Kind.TheVariants.{Fixed, Own, Apart, Published, Atomic, Guarded}
+use Rattle.rg_c_plan.specs.declared.kind.Kind.TheVariants.{Fixed, Own, Apart, Published, Sheltered, Atomic, Guarded}
 
 -- some step needs a section for a word
 abbrev pub steps_crowd : List Kind → ℕ → List StepTree → Bool
@@ -19,6 +19,7 @@ is_word_sound p Fixed k = is_fixed p.words k
 is_word_sound p Own k = not (is_fixed p.words k) && not (some_meet (accesses p k))
 is_word_sound p Apart k = not (is_fixed p.words k) && may_be_apart p k
 is_word_sound p Published k = false
+is_word_sound p Sheltered k = false
 is_word_sound p Atomic k = not (is_fixed p.words k)
 is_word_sound p Guarded k = not (is_fixed p.words k) && not (is_touched (world_access k p.words p.spec.rely))
 

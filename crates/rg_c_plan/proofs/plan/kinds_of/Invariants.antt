@@ -6,4 +6,4 @@ use Rattle.rg_c_plan.proofs.plan.kinds_of.Given as goal
 
 -- those so far, and those of the rest
 abbrev pub invariant-loop-word : goal.invariant-loop-word
-invariant-loop-word l = l.kinds.items ++ map (kind_of (program_tree l.program) l.apart) (range_with_len l.word (length l.program.layout - l.word)) ≡ kinds_of (program_tree l.program) l.apart
+invariant-loop-word l = l.kinds.items ++ map (kind_of (program_tree l.program) l.order l.apart) (range_with_len l.word (length l.program.layout - l.word)) ≡ kinds_of (program_tree l.program) l.order l.apart

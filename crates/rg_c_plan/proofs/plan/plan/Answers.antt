@@ -10,6 +10,7 @@ pub returns-clause-sound : goal.returns-clause-sound
 returns-clause-sound c =
     let p = program_tree c.args.program.now in
     let apart = c.args.apart.now in
-    let none : unplanned p apart ≡ None = search rules in
-    let all : c.in_ok-kinds.kinds.items ≡ kinds_of p apart = search rules in
-    subst (λ (kinds : List Kind). IsSound kinds p) (sym all) (chosen_sound p apart none)
+    let order = c.args.order.now in
+    let none : unplanned p order apart ≡ None = search rules in
+    let all : c.in_ok-kinds.kinds.items ≡ kinds_of p order apart = search rules in
+    subst (λ (kinds : List Kind). IsSound kinds order p) (sym all) (chosen_sound p order apart none)

@@ -1,6 +1,6 @@
 use Rattle.std.proofs.lemmas.Result.{err_from_is_err_and, IfOk-weaker, IfErr-weaker}
 use Rattle.rgc_commands.specs.Of.{OfThree}
-use Rattle.rgc_commands.specs.Answers.{HasCode, IsLeftOfFiles, NoneAreApart}
+use Rattle.rgc_commands.specs.Answers.{AsInFiles, HasCode, IsLeftOfFiles}
 use Rattle.std.specs.Prelude.{string_bytes}
 use Rattle.rgc_commands.specs.Code.{is_in_c, shown}
 use Rattle.rgc_commands.specs.Inner.Stops.{IsFilesStop}
@@ -15,8 +15,8 @@ returns-in_err-code-clause-stopped g c =
 
 pub returns-clause-text : goal.returns-clause-text
 returns-clause-text g c =
-    IfOk-weaker c.code_text.result _ (λ text. OfThree c.args.files.now (λ t d p. HasCode (IsLeftOfFiles c.args.settings.now.erase t d p) NoneAreApart (shown c.args.form) (string_bytes text)))
-    (λ text printed. files_code c.args.settings.now.erase c.args.files.now c.in_ok-code.code _ _ c.in_ok-code.ensures.left printed.0 printed.1 printed.2) c.code_text.ensures.printed
+    IfOk-weaker c.code_text.result _ (λ text. OfThree c.args.files.now (λ t d p. HasCode (IsLeftOfFiles c.args.settings.now.erase t d p) AsInFiles c.args.settings.now.priority (shown c.args.form) (string_bytes text)))
+    (λ text printed. files_code c.args.settings.now.erase c.args.settings.now.priority c.args.files.now c.in_ok-code.code _ _ c.in_ok-code.ensures.left printed.0 printed.1 printed.2) c.code_text.ensures.printed
 
 pub returns-clause-stopped : goal.returns-clause-stopped
 returns-clause-stopped g c =

@@ -1,7 +1,6 @@
 use Rattle.std.proofs.lemmas.Result.{err_from_is_err_and, IfOk-weaker, IfErr-weaker}
-use Rattle.rg_apart.specs.Laws.{PartsAreApart}
 use Rattle.rgc_commands.specs.Of.{OfOutline}
-use Rattle.rgc_commands.specs.Answers.{HasCode, IsLeftOfOutline}
+use Rattle.rgc_commands.specs.Answers.{AsInOutline, HasCode, IsLeftOfOutline}
 use Rattle.std.specs.Prelude.{string_bytes}
 use Rattle.rgc_commands.specs.Code.{is_in_c, shown}
 use Rattle.rgc_commands.specs.Inner.Stops.{IsOutlineStop, NoFault}
@@ -25,7 +24,7 @@ returns-in_err-proved-clause-stopped g c =
 
 pub returns-clause-text : goal.returns-clause-text
 returns-clause-text g c =
-    IfOk-weaker c.proved_text.result _ (λ text. OfOutline c.args.files.now (λ o. HasCode (IsLeftOfOutline c.args.settings.now.erase c.args.settings.now.keeps_aux o) PartsAreApart (shown c.args.form) (string_bytes text)))
+    IfOk-weaker c.proved_text.result _ (λ text. OfOutline c.args.files.now (λ o. HasCode (IsLeftOfOutline c.args.settings.now.erase c.args.settings.now.keeps_aux o) AsInOutline c.args.settings.now.priority (shown c.args.form) (string_bytes text)))
     (λ text has. rw c.in_ok-outlined.ensures.files has) c.proved_text.ensures.text
 
 pub returns-clause-stopped : goal.returns-clause-stopped

@@ -1,8 +1,7 @@
 use Rattle.std.proofs.Common.{Bool, List, subst}
 use Rattle.std.specs.Prelude.{string_bytes}
 use Rattle.std.proofs.lemmas.Result.{err_from_is_err_and, IfOk-weaker, IfErr-weaker}
-use Rattle.rg_apart.specs.Laws.{PartsAreApart}
-use Rattle.rgc_commands.specs.Answers.{HasCode, IsLeftOfOutline}
+use Rattle.rgc_commands.specs.Answers.{AsInOutline, HasCode, IsLeftOfOutline}
 use Rattle.rgc_commands.specs.Code.{AreAmong, is_in_c, shown}
 use Rattle.rgc_commands.specs.Inner.Stops.{IsProofStop}
 use Rattle.rgc_commands.specs.Stops.{LacksCodeOfOutline}
@@ -18,13 +17,14 @@ returns-in_err-code-clause-stopped g c = λ steps.
 
 pub returns-clause-text : goal.returns-clause-text
 returns-clause-text g c =
-    IfOk-weaker c.code_text.result _ (λ text. HasCode (IsLeftOfOutline c.args.settings.now.erase c.args.settings.now.keeps_aux c.args.outlined.now.files) PartsAreApart (shown c.args.form) (string_bytes text))
+    IfOk-weaker c.code_text.result _ (λ text. HasCode (IsLeftOfOutline c.args.settings.now.erase c.args.settings.now.keeps_aux c.args.outlined.now.files) AsInOutline c.args.settings.now.priority (shown c.args.form) (string_bytes text))
     (λ text printed. record {
       coded = c.in_ok-code.code;
       left = c.in_ok-code.ensures.left;
       over = coded_over c.in_ok-code.code;
       apart = printed.0;
-      are_apart = apart_at_fewer _ printed.0 c.in_ok-code.apart.items (subst (λ (those : List Bool). AreAmong printed.0 those) c.deref.ensures.value printed.1) c.in_ok-code.ensures.apart;
+      lines = _;
+      are = apart_at_fewer _ printed.0 c.in_ok-code.apart.items (subst (λ (those : List Bool). AreAmong printed.0 those) c.deref.ensures.value printed.1) c.in_ok-code.ensures.apart;
       printed = printed.2;
     }) c.code_text.ensures.printed
 

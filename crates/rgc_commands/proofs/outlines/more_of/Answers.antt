@@ -1,8 +1,7 @@
 use Rattle.std.proofs.Common.{◌≡◌, ℕ, List, true, ap, sym, subst}
 use Rattle.std.specs.Prelude.{string_bytes}
 use Rattle.std.proofs.lemmas.Result.{err_from_is_err_and}
-use Rattle.rg_apart.specs.Laws.{PartsAreApart}
-use Rattle.rgc_commands.specs.Answers.{HasCode, IsLeftOfOutline}
+use Rattle.rgc_commands.specs.Answers.{AsInOutline, HasCode, IsLeftOfOutline}
 use Rattle.rgc_commands.specs.Code.{accesses}
 use Rattle.rgc_commands.specs.Stops.{LacksCodeOfOutline}
 use Rattle.rgc_commands.proofs.Stopping.{proof_stop_more}
@@ -16,4 +15,4 @@ returns-in_err-text-clause-stopped g c = λ steps.
 pub returns-clause-more : goal.returns-clause-more
 returns-clause-more g c =
     let same : c.into_bytes.result.items ≡ string_bytes c.in_ok-text.text = ap (λ v. v.items) c.into_bytes.ensures.value in
-    λ wanted. subst (λ (bytes : List ℕ). HasCode (IsLeftOfOutline c.args.settings.now.erase c.args.settings.now.keeps_aux c.args.outlined.now.files) PartsAreApart accesses bytes) (sym same) c.in_ok-text.ensures.text
+    λ wanted. subst (λ (bytes : List ℕ). HasCode (IsLeftOfOutline c.args.settings.now.erase c.args.settings.now.keeps_aux c.args.outlined.now.files) AsInOutline c.args.settings.now.priority accesses bytes) (sym same) c.in_ok-text.ensures.text

@@ -1,0 +1,2 @@
+pub mod WalkReport
+pub mod WorkedOut

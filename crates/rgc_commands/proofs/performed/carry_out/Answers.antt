@@ -1,0 +1,15 @@
+use Rattle.std.proofs.Common.{◌∙◌, sym}
+use Rattle.rgc_commands.proofs.Telling.{status_zero}
+use Rattle.rgc_commands.proofs.performed.carry_out.Goals as goal
+
+pub returns-in-Ok-deliver-clause-done : goal.returns-in-Ok-deliver-clause-done
+returns-in-Ok-deliver-clause-done g c = λ zero. record {
+  answer = c.in-Ok.answer;
+  fit = c.in-Ok.ensures.fit;
+  is = c.in-Ok.ensures.answer;
+  has = status_zero _ (sym c.answer_status-status.ensures.is ∙ zero);
+  delivered = c.in-Ok-deliver.ensures.delivered;
+}
+
+pub returns-in-Ok-deliver-clause-sides : goal.returns-in-Ok-deliver-clause-sides
+returns-in-Ok-deliver-clause-sides g c = λ zero. c.in-Ok.ensures.put
