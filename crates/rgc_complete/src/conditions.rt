@@ -1,10 +1,11 @@
 //! The conditions of an outline in which nothing is known at the places where no assertion is written, and what each asks of these places.
 
 use crate::elaborated::Tried;
+use crate::reached::Reached;
 use rg_complete::{Filled, Scope, Slot, Slots, fill, slots_of, some_word};
 use rg_outline_reports::{
-    Demand, Format, Member, NoFiles, Obligation, OutlineSource, Outlined, ReadOutline, Spot,
-    read_outline,
+    Demand, Format, Member, NoFiles, Obligation, OutlineSource, Outlined, Places, ReadOutline,
+    Spot, read_outline,
 };
 use rg_outline_syntax::{Span, Texts};
 use rg_tree::condition::Condition;
@@ -41,6 +42,8 @@ pub(crate) struct Base {
     pub(crate) members: Vec<Member>,
     /// The assertion at the end of each part.
     pub(crate) ends: Vec<Stand>,
+    /// The words as the outline has them.
+    pub(crate) words: Vec<Vec<u8>>,
 }
 
 /// An outline without a name, whose faults nobody reads.
@@ -160,6 +163,7 @@ fn base_of(
             None => nears.push(made.origin(span.start))?,
         }
     }
+    let Places { words, .. } = outlined.places()?;
     Ok(Some(Base {
         slots,
         nears,
@@ -168,6 +172,7 @@ fn base_of(
         duties,
         members,
         ends,
+        words,
     }))
 }
 
@@ -230,9 +235,19 @@ impl Base {
         }
     }
 
-    /// Gives each assertion its formulas in place of its round.
-    pub(crate) fn locate(&mut self, alloc: Global, tried: &Tried) -> Result<(), AllocError> {
+    /// Gives each assertion its formulas in place of its round, and those at which parts were seen to be.
+    pub(crate) fn locate(
+        &mut self,
+        alloc: Global,
+        tried: &Tried,
+        reached: &mut [Reached],
+    ) -> Result<(), AllocError> {
         let rounds = self.rounds(alloc)?;
+        for reached in reached.iter_mut() {
+            for (part, stand) in reached.places.iter_mut().enumerate() {
+                *stand = self.located(&rounds, tried, part, *stand);
+            }
+        }
         let mut duties = Vec::new(alloc);
         for duty in &self.duties {
             let part = duty.part;

@@ -3,7 +3,7 @@
 use crate::alive::Bits;
 use crate::conditions::Base;
 use crate::evaluate::{Moment, holds, words_of};
-use rg_complete::{Atoms, Scope, atoms_of, trial_of};
+use rg_complete::{Atom, Atoms, Scope, atoms_of, trial_of};
 use rg_outline_reports::{Before, Leading, Member, ReadOutline, leading_assertions};
 use rg_outline_syntax::{Span, Texts};
 use rg_parse::formula;
@@ -308,24 +308,48 @@ fn instances_of(
     Ok(instances)
 }
 
-/// The formulas that are tried in an outline whose scopes and parts are these.
+/// Adds equations to the formulas of a scope.
+fn add_equations(atoms: &mut Atoms, equations: &Texts) -> Result<(), AllocError> {
+    for place in 0..equations.len() {
+        if atoms.texts.find(equations.at(place)).is_none() {
+            atoms.texts.push(equations.at(place))?;
+            atoms.atoms.push(Atom {
+                is_loose: false,
+                is_premise: false,
+                is_out: false,
+            })?;
+        }
+    }
+    Ok(())
+}
+
+/// The formulas that are tried in an outline whose scopes and parts are these: with equations that hold in all states that were met.
 pub(crate) fn tried_of(
     alloc: Global,
     source: &[u8],
     read: &ReadOutline,
-    layout: &Layout,
     base: &Base,
+    equations: &Texts,
 ) -> Result<Tried, AllocError> {
     let scopes = &base.scopes;
     let mut all = Vec::new(alloc);
     for scope in scopes {
-        all.push(atoms_of(alloc, source, &read.tokens, &read.written, scopes, *scope)?)?;
+        let mut atoms = atoms_of(alloc, source, &read.tokens, &read.written, scopes, *scope)?;
+        add_equations(&mut atoms, equations)?;
+        all.push(atoms)?;
     }
     let said = read_all(alloc, source, read, scopes, &mut all)?;
     let mut instances = instances_of(alloc, &said, &base.members, &all)?;
     for (scope, atoms) in all.iter_mut().enumerate() {
         take_out_same(&instances, scope, atoms);
     }
+    let Some(first) = base.conditions.first() else {
+        return Ok(Tried {
+            families: Vec::new(alloc),
+            instances,
+        });
+    };
+    let layout = &first.layout;
     for instance in instances.iter_mut() {
         if let Some(atoms) = all.get(instance.scope) {
             read_formulas(alloc, layout, atoms, instance)?;

@@ -167,7 +167,7 @@ pub fn complete<R: Threads + Wait + Sync, P: Watcher + Copy + Sync>(
     let alloc = context.alloc;
     let source = outlined.outline.source;
     let unfound = Completed::Unfound(Vec::new(alloc));
-    let Some(subject) = Subject::of(alloc, source, outlined.read)? else {
+    let Some(subject) = Subject::of(alloc, source, outlined.read, *context.watcher)? else {
         return Ok(unfound);
     };
     let Begun { mut search, .. } = subject.begin(alloc, *context.watcher)?;

@@ -62,7 +62,7 @@ fn attempted<P: Watcher + Copy>(
     let Some(read) = unless_refused(read_outline(alloc, outline))? else {
         return Ok(Attempt::Refused);
     };
-    let Some(subject) = Subject::of(alloc, source, &read)? else {
+    let Some(subject) = Subject::of(alloc, source, &read, watcher)? else {
         return Ok(Attempt::Refused);
     };
     let Begun { mut search, .. } = subject.begin(alloc, watcher)?;
@@ -267,7 +267,7 @@ fn strengthened<P: Watcher + Copy>(
     watcher: P,
 ) -> Result<Option<Completion>, Refusal> {
     let source = outlined.outline.source;
-    let Some(subject) = Subject::of(alloc, source, outlined.read)? else {
+    let Some(subject) = Subject::of(alloc, source, outlined.read, watcher)? else {
         return Ok(None);
     };
     let Begun { met, .. } = subject.begin(alloc, watcher)?;

@@ -9,6 +9,7 @@ mod elaborated;
 mod evaluate;
 mod found;
 mod invariant;
+mod linear;
 mod memory;
 mod prints;
 mod reached;

@@ -4,7 +4,7 @@ use crate::alive::{Alive, Bits};
 use crate::conditions::{Base, conditions_of};
 use crate::elaborated::{FamilyAtoms, Tried, tried_of};
 use crate::memory::Memory;
-use crate::reached::refute_reached;
+use crate::reached::{Reached, equations_in, reached_by, refute_reached};
 use crate::search::Search;
 use rg_outline_reports::ReadOutline;
 use rg_watch::Watcher;
@@ -16,6 +16,8 @@ use std::alloc::{AllocError, Global};
 pub(crate) struct Subject {
     pub(crate) base: Base,
     pub(crate) tried: Tried,
+    /// States that the program was seen to reach.
+    pub(crate) reached: Vec<Reached>,
 }
 
 /// A search, and which formulas are true in each state that the program was seen to reach, of each instance.
@@ -36,20 +38,28 @@ pub(crate) fn candidates_of(alloc: Global, family: &FamilyAtoms) -> Result<Alive
 
 impl Subject {
     /// What an outline asks; nothing where it can't be worked out.
-    pub(crate) fn of(
+    pub(crate) fn of<P: Watcher + Copy>(
         alloc: Global,
         source: &[u8],
         read: &ReadOutline,
+        watcher: P,
     ) -> Result<Option<Subject>, Refusal> {
         let Some(mut base) = conditions_of(alloc, source, read)? else {
             return Ok(None);
         };
-        let Some(first) = base.conditions.first() else {
+        if base.conditions.is_empty() {
             return Ok(None);
-        };
-        let tried = tried_of(alloc, source, read, &first.layout, &base)?;
-        base.locate(alloc, &tried)?;
-        Ok(Some(Subject { base, tried }))
+        }
+        let mut own = watcher;
+        let mut reached = reached_by(alloc, &base, &mut own)?;
+        let equations = equations_in(alloc, &base, &reached)?;
+        let tried = tried_of(alloc, source, read, &base, &equations)?;
+        base.locate(alloc, &tried, &mut reached)?;
+        Ok(Some(Subject {
+            base,
+            tried,
+            reached,
+        }))
     }
 
     /// A search in which nothing is refuted yet.
@@ -97,9 +107,8 @@ impl Subject {
         alloc: Global,
         watcher: P,
     ) -> Result<Begun<'_, P>, AllocError> {
-        let mut own = watcher;
         let mut search = self.search(alloc, watcher)?;
-        let met = refute_reached(alloc, self, &mut search.alive, &mut own)?;
+        let met = refute_reached(alloc, self, &mut search.alive)?;
         Ok(Begun { search, met })
     }
 }
