@@ -105,7 +105,7 @@ fn operations_value(alloc: Global, operations: &[Operation]) -> Result<Value, Al
     Ok(Value::Array(texts))
 }
 
-/// Adds an item at the end of a list. It stands apart so that a call that is refused memory drops no value in place, kind by kind.
+/// Adds an item at the end of a list.
 fn put<T: Drop>(items: &mut Vec<T>, item: T) -> Result<(), AllocError>
     ensures { OnOk result (items.new.items ≡ items.old.items ++ item ∷ []) }
 {

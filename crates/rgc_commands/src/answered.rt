@@ -45,7 +45,7 @@ fn fits_verdict(settings: &Settings<'_>, is_runs_only: bool, text: Option<&str>)
     }
 }
 
-/// Whether clauses can be printed as the settings ask for, which have no JSON.
+/// Whether clauses can be printed as the settings ask for: they have no form as JSON.
 fn fits_clauses(settings: &Settings<'_>) -> bool
     ensures { result ≡ fits_clauses settings.now }
 {
@@ -72,7 +72,7 @@ fn fits(settings: &Settings<'_>, command: &Command<'_>) -> bool
     }
 }
 
-/// What is said of a command that can't do what its settings ask for.
+/// The line that reports that a command can't do what its settings ask for.
 fn unfit(settings: &Settings<'_>, command: &Command<'_>) -> &'static str {
     match command {
         Command::Run { .. } => "error: --format takes plain or json\n",
@@ -87,7 +87,7 @@ fn unfit(settings: &Settings<'_>, command: &Command<'_>) -> &'static str {
     }
 }
 
-/// What is said of most of them.
+/// The sentence for all others.
 const UNFIT: &str =
     "error: --erase goes with emit, accesses and a run of TEXT DERIVATION PROOFS, --format c with emit, and --format smt2 with clauses\n";
 

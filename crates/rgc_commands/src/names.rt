@@ -16,7 +16,7 @@ fn is_one(names: &str, name: &str) -> bool
     names.split(',').any(|one| one == name)
 }
 
-/// The first of the names that is no word's.
+/// The first of the names that no word has.
 pub(crate) fn stranger<'a>(layout: &Layout, names: &'a str) -> Option<&'a str>
     ensures { option_map (λ name. name.now) result ≡ stranger layout.now names.now }
 {

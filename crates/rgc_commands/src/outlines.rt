@@ -79,7 +79,7 @@ pub(crate) struct AskedWalk<'a> {
     most: Option<u64>,
 }
 
-/// Has a report printed before a walk, which may take long, and leaves nothing of it then.
+/// Has the watcher print a report before a walk, which may take long; where it does, the report is cleared.
 fn show<W: Watcher>(watcher: &mut W, report: &mut Vec<u8>) {
     if watcher.found(report) {
         report.clear();

@@ -14,7 +14,7 @@ use rg_tree::tree::Formula;
 use rg_words::Layout;
 use std::alloc::{AllocError, Global};
 
-/// A name that is no word's.
+/// The line that reports a name that no word has.
 pub(crate) fn unknown_line(alloc: Global, name: &str) -> Result<Vec<u8>, AllocError>
     ensures { IfOk result (λ line. line.items ≡ unknown_line name.now) }
 {
@@ -69,7 +69,7 @@ pub(crate) fn fault_line(alloc: Global, layout: &Layout, fault: Fault) -> Result
     }
 }
 
-/// That no C does the step at this line at once, for this word.
+/// The line that reports that no C does the step at this line at once, for this word.
 fn step_line(alloc: Global, layout: &Layout, line: u32, word: usize) -> Result<Vec<u8>, AllocError>
     ensures { IfOk result (λ text. text.items ≡ step_line layout.now line word) }
 {
@@ -82,7 +82,7 @@ fn step_line(alloc: Global, layout: &Layout, line: u32, word: usize) -> Result<V
     Ok(line.into_bytes())
 }
 
-/// That a part which interrupts another one may wait at this line.
+/// The line that reports that a part which interrupts another one may wait at this line.
 fn wait_line(alloc: Global, line: u32) -> Result<Vec<u8>, AllocError>
     ensures { IfOk result (λ text. text.items ≡ wait_line line) }
 {

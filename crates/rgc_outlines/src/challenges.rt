@@ -134,10 +134,10 @@ fn answers_in<R: Threads + Wait + Sync, P: Watcher + Copy + Sync>(
 }
 
 /// Changes the program of an outline that is proved in each small way, and asks of each changed program whether the same specification still holds, by the
-/// proofs of the outline and by searches of its own. What is reported are, where it is wanted, the changes that don't survive; then how
+/// proofs of the outline and by searches of its own. The report has, where it is wanted, the changes that don't survive; then how
 /// many changes there are of each kind; then those that survive, with their lines, first those that touch words of the specification.
-/// Where the outline is reported of as JSON, all changes are reported, a line each, and then how many there are of each
-/// kind. The changed programs are asked side by side, in threads; the answers are the same for any count of threads.
+/// As JSON it has all changes, a line each, and then how many there are of each kind.
+/// The changed programs are asked side by side, in threads; the answers are the same for any count of threads.
 ///
 /// # Errors
 ///

@@ -6,13 +6,13 @@ use rg_tree::tree::{Expr, Formula};
 use rg_words::Refusal;
 use std::alloc::{AllocError, Global};
 
-/// An odd number with many bits, by which prints are multiplied.
+/// An odd number with many bits, by which hashes are multiplied.
 const MULTIPLIER: u64 = 0x9E37_79B9_7F4A_7C15;
 
 /// A condition with a proof.
 #[derive(Clone, Copy)]
 struct ProvedCondition<'p> {
-    /// Equal conditions have equal prints. Two others could have equal ones, too, so the lines are checked wherever they are used.
+    /// A hash of the condition. Two conditions may have the same, so the lines are checked wherever they are used.
     print: u64,
     /// The lines of its section.
     lines: &'p [u8],
@@ -24,13 +24,13 @@ pub struct Known<'p> {
     proved: Vec<ProvedCondition<'p>>,
 }
 
-/// A print with a number more.
+/// A hash with one more number.
 fn mixed(print: u64, number: u64) -> u64 {
     let mixed = (print ^ number).wrapping_mul(MULTIPLIER);
     mixed ^ (mixed >> 29)
 }
 
-/// A print with an expression more.
+/// A hash with one more expression.
 #[cycle(prints)]
 fn with_value(print: u64, e: &Expr) -> u64 {
     match e {
@@ -50,7 +50,7 @@ fn with_value(print: u64, e: &Expr) -> u64 {
     }
 }
 
-/// A print with a formula more.
+/// A hash with one more formula.
 #[cycle(prints)]
 fn with_formula(print: u64, f: &Formula) -> u64 {
     match f {
@@ -67,7 +67,7 @@ fn with_formula(print: u64, f: &Formula) -> u64 {
     }
 }
 
-/// A print with assignments more.
+/// A hash with further assignments.
 fn with_assignments(print: u64, assignments: &[Assign]) -> u64 {
     let mut now = mixed(print, assignments.len() as u64);
     for assign in assignments {
@@ -76,7 +76,7 @@ fn with_assignments(print: u64, assignments: &[Assign]) -> u64 {
     now
 }
 
-/// A print with hypotheses more.
+/// A hash with further hypotheses.
 fn with_hypotheses(print: u64, hypotheses: &[Formula]) -> u64 {
     let mut now = mixed(print, hypotheses.len() as u64);
     for hypothesis in hypotheses {
@@ -85,7 +85,7 @@ fn with_hypotheses(print: u64, hypotheses: &[Formula]) -> u64 {
     now
 }
 
-/// The print of a condition over the words of the outline, which no change touches.
+/// The hash of a condition over the words of the outline, which no change touches.
 fn print_of(condition: &Condition) -> u64 {
     let begun = with_hypotheses(0, &condition.hypotheses);
     let second = match &condition.second {
@@ -137,7 +137,7 @@ impl<'p> Known<'p> {
         Ok(Known { proved })
     }
 
-    /// The lines that prove a condition, as far as its print tells; nothing where it isn't known.
+    /// The lines of a condition that has the same hash; nothing where there is none.
     pub(crate) fn lines_of(&self, condition: &Condition) -> Option<&'p [u8]> {
         let print = print_of(condition);
         for one in &self.proved {

@@ -1,4 +1,4 @@
-//! How an outline names what the records of its program's runs speak of, and their lines so.
+//! How an outline names what the records of its program's runs speak of, and the lines of records in these names.
 
 ghost use Rattle.std.specs.Prelude.{◌≡◌, ◌++◌, map, OnOk};
 ghost use Rattle.rg_tree.specs.ProgramTrees.{program as program_tree};

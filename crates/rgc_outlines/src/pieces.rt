@@ -11,9 +11,9 @@ use rg_words::limits::MOST_TEXT_BYTES;
 use rgc::{Derived, derive_program};
 use std::alloc::{AllocError, Global};
 
-/// Bytes that are cut at these places. A place before the one that was cut last cuts off no byte, and so does one after the end.
+/// The pieces into which bytes are cut at these places. A place before the last cut, or past the end, cuts off nothing.
 fn cut<'a>(alloc: Global, bytes: &'a [u8], places: &[usize]) -> Result<Vec<&'a [u8]>, AllocError>
-    // Nothing is left out, and nothing is turned.
+    // One after another they are the bytes.
     ensures { IfOk result (λ v. concat (map (λ piece. piece.now) v.items) ≡ bytes.now) }
 {
     let mut pieces = Vec::new(alloc);

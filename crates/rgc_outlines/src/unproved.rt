@@ -43,7 +43,7 @@ fn failures_of(
     outlined.failures(&failed)
 }
 
-/// What is reported of failures, where all that they say to be false is so over the words of this text.
+/// What is reported of failures, where all that they say to be false is, over the words of this text; else nothing.
 fn lines_if_so(
     alloc: Global,
     text: &[u8],
@@ -83,8 +83,8 @@ fn states_of(alloc: Global, unproved: &[Unproved]) -> Result<Vec<Vec<u64>>, Allo
     Ok(states)
 }
 
-/// What a walk of an outline's text finds that begins at the states, too, at which conditions fail: whether a run breaks the specification of the program or
-/// of one of its parts. (A run that gets stuck is nothing to look at while conditions have no proof.)
+/// What a walk of an outline's text finds, which begins at the states at which conditions fail, too: whether a run breaks the specification of the program
+/// or of one of its parts. (Runs that get stuck aren't looked for while conditions have no proof.)
 ///
 /// # Errors
 ///

@@ -38,7 +38,7 @@ const STEPS_OF_CONDITION: u64 = 5_000;
 pub struct WalkedRuns {
     /// Whether one of them breaks the specification of the program, or, where parts are looked at, of a part.
     pub is_broken: bool,
-    /// It, in the outline's words; or that none was found, and how far was looked: there may be one.
+    /// That run, in the outline's words; or that none was found, and how far the walk went: there may still be one.
     pub report: WalkReport,
     /// The warning of a run that gets stuck, if there is one.
     pub warnings: Vec<u8>,
@@ -100,7 +100,7 @@ fn bounds_for_stuck(conditions: usize, most: Option<u64>) -> Bounds {
 }
 
 /// Follows runs of an outline's program, of which so many conditions were proved, for a short time, with at most so many steps where a command names them;
-/// and adds a warning to those that there are where one gets stuck. Where warnings are off it adds none.
+/// and adds a warning where one gets stuck, unless warnings are off.
 /// An error comes only where memory is refused.
 pub fn push_stuck_warning<W: Watcher>(
     alloc: Global,
