@@ -26,7 +26,7 @@ LISTED = {
         rg_outline_syntax/parser.rt:want_stored rg_outline_terms/scope.rt:want_stored rg_outline_reports/faults.rt:refused
         rg_outline_reports/faults.rt:refused_expansion rg_outline_reports/files.rt:copied rg_outline_reports/input_faults.rt:refused_input
         rg_outline_reports/outlined.rt:map rgc_answers/judged.rt:found_text
-        rgc_main/memory.rt:put rgc_main/pieces.rt:files_at
+        rgc_system/memory.rt:put rgc_program/names.rt:files_at
     """,
     "an error of the allocator is turned into one that says the same": """
         rg_words/refusal.rt:from rg_words/refusal.rt:from rg_shape/shape.rt:from rg_shape/shape.rt:from rg_gates/lib.rt:from rg_gates/lib.rt:from
@@ -42,12 +42,12 @@ LISTED = {
         rg_outline_reports/slots.rt:leading_assertions rgc_outlines/asked.rt:has_proofs rgc_outlines/candidates.rt:unless_refused
         rgc_outlines/claims.rt:is_so rgc_outlines/unproved.rt:lines_if_so rgc_outlines/walk.rt:push_stuck_warning rgc_outlines/warnings.rt:push_found
         rgc_complete/asked.rt:unknown rgc_complete/conditions.rt:unless_refused rgc_complete/elaborated.rt:formula_of
-        rgc_commands/outlines.rt:outlined_in rgc_main/completed.rt:printed rgc_main/completed.rt:refused rgc_main/contents.rt:bytes_of
-        rgc_main/main.rt:whole rgc_main/main.rt:unless_refused rgc_main/main.rt:run_over rgc_main/main.rt:work rgc_main/place.rt:identity_of
-        rgc_main/replace.rt:write_outputs rgc_main/used.rt:follow
+        rgc_commands/outlines.rt:outlined_in rgc_program/completed.rt:print_verdict rgc_program/completed.rt:refused rgc_program/contents.rt:bytes_of
+        rgc_program/call.rt:write_memory rgc_program/outline.rt:unless_refused rgc_program/outline.rt:run_over rgc_program/words.rt:work rgc_system/place.rt:identity_of
+        rgc_system/replace.rt:write_outputs rgc_system/used.rt:follow
     """,
     "a thread can't be had, or has too small a stack, which is refused as memory is": """
-        rg_pool/pieces.rt:begin rg_runner/threads.rt:start_workers rg_runner/threads.rt:start_all rgc_main/main.rt:work_with_room
+        rg_pool/pieces.rt:begin rg_runner/threads.rt:start_workers rg_runner/threads.rt:start_all rgc_program/lib.rt:work_with_room
     """,
 }
 

@@ -1,11 +1,12 @@
 //! What takes the most bytes of a derivation or of proofs that the named files can't hold.
 
+use crate::faults::report;
 use crate::pieces::{SECTION, begins_line};
 use rg_outline_syntax::push_count;
 use std::alloc::{AllocError, Global};
 
-/// How many lines or sections are told.
-const MOST_TOLD: usize = 3;
+/// How many lines or sections are reported.
+const MOST_REPORTED: usize = 3;
 
 /// Which of the two is too long.
 #[derive(Clone, Copy)]
@@ -33,15 +34,15 @@ impl Kind {
         }
     }
 
-    /// What is told before the row that names it.
-    fn told_before(self) -> &'static [u8] {
+    /// What stands between its size and the row that names it.
+    fn after_bytes(self) -> &'static [u8] {
         match self {
             Kind::Derivation => b" bytes: ",
             Kind::Proofs => b" bytes: condition ",
         }
     }
 
-    /// What is told before all.
+    /// What stands before all rows.
     fn title(self) -> &'static [u8] {
         match self {
             Kind::Derivation => b"the largest lines of the derivation:\n",
@@ -51,7 +52,7 @@ impl Kind {
 }
 
 /// Puts a portion among the largest ones, of which the largest stands first.
-fn put_among<'a>(largest: &mut [&'a [u8]; MOST_TOLD], portion: &'a [u8]) {
+fn put_among<'a>(largest: &mut [&'a [u8]; MOST_REPORTED], portion: &'a [u8]) {
     let mut next = portion;
     for slot in largest.iter_mut() {
         let known = *slot;
@@ -62,19 +63,16 @@ fn put_among<'a>(largest: &mut [&'a [u8]; MOST_TOLD], portion: &'a [u8]) {
     }
 }
 
-/// The largest lines or sections, the largest first; nothing in the place of those that there aren't.
-fn largest_in(kind: Kind, bytes: &[u8]) -> [&[u8]; MOST_TOLD] {
-    let none: &[u8] = &[];
-    let mut largest = [none; MOST_TOLD];
+/// Puts the lines or the sections of a piece among the largest ones.
+fn put_all_among<'a>(largest: &mut [&'a [u8]; MOST_REPORTED], kind: Kind, piece: &'a [u8]) {
     let mut start = 0;
-    for place in 0..bytes.len() {
-        if begins_line(bytes, place, kind.head()) {
-            put_among(&mut largest, bytes.get(start..place).unwrap_or(&[]));
+    for place in 0..piece.len() {
+        if begins_line(piece, place, kind.head()) {
+            put_among(largest, piece.get(start..place).unwrap_or(&[]));
             start = place;
         }
     }
-    put_among(&mut largest, bytes.get(start..).unwrap_or(&[]));
-    largest
+    put_among(largest, piece.get(start..).unwrap_or(&[]));
 }
 
 /// The digits at the front.
@@ -116,28 +114,45 @@ fn push_row(
     }
 }
 
-/// The lines that tell the largest lines of a derivation, or sections of proofs: of each its bytes, and the row that names it. The rows are those of the
-/// map of an outline, or of sections the names of the conditions.
+/// Adds a row for each of the largest lines or sections: its bytes, and the row that names it.
+fn push_largest(
+    text: &mut Vec<u8>,
+    alloc: Global,
+    kind: Kind,
+    largest: &[&[u8]],
+    rows: &[u8],
+) -> Result<(), AllocError> {
+    for portion in largest {
+        if let Some(rest) = portion.strip_prefix(kind.head()) {
+            text.extend_from_slice(b"  ")?;
+            push_count(text, portion.len() as u64)?;
+            text.extend_from_slice(kind.after_bytes())?;
+            push_row(text, alloc, kind, number_at_front(rest), rows)?;
+            text.push(b'\n')?;
+        }
+    }
+    Ok(())
+}
+
+/// Reports the largest lines of a derivation, or sections of proofs: of each its bytes, and the row that names it. Each piece has whole ones. The rows are
+/// those of the map of an outline, or of sections the names of the conditions.
 ///
 /// # Errors
 ///
 /// `AllocError` where memory is refused.
-pub fn largest_told(
-    alloc: Global,
+pub fn report_largest(
+    rt: &HostRuntime,
     kind: Kind,
-    bytes: &[u8],
+    pieces: &[&[u8]],
     rows: &[u8],
-) -> Result<Vec<u8>, AllocError> {
-    let mut text = Vec::from_slice(alloc, kind.title())?;
-    let largest = largest_in(kind, bytes);
-    for portion in &largest {
-        if let Some(rest) = portion.strip_prefix(kind.head()) {
-            text.extend_from_slice(b"  ")?;
-            push_count(&mut text, portion.len() as u64)?;
-            text.extend_from_slice(kind.told_before())?;
-            push_row(&mut text, alloc, kind, number_at_front(rest), rows)?;
-            text.push(b'\n')?;
-        }
+) -> Result<(), AllocError> {
+    let none: &[u8] = &[];
+    let mut largest = [none; MOST_REPORTED];
+    for piece in pieces {
+        put_all_among(&mut largest, kind, piece);
     }
-    Ok(text)
+    let mut text = Vec::from_slice(rt.alloc(), kind.title())?;
+    push_largest(&mut text, rt.alloc(), kind, &largest, rows)?;
+    report(rt, &text);
+    Ok(())
 }

@@ -1,8 +1,8 @@
 //! The files that a command writes, each of which is replaced by a whole new one, or written straight where it is no regular file.
 
+use crate::faults::report_failure;
 use crate::place::{are_same, end_of, is_standard_output};
 use crate::screen::Screen;
-use crate::tell;
 use rg_words::write_all;
 use std::alloc::AllocError;
 use std::fs::{File, Metadata, OpenOptions, Permissions};
@@ -18,6 +18,33 @@ pub struct Output<'a> {
     pub name: &'a str,
     pub bytes: &'a [u8],
     pub what: &'a str,
+}
+
+/// Adds a file that may not be named.
+pub fn add_output<'a>(
+    outputs: &mut Vec<Output<'a>>,
+    name: Option<&'a str>,
+    bytes: &'a [u8],
+    what: &'static str,
+) -> Result<(), AllocError> {
+    if let Some(name) = name {
+        outputs.push(Output { name, bytes, what })?;
+    }
+    Ok(())
+}
+
+/// Adds the files that pieces go to; those without a piece are empty.
+pub fn add_pieces<'a>(
+    outputs: &mut Vec<Output<'a>>,
+    names: &[&'a str],
+    pieces: &[&'a [u8]],
+    what: &'static str,
+) -> Result<(), AllocError> {
+    for (index, name) in names.iter().enumerate() {
+        let bytes = pieces.get(index).copied().unwrap_or(&[]);
+        outputs.push(Output { name, bytes, what })?;
+    }
+    Ok(())
 }
 
 /// Where the bytes of an output go.
@@ -261,5 +288,21 @@ pub fn write_outputs(rt: &HostRuntime, outputs: &[Output<'_>]) -> Result<u8, All
         return Err(AllocError);
     }
     let line = format!(in rt.alloc(); "device {}", fault.what)?;
-    Ok(tell(rt, &line))
+    Ok(report_failure(rt, &line))
+}
+
+/// Writes pieces to files, each to its own, as `write_outputs`; files without a piece are empty. The status.
+///
+/// # Errors
+///
+/// `AllocError` where memory is refused.
+pub fn write_pieces(
+    rt: &HostRuntime,
+    names: &[&str],
+    pieces: &[&[u8]],
+    what: &'static str,
+) -> Result<u8, AllocError> {
+    let mut outputs = Vec::new(rt.alloc());
+    add_pieces(&mut outputs, names, pieces, what)?;
+    write_outputs(rt, &outputs)
 }

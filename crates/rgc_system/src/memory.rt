@@ -15,7 +15,7 @@ pub struct Memory {
 impl Memory {
     /// A writer that has taken nothing.
     pub fn new(alloc: Global) -> Memory
-        ensures { result.taker.failures ≡ 0 }
+        ensures { ⟦<Memory as Out>⟧.failures result ≡ 0 }
     {
         Memory {
             taker: Taker::new(alloc, usize::MAX),

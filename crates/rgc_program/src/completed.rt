@@ -1,15 +1,13 @@
 //! Outlines with the assertions that they lack: these are searched for, and what the search gives is verified as any outline is.
 
-use crate::memory::Memory;
-use crate::replace::{Output, write_outputs};
-use crate::terminal::Terminal;
-use crate::{Means, done_and_drawn, is_strict, performed, reported, shown, tell};
+use crate::call::{Call, done_and_drawn, performed, report_faults, shown};
 use rg_outline_reports::{OutlineSource, Outlined};
 use rg_outline_syntax::own_start;
 use rg_words::{Refusal, RefusalNumber};
 use rgc_commands::{Context, Given, Sides};
 use rgc_complete::{Completed, Completion, complete, complete_with_invariant};
 use rgc_line::{Command, Format, Line, Outlines};
+use rgc_system::{Memory, Output, Terminal, report, report_failure, write_outputs};
 use std::alloc::AllocError;
 use std::fs;
 use std::sync::Wait;
@@ -88,22 +86,20 @@ fn said_of(rt: &HostRuntime, line: &Line<'_>, found: &Completion) -> Result<Vec<
 
 /// Prints an outline that was verified, or puts it into its file, with what is said of it; the status.
 fn delivered<R: Threads + Wait + Sync>(
-    means: &Means<'_, '_, '_, R>,
+    call: &Call<'_, '_, '_, R>,
     line: &Line<'_>,
     found: &Completion,
     verdict: &[u8],
+    said: &[u8],
 ) -> Result<u8, AllocError> {
-    let (rt, format) = (means.rt, line.settings.format);
-    let said = said_of(rt, line, found)?;
+    let (rt, format) = (call.rt, line.settings.format);
     match line.command {
         Command::Complete {
             outline,
             is_in_place: true,
             ..
         } => {
-            let mut text = Vec::from_slice(rt.alloc(), verdict)?;
-            text.extend_from_slice(&said)?;
-            let status = shown(rt, format, &text, 0);
+            let status = shown_both(rt, format, verdict, said)?;
             if status != 0 {
                 return Ok(status);
             }
@@ -116,44 +112,66 @@ fn delivered<R: Threads + Wait + Sync>(
         }
         _ => {
             let status = shown(rt, format, own_file(&found.source), 0);
-            reported(rt, verdict);
-            reported(rt, &said);
+            report(rt, verdict);
+            report(rt, said);
             Ok(status)
         }
     }
 }
 
+/// Writes two texts to standard output at once; the status.
+fn shown_both(
+    rt: &HostRuntime,
+    format: Format,
+    first: &[u8],
+    second: &[u8],
+) -> Result<u8, AllocError> {
+    let mut text = Vec::from_slice(rt.alloc(), first)?;
+    text.extend_from_slice(second)?;
+    Ok(shown(rt, format, &text, 0))
+}
+
 /// Verifies an outline that was found, and prints it where it is verified; the status.
 fn printed<R: Threads + Wait + Sync>(
-    means: &Means<'_, '_, '_, R>,
+    call: &Call<'_, '_, '_, R>,
     line: &Line<'_>,
     files: &Given<'_>,
     found: &Completion,
 ) -> Result<u8, AllocError> {
-    let rt = means.rt;
+    let rt = call.rt;
     let mut out = Memory::new(rt.alloc());
     let mut faults = Memory::new(rt.alloc());
     let mut sides = Sides::new(rt.alloc());
     let asked = verifying(line);
-    let mut status = performed(means, &asked, files, &mut out, &mut faults, &mut sides);
+    let status = performed(call, &asked, files, &mut out, &mut faults, &mut sides);
+    print_verdict(call, line, found, status, &out, &faults)
+}
+
+/// Prints an outline where it is verified with this status, and else why it isn't; the status.
+fn print_verdict<R: Threads + Wait + Sync>(
+    call: &Call<'_, '_, '_, R>,
+    line: &Line<'_>,
+    found: &Completion,
+    status: u8,
+    out: &Memory,
+    faults: &Memory,
+) -> Result<u8, AllocError> {
     if out.is_refused() || faults.is_refused() {
         return Err(AllocError);
     }
-    if status == 0 {
-        status = delivered(means, line, found, out.bytes())?;
-    } else {
-        reported(rt, out.bytes());
+    if status != 0 {
+        report(call.rt, out.bytes());
+        report(call.rt, faults.bytes());
+        return Ok(status);
     }
-    reported(rt, faults.bytes());
-    if status == 0 && is_strict(line) && !faults.bytes().is_empty() {
-        return Ok(1);
-    }
-    Ok(status)
+    let said = said_of(call.rt, line, found)?;
+    let status = delivered(call, line, found, out.bytes(), &said)?;
+    Ok(report_faults(call.rt, line, status, faults.bytes()))
 }
 
 /// Does the command over an outline that was found; the status.
 fn done_again<R: Threads + Wait + Sync>(
-    means: &Means<'_, '_, '_, R>,
+    call: &Call<'_, '_, '_, R>,
     line: &Line<'_>,
     files: Given<'_>,
     outline: OutlineSource<'_>,
@@ -169,12 +187,12 @@ fn done_again<R: Threads + Wait + Sync>(
         ..files
     };
     if let Command::Complete { .. } = line.command {
-        return printed(means, line, &files, found);
+        return printed(call, line, &files, found);
     }
-    let status = done_and_drawn(means, line, &files)?;
+    let status = done_and_drawn(call, line, &files)?;
     if status == 0 {
-        let said = said_of(means.rt, line, found)?;
-        return Ok(shown(means.rt, line.settings.format, &said, status));
+        let said = said_of(call.rt, line, found)?;
+        return Ok(shown(call.rt, line.settings.format, &said, status));
     }
     Ok(status)
 }
@@ -185,21 +203,21 @@ fn refused(rt: &HostRuntime, refusal: Refusal) -> Result<u8, AllocError> {
         return Err(AllocError);
     }
     let line = format!(in rt.alloc(); "{refusal}")?;
-    tell(rt, &line);
+    report_failure(rt, &line);
     Ok(1)
 }
 
 /// Searches for what an outline lacks.
 fn searched<R: Threads + Wait + Sync>(
-    means: &Means<'_, '_, '_, R>,
+    call: &Call<'_, '_, '_, R>,
     line: &Line<'_>,
     outlined: &Outlined<'_>,
 ) -> Result<Completed, Refusal> {
-    let watcher = Terminal::new(means.rt, means.time, false);
+    let watcher = Terminal::new(call.rt, call.time, false);
     let context = Context {
-        rt: means.threads,
-        alloc: means.rt.alloc(),
-        threads: means.most,
+        rt: call.threads,
+        alloc: call.rt.alloc(),
+        threads: call.most,
         watcher: &watcher,
     };
     match line.command {
@@ -214,22 +232,22 @@ fn searched<R: Threads + Wait + Sync>(
 /// Searches for the assertions that an outline lacks, and does the command over the outline with them; the status. Nothing where the outline is to be
 /// verified as it stands, since no assertions would help.
 pub fn done_completed<R: Threads + Wait + Sync>(
-    means: &Means<'_, '_, '_, R>,
+    call: &Call<'_, '_, '_, R>,
     line: &Line<'_>,
     files: Given<'_>,
     outlined: &Outlined<'_>,
 ) -> Result<Option<u8>, AllocError> {
-    match searched(means, line, outlined) {
+    match searched(call, line, outlined) {
         Ok(Completed::Found(found)) => {
-            let status = done_again(means, line, files, outlined.outline, &found)?;
+            let status = done_again(call, line, files, outlined.outline, &found)?;
             Ok(Some(status))
         }
-        Ok(Completed::Unfound(report)) if report.is_empty() => Ok(None),
-        Ok(Completed::Unfound(report)) => {
-            reported(means.rt, &report);
+        Ok(Completed::Unfound(lines)) if lines.is_empty() => Ok(None),
+        Ok(Completed::Unfound(lines)) => {
+            report(call.rt, &lines);
             Ok(Some(1))
         }
         Ok(Completed::GaveUp) => Ok(Some(1)),
-        Err(refusal) => Ok(Some(refused(means.rt, refusal)?)),
+        Err(refusal) => Ok(Some(refused(call.rt, refusal)?)),
     }
 }

@@ -1,6 +1,6 @@
 //! The files that an outline uses: they are read, and stand before it in one text.
 
-use crate::contents::{INPUT, read};
+use crate::input::{INPUT, read};
 use rg_outline_syntax::{
     Fault, MOST_FILES, SEPARATOR, Span, UseFault, push_file, uses_of, without_quotes,
 };
@@ -23,11 +23,11 @@ struct Open {
 
 /// An outline with all files that it uses.
 #[derive(Drop)]
-pub(crate) struct Joined {
+pub struct Joined {
     /// Their text.
-    pub(crate) text: Vec<u8>,
+    pub text: Vec<u8>,
     /// Why a file can't be used; the text then ends with the file that uses it.
-    pub(crate) fault: Option<Fault>,
+    pub fault: Option<Fault>,
     /// The files whose uses are followed: each uses the next one.
     open: Vec<Open>,
     /// The names of all files so far, the outline's own first.
@@ -80,12 +80,12 @@ fn in_head(rt: &HostRuntime, name: &str) -> Result<Vec<u8>, AllocError> {
 
 impl Joined {
     /// The names of the used files.
-    pub(crate) fn used(&self) -> &[String] {
+    pub fn used(&self) -> &[String] {
         self.names.get(1..).unwrap_or(&[])
     }
 
     /// The outline of this name with these bytes, and all files that it uses.
-    pub(crate) fn of(rt: &HostRuntime, name: &str, bytes: &[u8]) -> Result<Joined, AllocError> {
+    pub fn of(rt: &HostRuntime, name: &str, bytes: &[u8]) -> Result<Joined, AllocError> {
         let mut joined = Joined {
             text: Vec::new(rt.alloc()),
             fault: None,
@@ -201,7 +201,7 @@ impl Joined {
 }
 
 /// The outline of this name with all files that it uses; none where there is none, or it can't be read.
-pub(crate) fn joined_of(
+pub fn joined_of(
     rt: &HostRuntime,
     name: Option<&str>,
     own: Option<&[u8]>,

@@ -1,32 +1,14 @@
 //! The bytes of the files that a command reads, or that one of them can't be read.
 
-use crate::pieces::PieceNames;
-use crate::{outline_format, reported};
+use crate::names::PieceNames;
+use crate::outline::outline_format;
 use rg_outline_reports::unread_line;
 use rg_words::limits::{MOST_PROOF_BYTES, MOST_TEXT_BYTES};
 use rgc_commands::Given;
 use rgc_line::{Format, Named};
+use rgc_system::{INPUT, read, report};
 use std::alloc::{AllocError, Global};
-use std::fs::File;
 use std::io;
-use std::io::Read;
-
-/// The name of a file that stands for standard input.
-pub(crate) const INPUT: &str = "-";
-
-/// A file's bytes, or those of standard input, but no more than one past the limit: that one shows that there are too many.
-pub(crate) fn read(rt: &HostRuntime, name: &str, most: usize) -> io::Result<Vec<u8>> {
-    let mut bytes = Vec::new(rt.alloc());
-    let limit = (most as u64).saturating_add(1);
-    if name == INPUT {
-        let mut input = rt.reader().take(limit);
-        input.read_to_end(&mut bytes)?;
-    } else {
-        let mut file = File::open(rt, name)?.take(limit);
-        file.read_to_end(&mut bytes)?;
-    }
-    Ok(bytes)
-}
 
 /// Whether more than one file is standard input.
 pub(crate) fn reads_input_twice(named: &Named<'_>, names: &PieceNames<'_>) -> bool {
@@ -54,7 +36,7 @@ fn reason_of(alloc: Global, kind: io::ErrorKind) -> Result<String, AllocError> {
 }
 
 /// Reports that a file can't be read, and why.
-fn tell_unread(
+fn report_unread(
     rt: &HostRuntime,
     name: &str,
     kind: io::ErrorKind,
@@ -62,7 +44,7 @@ fn tell_unread(
 ) -> Result<(), AllocError> {
     let reason = reason_of(rt.alloc(), kind)?;
     let line = unread_line(rt.alloc(), outline_format(format), name, &reason)?;
-    reported(rt, &line);
+    report(rt, &line);
     Ok(())
 }
 
@@ -78,7 +60,7 @@ fn bytes_of(
         Err(error) => match error.kind() {
             io::ErrorKind::OutOfMemory => Err(AllocError),
             kind => {
-                tell_unread(rt, name, kind, format)?;
+                report_unread(rt, name, kind, format)?;
                 Ok(None)
             }
         },

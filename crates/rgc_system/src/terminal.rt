@@ -1,11 +1,13 @@
 //! What is said of long searches where a person waits, and when they are given up.
 
-use crate::is_coloured;
 use crate::paint::painted;
 use crate::screen::Screen;
 use itoa::Buffer;
 use rg_watch::Watcher;
 use rg_words::{Device, write_all};
+use std::alloc::AllocError;
+use std::env;
+use std::env::VarError;
 use std::io::IsTerminal;
 use std::sync::atomic::{AtomicBool, AtomicU64, Ordering};
 use std::time::Instant;
@@ -15,6 +17,30 @@ const SECONDS_BETWEEN: u64 = 2;
 
 /// How many calls of a search for a proof come to one look at the clock.
 const CALLS: u32 = 64;
+
+/// Whether the environment wants no colours: `NO_COLOR` is set, and isn't empty.
+fn wants_no_colours(rt: &HostRuntime) -> bool {
+    match env::var(rt, "NO_COLOR") {
+        Ok(value) => !value.is_empty(),
+        Err(VarError::NotPresent) => false,
+        Err(_) => true,
+    }
+}
+
+/// Whether standard output is a terminal that is to be coloured.
+pub fn is_coloured(rt: &HostRuntime) -> bool {
+    rt.stdout().is_terminal() && !wants_no_colours(rt)
+}
+
+/// Prints reports in colour on standard output; whether all of them went out.
+///
+/// # Errors
+///
+/// `AllocError` where memory is refused; nothing went out then.
+pub fn print_painted(rt: &HostRuntime, lines: &[u8]) -> Result<bool, AllocError> {
+    let text = painted(rt.alloc(), lines)?;
+    Ok(write_all(&mut Device::new(rt.stdout()), &text).is_ok())
+}
 
 /// The time of a call of the program.
 #[derive(Drop)]
@@ -115,9 +141,9 @@ impl Watcher for Terminal<'_> {
             self.calls.saturating_add(1)
         };
         if is_looked && self.is_due() {
-            let (mut met, mut kept) = (Buffer::new(), Buffer::new());
-            let conflicts = met.format(conflicts);
-            let learned = kept.format(learned);
+            let (mut of_conflicts, mut of_learned) = (Buffer::new(), Buffer::new());
+            let conflicts = of_conflicts.format(conflicts);
+            let learned = of_learned.format(learned);
             let _ = eprintln!(self.rt; "{conflicts} conflicts, {learned} learned clauses");
         }
         self.goes_on()
@@ -125,9 +151,9 @@ impl Watcher for Terminal<'_> {
 
     fn walked(&mut self, steps: u64, states: usize) -> bool {
         if self.is_due() {
-            let (mut made, mut met) = (Buffer::new(), Buffer::new());
-            let steps = made.format(steps);
-            let states = met.format(states);
+            let (mut of_steps, mut of_states) = (Buffer::new(), Buffer::new());
+            let steps = of_steps.format(steps);
+            let states = of_states.format(states);
             let _ = eprintln!(self.rt; "{steps} steps of runs, {states} states");
         }
         self.goes_on()
@@ -149,10 +175,7 @@ impl Watcher for Terminal<'_> {
         if !is_coloured(self.rt) {
             return write_all(&mut Screen::new(self.rt.stdout()), lines).is_ok();
         }
-        match painted(self.rt.alloc(), lines) {
-            Ok(text) => write_all(&mut Device::new(self.rt.stdout()), &text).is_ok(),
-            Err(_) => false,
-        }
+        print_painted(self.rt, lines).unwrap_or(false)
     }
 }
 

@@ -1,10 +1,8 @@
 //! The files that the words of a command name, and which of them are one file.
 
-use crate::contents::INPUT;
-use crate::pieces::PieceNames;
-use crate::place::{INPUT_FILE, Identity, identity_of};
-use crate::reported;
+use crate::names::PieceNames;
 use rgc_line::{Command, Line};
+use rgc_system::{INPUT, INPUT_FILE, Identity, identity_of, report};
 use std::alloc::{AllocError, Global};
 
 /// How a file is named that an outline uses.
@@ -74,8 +72,8 @@ fn inputs_of<'a>(
     add(&mut mentions, option_of_text(&line.command), named.text)?;
     if named.derivation.is_some() {
         let count = places_of_derivation(&line.command).min(names.derivation.len());
-        let (placed, further) = names.derivation.split_at(count);
-        add_all(&mut mentions, "DERIVATION", placed)?;
+        let (first, further) = names.derivation.split_at(count);
+        add_all(&mut mentions, "DERIVATION", first)?;
         add_all(&mut mentions, "--derivation", further)?;
     }
     if named.proofs.is_some() {
@@ -223,6 +221,6 @@ pub fn report_clash(rt: &HostRuntime, clash: (Mention<'_>, Mention<'_>)) -> Resu
     let (earlier, output) = clash;
     let (one, other, name) = (earlier.option, output.option, output.name);
     let said = format!(in rt.alloc(); "error: {one} and {other} name one file: {name}\n")?;
-    reported(rt, said.as_bytes());
+    report(rt, said.as_bytes());
     Ok(())
 }
