@@ -1,6 +1,7 @@
 //! What an outline stands for: a program with the assertions between its statements. The first fault is kept in the scope, and no call returns it.
 
 use crate::indices::{IndexAsked, Indexed};
+use crate::order::Interrupt;
 use rg_outline_syntax::{Binding, Fault, List, Names, Span, Texts, Written};
 use rg_outline_terms::Scope;
 use rg_tree::line::Rule;
@@ -175,6 +176,9 @@ pub struct Expansion<'a> {
     pub asked: Vec<IndexAsked>,
     pub parts: Vec<OutlinePart>,
     pub part_names: Texts,
+    /// Which parts interrupt others, and the names of these, each at the same place.
+    pub(crate) interrupts: Vec<Interrupt>,
+    pub(crate) interrupted: Texts,
     pub clauses: Vec<usize>,
     /// The words that the parts own, and those that they assign, each in the order of the outline.
     pub(crate) owned: Vec<PartWord>,
@@ -304,6 +308,8 @@ impl<'a> Expansion<'a> {
             asked: Vec::new(alloc),
             parts: Vec::new(alloc),
             part_names: Texts::new(alloc),
+            interrupts: Vec::new(alloc),
+            interrupted: Texts::new(alloc),
             clauses: Vec::new(alloc),
             owned: Vec::new(alloc),
             assigned: Vec::new(alloc),

@@ -6,6 +6,7 @@ mod derive;
 mod expansion;
 mod indices;
 mod openers;
+mod order;
 mod parts;
 mod print;
 mod settle;
@@ -19,6 +20,7 @@ pub use expansion::{
     Specification, Statement, Update,
 };
 pub use indices::IndexAsked;
+pub use order::push_priority;
 pub use print::{middle, push_flat};
 use rg_outline_syntax::Fault;
 pub use rg_tree::line::Rule;
@@ -36,6 +38,7 @@ pub fn work_out(expansion: &mut Expansion<'_>) -> Result<(), Fault> {
     expansion.specify();
     expansion.take_parts();
     expansion.refuse_sharing();
+    expansion.refuse_interrupts();
     if !expansion.scope.is_stopped() {
         expansion.at = None;
         expansion.specify_parts();

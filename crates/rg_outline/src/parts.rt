@@ -96,6 +96,7 @@ impl Expansion<'_> {
                     self.scope.name_head(*head, written.span.end);
                 }
                 HeadKind::Owns(words) => self.take_owned(&mut part, &mut relied, words),
+                HeadKind::Interrupts(name, listed) => self.take_interrupted(*head, name, listed),
                 HeadKind::Clause(Clause::Rely, formula) => {
                     let tree = self.scope.step_formula(formula);
                     add(&mut self.scope, &mut relied, tree);

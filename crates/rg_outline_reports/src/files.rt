@@ -15,6 +15,8 @@ pub struct OutlineFiles {
     pub cuts: Vec<usize>,
     /// Whether each word of the text is auxiliary, in the order of the text's words.
     pub auxiliary: Vec<bool>,
+    /// Which parts interrupt which, as `--priority` says it; empty where the outline says nothing of it.
+    pub priority: String,
 }
 
 /// What the words and the statements of the text are in the outline.

@@ -13,7 +13,7 @@ use crate::reports::Reports;
 use crate::run::{push_breaking, push_walked};
 use crate::stuck::report_stuck;
 use crate::warnings::report_warnings;
-use rg_outline::{Expansion, push_derivation, push_map, push_text, work_out};
+use rg_outline::{Expansion, push_derivation, push_map, push_priority, push_text, work_out};
 use rg_outline_syntax::{Fault, Standing, Tokens, Written, parse};
 use rg_walk::{BreakingRun, StuckRun, Walked};
 use std::alloc::{AllocError, Global};
@@ -55,6 +55,10 @@ fn make_files(expansion: &mut Expansion<'_>, files: &mut OutlineFiles) -> Result
     for word in &expansion.scope.words {
         files.auxiliary.push(word.standing == Standing::Auxiliary)?;
     }
+    let alloc = expansion.scope.alloc;
+    let mut priority = Vec::new(alloc);
+    push_priority(expansion, &mut priority)?;
+    files.priority = String::from_utf8_lossy(alloc, &priority)?;
     push_text(expansion, &mut files.text)?;
     push_derivation(expansion, &mut files.derivation, &mut files.cuts)
 }
@@ -87,6 +91,7 @@ impl<'a> Outlined<'a> {
             derivation: Vec::new(alloc),
             cuts: Vec::new(alloc),
             auxiliary: Vec::new(alloc),
+            priority: String::new(alloc),
         };
         match make_files(&mut expansion, &mut files) {
             Ok(()) => Ok(Outlined {

@@ -1,6 +1,7 @@
 //! Formulas and values, by precedence.
 
 use crate::infix::{COMPARISON, IMPLICATION, Infix, LEAF, UNIT, VALUE, infix_of};
+use crate::outlines::INTERRUPTS;
 use crate::parser::{DEEPEST, Parser};
 use crate::written::{Binder, ExpressionKind, List, Range};
 use crate::{Keyword, Kind, ShapeFault, Span, Symbol};
@@ -261,11 +262,19 @@ impl Parser<'_> {
         for _ in 0..self.tokens.len() {
             let word = self.word(depth);
             self.hold(word);
-            if !self.is_next(Kind::Name) {
+            if !self.is_next(Kind::Name) || self.ends_words() {
                 break;
             }
         }
         self.close(mark)
+    }
+
+    /// Whether the next name ends a list of words, as it begins a head: it is `interrupts` before a name, and no word is named so.
+    fn ends_words(&self) -> bool {
+        let mut declared = self.written.declarations.iter();
+        self.is_word(INTERRUPTS)
+            && self.kind_after() == Kind::Name
+            && !declared.any(|word| word.name.of(self.source) == INTERRUPTS)
     }
 
     /// The name of an index, up to its range.

@@ -196,6 +196,16 @@ pub enum MeaningFault {
         word: usize,
         owner: usize,
     },
+    /// An interrupted part of this name, which comes after those of the parts.
+    NoPartNamed {
+        part: usize,
+    },
+    /// A part that interrupts itself, or one that interrupts it.
+    InterruptsItself,
+    /// A part that is interrupted directly by two: the first of these.
+    InterruptedAlready {
+        part: usize,
+    },
     /// What decides a step, or goes into a real word, reads an auxiliary word.
     ReadsAuxiliary {
         word: usize,

@@ -5,7 +5,7 @@ use crate::infix::Infix;
 /// What a token is.
 #[derive(Clone, Copy, PartialEq, Eq)]
 pub enum Kind {
-    /// A name; `in`, `but`, `mod`, `aux` and `use` are names, too, which the grammar reads as words of its own where no name can stand.
+    /// A name; `in`, `but`, `mod`, `aux`, `use` and `interrupts` are names, too, which the grammar reads as words of its own where no name can stand.
     Name,
     /// A number with its value.
     Number(u64),

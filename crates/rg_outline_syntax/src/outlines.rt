@@ -20,6 +20,9 @@ enum Section {
     Part,
 }
 
+/// What begins the head that says which part a part interrupts.
+pub(crate) const INTERRUPTS: &[u8] = b"interrupts";
+
 /// What may stand before the words of an outline.
 const BEFORE_WORDS: &str = "`words` is wanted here or `let`, at the beginning of an outline";
 
@@ -177,7 +180,21 @@ impl Parser<'_> {
     fn next_head(&mut self, section: Section) -> Option<Head> {
         match self.token().kind {
             Kind::Keyword(keyword) if may_stand(section, keyword) => Some(self.head(keyword)),
+            Kind::Name if section == Section::Part && self.is_word(INTERRUPTS) => {
+                Some(self.interrupts())
+            }
             _ => None,
+        }
+    }
+
+    /// Which part a part interrupts.
+    fn interrupts(&mut self) -> Head {
+        let start = self.span();
+        self.step();
+        let name = self.name("the name of a part");
+        Head {
+            kind: HeadKind::Interrupts(name, self.brackets(false, DEEPEST)),
+            span: self.since(start),
         }
     }
 
@@ -343,7 +360,7 @@ impl Parser<'_> {
         self.want_opener(
             Keyword::Begin,
             "`begin`",
-            "`begin` is wanted here, or one of `let`, `owns`, `pre`, `rely`, `guar`, `post`",
+            "`begin` is wanted here, or one of `let`, `owns`, `interrupts`, `pre`, `rely`, `guar`, `post`",
         );
         let body = self.body(begin);
         PartWritten {

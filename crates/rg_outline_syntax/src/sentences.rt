@@ -201,6 +201,11 @@ impl MeaningFault {
             Self::FixedAssigned { .. } => "{} is fixed: no step changes it",
             Self::OwnedAlready { .. } => "{} is owned by part {} already",
             Self::AssignsOwned { .. } => "part {} assigns {}, which part {} owns",
+            Self::NoPartNamed { .. } => "no part is named `{}`",
+            Self::InterruptsItself => "this part interrupts itself, directly or through others",
+            Self::InterruptedAlready { .. } => {
+                "part {} interrupts {} already: let this part interrupt {}"
+            }
             Self::ReadsAuxiliary { .. } => {
                 "{} is auxiliary: nothing that the program does may depend on it"
             }
@@ -267,7 +272,8 @@ impl MeaningFault {
             Self::AssignsOwned { part, word, owner } => {
                 filled(&[Part(part), Word(word), Part(owner)])
             }
-            Self::PartTwice { part } => filled(&[Part(part)]),
+            Self::PartTwice { part } | Self::NoPartNamed { part } => filled(&[Part(part)]),
+            Self::InterruptedAlready { part } => filled(&[Part(part), found, Part(part)]),
             _ => filled(&[found]),
         }
     }

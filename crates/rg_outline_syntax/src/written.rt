@@ -197,13 +197,15 @@ pub struct Head {
     pub span: Span,
 }
 
-/// A name for a tree or for statements, what is owned, or a clause of the specification.
+/// A name for a tree or for statements, what is owned, which part is interrupted, or a clause of the specification.
 #[derive(Clone, Copy)]
 pub enum HeadKind {
     Let(Let),
     Procedure(Procedure),
     /// Words, which are `listed` expressions.
     Owns(List),
+    /// The name of a part, and its indices, which are `listed` expressions.
+    Interrupts(Span, List),
     /// A clause with its formula.
     Clause(Clause, usize),
 }

@@ -50,6 +50,11 @@ impl Scope<'_> {
         self.numbers.get(place).copied().unwrap_or(0)
     }
 
+    /// The number that an index stands for, which has to be one.
+    pub fn index_number(&mut self, index: usize) -> i128 {
+        self.number_of(index, "an index", DEEPEST)
+    }
+
     /// The number that an expression stands for, which has to be one.
     #[cycle(elaborate)]
     pub(crate) fn number_of(&mut self, index: usize, what: &'static str, depth: u32) -> i128 {

@@ -1,5 +1,5 @@
 -- Code that was printed is what it says.
-use Rattle.std.proofs.Common.{◌≡◌, List, [], ◌∷◌, ℕ, Option, Some, None, Bool, true, false, map, refl, inr}
+use Rattle.std.proofs.Common.{◌≡◌, List, [], ◌∷◌, ℕ, Option, Some, None, Bool, true, false, map, refl, inr, subst}
 use Rattle.std.specs.List.{list_any}
 use Rattle.rg_words.specs.Layout.{Word}
 use Rattle.std.specs.Borrow.{Bor}
@@ -15,6 +15,7 @@ use Rattle.rgc_commands.specs.Answers.{AsInFiles, HasCode, IsLeftOfFiles, IsLeft
 use Rattle.rgc_commands.specs.Flagged.{is_left_out}
 use Rattle.rgc_commands.specs.Code.{Shown, AreAmong, coded_program, coded_code, coded_blocks, IsPrinted}
 use Rattle.rgc_commands.specs.Left.{LacksPlan, LacksCode}
+use Rattle.rgc_commands.specs.Priority.{said, priority_for}
 use Rattle.rgc_commands.specs.Of.{Pieces, OfText, OfPieces, OfThree, IsRead}
 use Rattle.rgc_commands.specs.Stops.{LacksCodeOfFiles, LacksCodeOfOutline}
 use Rattle.rgc_commands.specs.declared.code.Ready.{Ready}
@@ -28,6 +29,11 @@ pub coded_over : (c : Coded) → ∥ IsOver (coded_program c) (coded_code c) ∥
 coded_over (Whole emitted) = ∥∥₁_map emitted.law (lawful_over emitted.program emitted.code)
 coded_over (Left erased) = ∥∥₁_map erased.law (lawful_over erased.program erased.code)
 
+-- what is printed for the order that a text says is printed for an equal one
+pub printed_for_equal : (form : Shown) (first second : Option (List ℕ)) (lines : List ℕ) (flags : List Bool) (c : Coded) (text : List ℕ)
+    → first ≡ second → IsPrinted form first lines flags c text → IsPrinted form second lines flags c text
+printed_for_equal form first second lines flags c text same printed = subst (λ (priority : Option (List ℕ)). IsPrinted form priority lines flags c text) same printed
+
 -- what follows of three files
 of_three : (P Q : List ℕ → List (List ℕ) → List (List ℕ) → Type 0) (files : Files) → ((t : List ℕ) (d p : List (List ℕ)) → P t d p → Q t d p) → OfThree files P → OfThree files Q
 of_three P Q files follows = by_files files.text files.derivation files.proofs
@@ -39,7 +45,7 @@ of_three P Q files follows = by_files files.text files.derivation files.proofs
     by_files None d p h = absurd h
 
 -- the text of the code of files
-pub files_code : (names priority : Option (Bor (List ℕ))) (files : Files) (c : Coded) (form : Shown) (text : List ℕ)
+pub files_code : (names : Option (Bor (List ℕ))) (priority : Option (List ℕ)) (files : Files) (c : Coded) (form : Shown) (text : List ℕ)
     → OfThree files (λ t d p. IsLeftOfFiles names t d p (coded_program c) (coded_blocks c)) → (flags : List Bool) → AreAmong flags [] → IsPrinted form priority [] flags c text → OfThree files (λ t d p. HasCode (IsLeftOfFiles names t d p) AsInFiles priority form text)
 files_code names priority files c form text left flags among printed =
     of_three (λ t d p. IsLeftOfFiles names t d p (coded_program c) (coded_blocks c)) (λ t d p. HasCode (IsLeftOfFiles names t d p) AsInFiles priority form text) files
@@ -55,13 +61,13 @@ ready_files names files ready start moves limit left first moving same =
 
 -- what is left of files, or of an outline, has no C
 pub files_lack : (s : Settings) (in_c : Bool) (files : Files) (q : ProgramTree) (blocks : List (List BlockTree))
-    → OfThree files (λ t d p. IsLeftOfFiles s.erase t d p q blocks) → in_c ≡ true → (lines : List ℕ) → LacksPlan s.priority q lines → LacksCodeOfFiles s in_c files lines
+    → OfThree files (λ t d p. IsLeftOfFiles s.erase t d p q blocks) → in_c ≡ true → (lines : List ℕ) → LacksPlan (said s.priority) q lines → LacksCodeOfFiles s in_c files lines
 files_lack s in_c files q blocks left asked lines lacks =
-    of_three (λ t d p. IsLeftOfFiles s.erase t d p q blocks) (λ t d p. LacksCode (IsBuiltInPieces t d p) s.erase [] s.priority in_c lines) files
+    of_three (λ t d p. IsLeftOfFiles s.erase t d p q blocks) (λ t d p. LacksCode (IsBuiltInPieces t d p) s.erase [] (said s.priority) in_c lines) files
     (λ t d p l. record { program = l.program; whole = l.whole; built = l.built; why = inr (asked, record { left = q; blocks = blocks; is_left = l.is_left; lacks = lacks }) }) left
 
 pub outline_lacks : (s : Settings) (in_c : Bool) (outline : OutlineFiles) (q : ProgramTree) (blocks : List (List BlockTree))
-    → IsLeftOfOutline s.erase s.keeps_aux outline q blocks → in_c ≡ true → (lines : List ℕ) → LacksPlan s.priority q lines → LacksCodeOfOutline s in_c lines outline
+    → IsLeftOfOutline s.erase s.keeps_aux outline q blocks → in_c ≡ true → (lines : List ℕ) → LacksPlan (priority_for s.priority outline) q lines → LacksCodeOfOutline s in_c lines outline
 outline_lacks s in_c outline q blocks l asked lines lacks =
     record { program = l.program; whole = l.whole; built = l.built; why = inr (asked, record { left = q; blocks = blocks; is_left = l.is_left; lacks = lacks }) }
 

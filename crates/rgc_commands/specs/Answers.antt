@@ -50,6 +50,7 @@ use Rattle.rgc_commands.specs.declared.files.Files.{Files}
 use Rattle.rgc_commands.specs.Code.{is_plain, Shown, accesses, coded_program, coded_code, coded_blocks, IsCodeForm, IsPrinted}
 use Rattle.rgc_commands.specs.Flagged.{flags_for}
 use Rattle.rgc_commands.specs.Left.{IsLeftBy}
+use Rattle.rgc_commands.specs.Priority.{said, priority_for}
 use Rattle.rgc_commands.specs.Of.{OfText, OfPieces, OfTwo, OfThree, OfOutline, IsRead}
 
 -- the answer is what the command is asked for
@@ -144,7 +145,7 @@ abbrev pub AsInOutline : ProgramTree → List Bool → List ℕ → Type 0
 AsInOutline p apart lines = PartsAreApart p apart
 
 -- the text of code that is left so is printed in this form, its parts interrupting each other so, and being apart so, with lines for those of its text
-pub record HasCode (IsLeft : ProgramTree → List (List BlockTree) → Type 0) (Are : ProgramTree → List Bool → List ℕ → Type 0) (priority : Option (Bor (List ℕ))) (form : Shown) (text : List ℕ) : Type 0 where
+pub record HasCode (IsLeft : ProgramTree → List (List BlockTree) → Type 0) (Are : ProgramTree → List Bool → List ℕ → Type 0) (priority : Option (List ℕ)) (form : Shown) (text : List ℕ) : Type 0 where
   pub coded : Coded
   pub left : IsLeft (coded_program coded) (coded_blocks coded)
   pub over : ∥ IsOver (coded_program coded) (coded_code coded) ∥₁
@@ -170,7 +171,7 @@ pub record IsVerified (conditions : ℕ) (files : OutlineFiles) : Type 0 where
 
 -- after a verdict is printed how each step is done in C, where that is asked for
 abbrev pub HasMore : Settings → OutlineFiles → List ℕ → Type 0
-HasMore s outline more = s.has_accesses ≡ true → HasCode (IsLeftOfOutline s.erase s.keeps_aux outline) AsInOutline s.priority accesses more
+HasMore s outline more = s.has_accesses ≡ true → HasCode (IsLeftOfOutline s.erase s.keeps_aux outline) AsInOutline (priority_for s.priority outline) accesses more
 
 -- an outline's text is printed, or goes to a file
 abbrev pub IsTextOf : Bool → OutlineFiles → List ℕ → Type 0
@@ -213,12 +214,12 @@ IsAnswer s (command.Find _ _ (Some chosen)) files (Found condition found) =
     OfTwo files (λ text derivation. IsChosen text derivation chosen.condition (condition_tree condition) × IsJudged (condition_tree condition) found)
 IsAnswer s (command.Explain number) files (Explained explained entry) = explained ≡ number
 IsAnswer s (command.Emit _ _ _) files (Code code) =
-    (form : Shown) × IsCodeForm s form × OfThree files (λ text derivation proofs. HasCode (IsLeftOfFiles s.erase text derivation proofs) AsInFiles s.priority form (string_bytes code))
+    (form : Shown) × IsCodeForm s form × OfThree files (λ text derivation proofs. HasCode (IsLeftOfFiles s.erase text derivation proofs) AsInFiles (said s.priority) form (string_bytes code))
 IsAnswer s (command.EmitOutline _) files (Code code) =
-    (form : Shown) × IsCodeForm s form × OfOutline files (λ outline. HasCode (IsLeftOfOutline s.erase s.keeps_aux outline) AsInOutline s.priority form (string_bytes code))
+    (form : Shown) × IsCodeForm s form × OfOutline files (λ outline. HasCode (IsLeftOfOutline s.erase s.keeps_aux outline) AsInOutline (priority_for s.priority outline) form (string_bytes code))
 IsAnswer s (command.Accesses _ _ _) files (Code code) =
-    OfThree files (λ text derivation proofs. HasCode (IsLeftOfFiles s.erase text derivation proofs) AsInFiles s.priority accesses (string_bytes code))
-IsAnswer s (command.AccessesOutline _) files (Code code) = OfOutline files (λ outline. HasCode (IsLeftOfOutline s.erase s.keeps_aux outline) AsInOutline s.priority accesses (string_bytes code))
+    OfThree files (λ text derivation proofs. HasCode (IsLeftOfFiles s.erase text derivation proofs) AsInFiles (said s.priority) accesses (string_bytes code))
+IsAnswer s (command.AccessesOutline _) files (Code code) = OfOutline files (λ outline. HasCode (IsLeftOfOutline s.erase s.keeps_aux outline) AsInOutline (priority_for s.priority outline) accesses (string_bytes code))
 IsAnswer s (command.Run _ _ _ start moves limit _) files (Run ready) =
     OfThree files (λ text derivation proofs. IsReady (IsLeftOfFiles s.erase text derivation proofs) files start moves limit ready)
 IsAnswer s (command.RunOutline _ start moves limit _) files (Run ready) = OfOutline files (λ outline. IsReady (IsLeftOfOutline None true outline) files start moves limit ready)

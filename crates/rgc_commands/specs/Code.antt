@@ -84,11 +84,11 @@ pub record IsPlan (kinds : List Kind) (order : List (Option Rank)) (apart : List
   pub sound : IsSound kinds order p
 
 -- the same of an order that a text says
-abbrev pub IsPlanned : Option (Bor (List ℕ)) → List (Option Rank) → List Kind → List Bool → ProgramTree → Type 0
+abbrev pub IsPlanned : Option (List ℕ) → List (Option Rank) → List Kind → List Bool → ProgramTree → Type 0
 IsPlanned priority order kinds apart p = IsOrdered priority p order × IsPlan kinds order apart p
 
 -- a program, whose parts interrupt each other as a text says and are apart at these words, and its code are printed so, with these lines for those of its text
-abbrev pub IsPrintedAs : Shown → Option (Bor (List ℕ)) → List ℕ → List Bool → ProgramTree → Code → List ℕ → Type 0
+abbrev pub IsPrintedAs : Shown → Option (List ℕ) → List ℕ → List Bool → ProgramTree → Code → List ℕ → Type 0
 IsPrintedAs listing priority lines apart p code text = text ≡ compact_text (listing_data code) ++ codes "\n"
 IsPrintedAs (header name traced) priority lines apart p code text =
     (order : List (Option Rank)) × (kinds : List Kind) × IsPlanned priority order kinds apart p × (text ≡ header_text name traced lines order kinds p)
@@ -96,5 +96,5 @@ IsPrintedAs accesses priority lines apart p code text =
     (order : List (Option Rank)) × (kinds : List Kind) × IsPlanned priority order kinds apart p × (text ≡ report_text p order kinds lines)
 
 -- code is printed so
-abbrev pub IsPrinted : Shown → Option (Bor (List ℕ)) → List ℕ → List Bool → Coded → List ℕ → Type 0
+abbrev pub IsPrinted : Shown → Option (List ℕ) → List ℕ → List Bool → Coded → List ℕ → Type 0
 IsPrinted form priority lines apart c text = IsPrintedAs form priority lines apart (coded_program c) (coded_code c) text

@@ -56,11 +56,11 @@ abbrev pub IsUnplanned : List (Option Rank) → ProgramTree → List ℕ → Typ
 IsUnplanned order p lines = (why : Unplanned) × (unplanned p order [] ≡ Some why) × (lines ≡ unplanned_line p.words why)
 
 -- its parts aren't those of which a text says which interrupt which, or there is no C
-abbrev pub LacksPlan : Option (Bor (List ℕ)) → ProgramTree → List ℕ → Type 0
+abbrev pub LacksPlan : Option (List ℕ) → ProgramTree → List ℕ → Type 0
 LacksPlan priority p lines = (misordered p priority ≡ Some lines) ⊎ IsUnplanned (order_for p priority) p lines
 
 -- the same of what is left
-pub record HasNoC (IsLeft : ProgramTree → List (List BlockTree) → Type 0) (priority : Option (Bor (List ℕ))) (lines : List ℕ) : Type 0 where
+pub record HasNoC (IsLeft : ProgramTree → List (List BlockTree) → Type 0) (priority : Option (List ℕ)) (lines : List ℕ) : Type 0 where
   pub left : ProgramTree
   pub blocks : List (List BlockTree)
   pub is_left : IsLeft left blocks
@@ -68,7 +68,7 @@ pub record HasNoC (IsLeft : ProgramTree → List (List BlockTree) → Type 0) (p
 
 -- the code of a program that is built isn't had without words that are named and flagged: these have to stay; or C is asked for, with such an order of the parts, and what
 -- is left has none
-pub record LacksCode (IsBuilt : ProgramTree → List (List BlockTree) → Type 0) (names : Option (Bor (List ℕ))) (flagged : List Bool) (priority : Option (Bor (List ℕ))) (in_c : Bool) (lines : List ℕ) : Type 0 where
+pub record LacksCode (IsBuilt : ProgramTree → List (List BlockTree) → Type 0) (names : Option (Bor (List ℕ))) (flagged : List Bool) (priority : Option (List ℕ)) (in_c : Bool) (lines : List ℕ) : Type 0 where
   pub program : ProgramTree
   pub whole : List (List BlockTree)
   pub built : IsBuilt program whole

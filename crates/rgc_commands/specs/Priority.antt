@@ -1,5 +1,5 @@
--- Which parts run on one core, and which interrupt which there, as a word of the line says: isr > main, dma > net.
-use Rattle.std.specs.Prelude.{◌≡◌, ℕ, ◌+◌, ◌-◌, Bool, not, nat_eq, nat_lt, List, [], ◌∷◌, ◌++◌, codes, length, map, take, drop, find, Option, Some, None, option_map, is_some, if◌then◌else◌}
+-- Which parts run on one core, and which interrupt which there, as a text says: isr > main, dma > net.
+use Rattle.std.specs.Prelude.{◌≡◌, ℕ, ◌+◌, ◌-◌, Bool, not, nat_eq, nat_lt, List, [], ◌∷◌, ◌++◌, codes, length, map, take, drop, find, Option, Some, None, option_map, is_some, if◌then◌else◌, string_bytes}
 use Rattle.std.specs.List.{list_any, slice_split, prefix_len, suffix_len}
 use Rattle.std.specs.Option.{option_map_or}
 use Rattle.std.specs.Borrow.{Bor}
@@ -7,6 +7,21 @@ use Rattle.std.specs.Char.{is_ascii_whitespace}
 use Rattle.std.specs.Str.{bytes_eq}
 use Rattle.rg_tree.specs.Statements.{PartTree, ProgramTree}
 use Rattle.rg_c_plan.specs.declared.order.Rank.{Rank}
+use Rattle.rg_outline_reports.specs.declared.files.OutlineFiles.{OutlineFiles}
+
+-- the text that a word of the line is, where there is one
+abbrev pub said : Option (Bor (List ℕ)) → Option (List ℕ)
+said word = option_map (λ text. text.now) word
+
+-- what an outline says itself, if it says anything
+abbrev pub said_in : List ℕ → Option (List ℕ)
+said_in [] = None
+said_in (b ∷ bs) = Some (b ∷ bs)
+
+-- the text that counts for an outline: that of the line, where there is one, else its own
+abbrev pub priority_for : Option (Bor (List ℕ)) → OutlineFiles → Option (List ℕ)
+priority_for (Some text) outline = Some text.now
+priority_for None outline = said_in (string_bytes outline.priority)
 
 -- a text without the white space at its ends
 abbrev pub trimmed : List ℕ → List ℕ
@@ -47,9 +62,9 @@ rank_named ns name = option_map (λ (n : NamedTree). n.rank) (find (λ (n : Name
 abbrev pub ranks_of : List NamedTree → List PartTree → List (Option Rank)
 ranks_of ns parts = map (λ (part : PartTree). rank_named ns part.name) parts
 
-abbrev pub order_for : ProgramTree → Option (Bor (List ℕ)) → List (Option Rank)
+abbrev pub order_for : ProgramTree → Option (List ℕ) → List (Option Rank)
 order_for p None = []
-order_for p (Some text) = ranks_of (named_in text.now) p.parts
+order_for p (Some text) = ranks_of (named_in text) p.parts
 
 -- a core on which a part is alone
 abbrev pub is_alone : List ℕ → Bool
@@ -86,10 +101,10 @@ fault_among parts cores ns =
 abbrev pub fault_in : List PartTree → List ℕ → Option (List ℕ)
 fault_in parts text = fault_among parts (cores_in text) (named_in text)
 
-abbrev pub misordered : ProgramTree → Option (Bor (List ℕ)) → Option (List ℕ)
+abbrev pub misordered : ProgramTree → Option (List ℕ) → Option (List ℕ)
 misordered p None = None
-misordered p (Some text) = fault_in p.parts text.now
+misordered p (Some text) = fault_in p.parts text
 
 -- a text says which parts of a program run on one core, and which interrupt which
-abbrev pub IsOrdered : Option (Bor (List ℕ)) → ProgramTree → List (Option Rank) → Type 0
+abbrev pub IsOrdered : Option (List ℕ) → ProgramTree → List (Option Rank) → Type 0
 IsOrdered priority p order = (misordered p priority ≡ None) × (order ≡ order_for p priority)

@@ -20,6 +20,7 @@ use Rattle.rgc_outlines.specs.Unproved.{AreUnprovedOf}
 use Rattle.rgc_commands.specs.Answers.{SpellsRange, IsVerified, auxiliary_of}
 use Rattle.rgc_commands.specs.Code.{is_plain}
 use Rattle.rgc_commands.specs.Left.{LacksCode}
+use Rattle.rgc_commands.specs.Priority.{said, priority_for}
 use Rattle.rgc_commands.specs.Of.{OfText, OfPieces, OfTwo, OfThree, OfOutline, IsRefusedOutline}
 use Rattle.rgc_commands.specs.declared.files.Files.{Files}
 use Rattle.rgc_commands.specs.declared.outlines.TheConstants.{MOST_STEPS}
@@ -112,10 +113,10 @@ AreFilesRefused (Explain _) files e = ⊥
 
 -- the code of files isn't had, or that of an outline, as settings ask for it
 abbrev pub LacksCodeOfFiles : Settings → Bool → Files → List ℕ → Type 0
-LacksCodeOfFiles s in_c files lines = OfThree files (λ text derivation proofs. LacksCode (IsBuiltInPieces text derivation proofs) s.erase [] s.priority in_c lines)
+LacksCodeOfFiles s in_c files lines = OfThree files (λ text derivation proofs. LacksCode (IsBuiltInPieces text derivation proofs) s.erase [] (said s.priority) in_c lines)
 
 abbrev pub LacksCodeOfOutline : Settings → Bool → List ℕ → OutlineFiles → Type 0
-LacksCodeOfOutline s in_c lines outline = LacksCode (IsBuiltOutline outline) s.erase (auxiliary_of s.keeps_aux outline) s.priority in_c lines
+LacksCodeOfOutline s in_c lines outline = LacksCode (IsBuiltOutline outline) s.erase (auxiliary_of s.keeps_aux outline) (priority_for s.priority outline) in_c lines
 
 -- these lines report that the outline of a command is refused; or that words have to stay, or that there is no C, where the command is about code
 abbrev pub IsFault : Settings → Command → Files → List ℕ → Type 0

@@ -9,6 +9,7 @@ ghost use Rattle.rgc_commands.specs.Flagged.{flags_for};
 ghost use Rattle.rgc_commands.specs.Code.{AreAmong, coded_program, coded_blocks, is_in_c, IsCodeForm, IsPlan, IsPlanned, IsPrinted, IsPrintedAs, shown, title_of};
 ghost use Rattle.rgc_commands.specs.Left.{IsLeftBy, NamesStranger, CantBeErased, HaveToStay, IsUnplanned, LacksPlan};
 ghost use Rattle.rgc_commands.specs.Inner.Stops.{IsFaultStop, IsFormStop};
+ghost use Rattle.rgc_commands.specs.Priority.{said};
 
 use crate::names::{flags_for, stranger};
 use crate::priority::order_for;
@@ -268,8 +269,8 @@ fn planned(
     priority: Option<&str>,
     apart: &[bool],
 ) -> Result<(Vec<Option<Rank>>, Vec<Kind>), Stop>
-    ensures planned { IfOk result (λ r. (some : List Bool) × AreAmong some apart.now × IsPlanned priority.entry r.0.items r.1.items some (program_tree program.now)) }
-    ensures stopped { IfErr result (IsFaultStop (LacksPlan priority.entry (program_tree program.now))) }
+    ensures planned { IfOk result (λ r. (some : List Bool) × AreAmong some apart.now × IsPlanned (said priority.entry) r.0.items r.1.items some (program_tree program.now)) }
+    ensures stopped { IfErr result (IsFaultStop (LacksPlan (said priority.entry) (program_tree program.now))) }
 {
     let order = order_for(alloc, program, priority)?;
     let kinds = kinds_of(alloc, program, &order, apart)?;
@@ -285,8 +286,8 @@ fn form_text<E: Checked>(
     lines: &[u64],
     form: Form<'_>,
 ) -> Result<String, Stop>
-    ensures printed { IfOk result (λ text. (some : List Bool) × AreAmong some apart.now × IsPrintedAs (shown form.entry) priority.entry lines.now some (program_tree (E.program_of left.now)) (E.code_of left.now) (string_bytes text)) }
-    ensures stopped { IfErr result (IsFaultStop (λ lines. (is_in_c (shown form.entry) ≡ true) × LacksPlan priority.entry (program_tree (E.program_of left.now)) lines)) }
+    ensures printed { IfOk result (λ text. (some : List Bool) × AreAmong some apart.now × IsPrintedAs (shown form.entry) (said priority.entry) lines.now some (program_tree (E.program_of left.now)) (E.code_of left.now) (string_bytes text)) }
+    ensures stopped { IfErr result (IsFaultStop (λ lines. (is_in_c (shown form.entry) ≡ true) × LacksPlan (said priority.entry) (program_tree (E.program_of left.now)) lines)) }
 {
     let program = left.program();
     match form {
@@ -311,8 +312,8 @@ pub(crate) fn code_text(
     lines: &[u64],
     form: Form<'_>,
 ) -> Result<String, Stop>
-    ensures printed { IfOk result (λ text. (some : List Bool) × AreAmong some apart.now × IsPrinted (shown form.entry) priority.entry lines.now some code.now (string_bytes text)) }
-    ensures stopped { IfErr result (IsFaultStop (λ lines. (is_in_c (shown form.entry) ≡ true) × LacksPlan priority.entry (coded_program code.now) lines)) }
+    ensures printed { IfOk result (λ text. (some : List Bool) × AreAmong some apart.now × IsPrinted (shown form.entry) (said priority.entry) lines.now some code.now (string_bytes text)) }
+    ensures stopped { IfErr result (IsFaultStop (λ lines. (is_in_c (shown form.entry) ≡ true) × LacksPlan (said priority.entry) (coded_program code.now) lines)) }
 {
     match code {
         Coded::Whole(emitted) => form_text(alloc, emitted, priority, apart, lines, form),

@@ -9,6 +9,7 @@ ghost use Rattle.rgc_commands.specs.Answers.{AsInFiles, AsInOutline, auxiliary_o
 ghost use Rattle.rgc_commands.specs.Code.{coded_program, coded_blocks, is_in_c, shown};
 ghost use Rattle.rgc_commands.specs.Inner.Stops.{IsFilesStop, IsOutlineStop, IsProofStop};
 ghost use Rattle.rgc_commands.specs.Of.{OfOutline, OfThree};
+ghost use Rattle.rgc_commands.specs.Priority.{priority_for, said};
 ghost use Rattle.rgc_commands.specs.Stops.{IsStop, LacksCodeOfOutline};
 ghost use Rattle.rgc_commands.specs.declared.files.Files.{Files as AllFiles};
 
@@ -16,6 +17,7 @@ use crate::answers::{Answer, is_plain};
 use crate::code::{Coded, Form, Ready, code_form, code_text, left_with};
 use crate::files::{Files, inputs, three_files};
 use crate::outlines::{MOST_STEPS, expanded_of, outlined_of, prove};
+use crate::priority::priority_for;
 use crate::stops::Stop;
 use rg_apart::search::Search;
 use rg_code::checked::Checked;
@@ -115,18 +117,12 @@ pub(crate) fn proved_text<R: Threads + Wait + Sync, P: Watcher + Copy>(
     notes: &mut Vec<u8>,
 ) -> Result<String, Stop>
     requires { IsProvedOf outlined.now.files proved }
-    ensures text { IfOk result (λ text. HasCode (IsLeftOfOutline settings.now.erase settings.now.keeps_aux outlined.now.files) AsInOutline settings.now.priority (shown form.entry) (string_bytes text)) }
+    ensures text { IfOk result (λ text. HasCode (IsLeftOfOutline settings.now.erase settings.now.keeps_aux outlined.now.files) AsInOutline (priority_for settings.now.priority outlined.now.files) (shown form.entry) (string_bytes text)) }
     ensures stopped { (steps : ℕ) → IfErr result (IsProofStop outlined.now.files steps (λ lines. LacksCodeOfOutline settings.now (is_in_c (shown form.entry)) lines outlined.now.files)) }
 {
     let (code, apart, lines) = left_of_outline(context, settings, form, outlined, proved, notes)?;
-    code_text(
-        context.alloc,
-        &code,
-        settings.priority,
-        &apart,
-        &lines,
-        form,
-    )
+    let priority = priority_for(settings, outlined);
+    code_text(context.alloc, &code, priority, &apart, &lines, form)
 }
 
 /// The text of the code of files, in a form.
@@ -137,7 +133,7 @@ fn files_text<R: Threads + Wait + Sync, P>(
     files: &Files<'_>,
     notes: &mut Vec<u8>,
 ) -> Result<String, Stop>
-    ensures text { IfOk result (λ text. OfThree files.now (λ t d p. HasCode (IsLeftOfFiles settings.now.erase t d p) AsInFiles settings.now.priority (shown form.entry) (string_bytes text))) }
+    ensures text { IfOk result (λ text. OfThree files.now (λ t d p. HasCode (IsLeftOfFiles settings.now.erase t d p) AsInFiles (said settings.now.priority) (shown form.entry) (string_bytes text))) }
     ensures stopped { IfErr result (IsFilesStop settings.now (is_in_c (shown form.entry)) files.now) }
 {
     let code = left_of_files(context, settings, files, notes)?;
@@ -152,7 +148,7 @@ fn outline_text<R: Threads + Wait + Sync, P: Watcher + Copy + Sync>(
     files: &Files<'_>,
     notes: &mut Vec<u8>,
 ) -> Result<String, Stop>
-    ensures text { IfOk result (λ text. OfOutline files.now (λ o. HasCode (IsLeftOfOutline settings.now.erase settings.now.keeps_aux o) AsInOutline settings.now.priority (shown form.entry) (string_bytes text))) }
+    ensures text { IfOk result (λ text. OfOutline files.now (λ o. HasCode (IsLeftOfOutline settings.now.erase settings.now.keeps_aux o) AsInOutline (priority_for settings.now.priority o) (shown form.entry) (string_bytes text))) }
     ensures stopped { IfErr result (IsOutlineStop files.now (LacksCodeOfOutline settings.now (is_in_c (shown form.entry)))) }
 {
     let outlined = outlined_of(context.alloc, files)?;

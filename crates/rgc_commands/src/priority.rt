@@ -1,16 +1,18 @@
-//! Which parts run on one core, and which interrupt which there, as a word of the line says: `isr > main, dma > net`.
+//! Which parts run on one core, and which interrupt which there, as a text says: `isr > main, dma > net`.
 
 ghost use Rattle.std.specs.Prelude.{◌≡◌, ◌++◌, None, Some, find, is_some, map, option_map, IfOk, IfErr, OnOk};
 ghost use Rattle.rg_tree.specs.ProgramView.{part as part_tree};
 ghost use Rattle.rg_tree.specs.ProgramTrees.{program as program_tree};
-ghost use Rattle.rgc_commands.specs.Priority.{trimmed, cores_in, names_on, named_on, named_from, named_in, rank_named, ranks_of, is_alone, first_twice, is_part, first_stranger, alone_line, twice_line, stranger_line, fault_among, fault_in, misordered, IsOrdered};
+ghost use Rattle.rgc_commands.specs.Priority.{trimmed, cores_in, names_on, named_on, named_from, named_in, rank_named, ranks_of, is_alone, first_twice, is_part, first_stranger, alone_line, twice_line, stranger_line, fault_among, fault_in, misordered, IsOrdered, priority_for, said};
 ghost use Rattle.rgc_commands.specs.Inner.Named.{named};
 ghost use Rattle.rgc_commands.specs.Inner.Stops.{IsFaultStop};
 
 use crate::stops::Stop;
 use rg_c_plan::order::Rank;
+use rg_outline_reports::Outlined;
 use rg_tree::part::Part;
 use rg_tree::program::Program;
+use rgc_line::Settings;
 use std::alloc::{AllocError, Global};
 
 /// A part that is named, and its rank.
@@ -234,14 +236,28 @@ fn order_in(
     }
 }
 
+/// Which parts of an outline interrupt which: as the settings say, else as it says itself; none where neither says anything.
+pub(crate) fn priority_for<'a>(
+    settings: &Settings<'a>,
+    outlined: &'a Outlined<'_>,
+) -> Option<&'a str>
+    ensures { said result ≡ priority_for settings.now.priority outlined.now.files }
+{
+    if settings.priority.is_some() {
+        return settings.priority;
+    }
+    let own = outlined.files.priority.as_str();
+    if own.is_empty() { None } else { Some(own) }
+}
+
 /// The rank of each part of a program, as a text says, where there is one; none else.
 pub(crate) fn order_for(
     alloc: Global,
     program: &Program,
     priority: Option<&str>,
 ) -> Result<Vec<Option<Rank>>, Stop>
-    ensures order { IfOk result (λ order. IsOrdered priority.entry (program_tree program.now) order.items) }
-    ensures stopped { IfErr result (IsFaultStop (λ lines. misordered (program_tree program.now) priority.entry ≡ Some lines)) }
+    ensures order { IfOk result (λ order. IsOrdered (said priority.entry) (program_tree program.now) order.items) }
+    ensures stopped { IfErr result (IsFaultStop (λ lines. misordered (program_tree program.now) (said priority.entry) ≡ Some lines)) }
 {
     let Some(text) = priority else {
         return Ok(Vec::new(alloc));

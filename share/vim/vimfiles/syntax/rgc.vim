@@ -8,6 +8,7 @@ syntax keyword rgcStatement skip await do if then else while atomic for
 syntax keyword rgcOperator not and or implies iff inv band bor bxor shl shr unchanged keeps all some sum
 syntax keyword rgcConstant true false
 syntax match rgcSection /\<aux\ze\s\+\h/
+syntax match rgcSection /\<interrupts\ze\s\+\h/
 syntax match rgcSection /\<use\ze\s*\"/
 syntax match rgcOperator /\h\w*\s\+\zsin\ze\s/
 syntax match rgcOperator /\s\zs\%(but\|mod\)\ze\s/

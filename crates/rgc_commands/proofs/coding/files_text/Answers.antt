@@ -4,6 +4,7 @@ use Rattle.rgc_commands.specs.Answers.{AsInFiles, HasCode, IsLeftOfFiles}
 use Rattle.std.specs.Prelude.{string_bytes}
 use Rattle.rgc_commands.specs.Code.{is_in_c, shown}
 use Rattle.rgc_commands.specs.Inner.Stops.{IsFilesStop}
+use Rattle.rgc_commands.specs.Priority.{said}
 use Rattle.rgc_commands.proofs.Printing.{files_code, files_lack}
 use Rattle.rgc_commands.proofs.Stopping.{code_stop}
 use Rattle.rgc_commands.proofs.coding.files_text.Goals as goal
@@ -15,8 +16,8 @@ returns-in_err-code-clause-stopped g c =
 
 pub returns-clause-text : goal.returns-clause-text
 returns-clause-text g c =
-    IfOk-weaker c.code_text.result _ (λ text. OfThree c.args.files.now (λ t d p. HasCode (IsLeftOfFiles c.args.settings.now.erase t d p) AsInFiles c.args.settings.now.priority (shown c.args.form) (string_bytes text)))
-    (λ text printed. files_code c.args.settings.now.erase c.args.settings.now.priority c.args.files.now c.in_ok-code.code _ _ c.in_ok-code.ensures.left printed.0 printed.1 printed.2) c.code_text.ensures.printed
+    IfOk-weaker c.code_text.result _ (λ text. OfThree c.args.files.now (λ t d p. HasCode (IsLeftOfFiles c.args.settings.now.erase t d p) AsInFiles (said c.args.settings.now.priority) (shown c.args.form) (string_bytes text)))
+    (λ text printed. files_code c.args.settings.now.erase (said c.args.settings.now.priority) c.args.files.now c.in_ok-code.code _ _ c.in_ok-code.ensures.left printed.0 printed.1 printed.2) c.code_text.ensures.printed
 
 pub returns-clause-stopped : goal.returns-clause-stopped
 returns-clause-stopped g c =

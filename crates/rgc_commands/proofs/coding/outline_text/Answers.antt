@@ -4,6 +4,7 @@ use Rattle.rgc_commands.specs.Answers.{AsInOutline, HasCode, IsLeftOfOutline}
 use Rattle.std.specs.Prelude.{string_bytes}
 use Rattle.rgc_commands.specs.Code.{is_in_c, shown}
 use Rattle.rgc_commands.specs.Inner.Stops.{IsOutlineStop, NoFault}
+use Rattle.rgc_commands.specs.Priority.{priority_for}
 use Rattle.rgc_commands.specs.Stops.{LacksCodeOfOutline}
 use Rattle.rgc_commands.specs.declared.outlines.TheConstants.{MOST_STEPS}
 use Rattle.rgc_commands.proofs.Outlining.{no_outline}
@@ -24,7 +25,7 @@ returns-in_err-proved-clause-stopped g c =
 
 pub returns-clause-text : goal.returns-clause-text
 returns-clause-text g c =
-    IfOk-weaker c.proved_text.result _ (λ text. OfOutline c.args.files.now (λ o. HasCode (IsLeftOfOutline c.args.settings.now.erase c.args.settings.now.keeps_aux o) AsInOutline c.args.settings.now.priority (shown c.args.form) (string_bytes text)))
+    IfOk-weaker c.proved_text.result _ (λ text. OfOutline c.args.files.now (λ o. HasCode (IsLeftOfOutline c.args.settings.now.erase c.args.settings.now.keeps_aux o) AsInOutline (priority_for c.args.settings.now.priority o) (shown c.args.form) (string_bytes text)))
     (λ text has. rw c.in_ok-outlined.ensures.files has) c.proved_text.ensures.text
 
 pub returns-clause-stopped : goal.returns-clause-stopped

@@ -3,6 +3,7 @@ use Rattle.std.specs.Prelude.{string_bytes}
 use Rattle.std.proofs.lemmas.Result.{err_from_is_err_and}
 use Rattle.rgc_commands.specs.Answers.{AsInOutline, HasCode, IsLeftOfOutline}
 use Rattle.rgc_commands.specs.Code.{accesses}
+use Rattle.rgc_commands.specs.Priority.{priority_for}
 use Rattle.rgc_commands.specs.Stops.{LacksCodeOfOutline}
 use Rattle.rgc_commands.proofs.Stopping.{proof_stop_more}
 use Rattle.rgc_commands.proofs.outlines.more_of.Goals as goal
@@ -15,4 +16,4 @@ returns-in_err-text-clause-stopped g c = λ steps.
 pub returns-clause-more : goal.returns-clause-more
 returns-clause-more g c =
     let same : c.into_bytes.result.items ≡ string_bytes c.in_ok-text.text = ap (λ v. v.items) c.into_bytes.ensures.value in
-    λ wanted. subst (λ (bytes : List ℕ). HasCode (IsLeftOfOutline c.args.settings.now.erase c.args.settings.now.keeps_aux c.args.outlined.now.files) AsInOutline c.args.settings.now.priority accesses bytes) (sym same) c.in_ok-text.ensures.text
+    λ wanted. subst (λ (bytes : List ℕ). HasCode (IsLeftOfOutline c.args.settings.now.erase c.args.settings.now.keeps_aux c.args.outlined.now.files) AsInOutline (priority_for c.args.settings.now.priority c.args.outlined.now.files) accesses bytes) (sym same) c.in_ok-text.ensures.text
