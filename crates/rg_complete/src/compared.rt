@@ -3,7 +3,7 @@
 use crate::atoms::Atom;
 use crate::equations::replaced;
 use crate::gathered::{COMPARISONS, Gathering, fits};
-use rg_outline_syntax::Span;
+use rg_outline_syntax::{Span, push_count};
 use std::alloc::AllocError;
 
 /// The greatest widths of words that are compared with each number, of the part's own and of others.
@@ -44,10 +44,11 @@ impl Gathering<'_> {
                 if !fits {
                     continue;
                 }
-                let number = format!(in self.alloc; "{number}")?;
+                let mut digits = Vec::new(self.alloc);
+                push_count(&mut digits, *number)?;
                 for sign in signs.unwrap_or(&[]) {
                     self.atoms
-                        .add_joined(&word.text, sign, number.as_bytes(), word.is_own)?;
+                        .add_joined(&word.text, sign, &digits, word.is_own)?;
                 }
             }
         }

@@ -10,7 +10,7 @@ use crate::trial::rounds_of;
 use crate::words::{Family, PartWord, family_of, width_in, words_of};
 use rg_outline_syntax::{
     Binder, Comparison, Conditional, ExpressionKind, Head, HeadKind, ItemKind, Junction, Kind, Let,
-    List, PartWritten, Span, Texts, Tokens, Written,
+    List, PartWritten, Span, Texts, Tokens, Written, push_number,
 };
 use std::alloc::{AllocError, Global};
 
@@ -224,8 +224,9 @@ impl<'a> Gathering<'a> {
             return Ok(());
         };
         for number in bounds.0..bounds.1.saturating_add(1) {
-            let text = format!(in self.alloc; "{number}")?;
-            self.open_at(job, index, body, text.as_bytes())?;
+            let mut text = Vec::new(self.alloc);
+            push_number(&mut text, i128::from(number))?;
+            self.open_at(job, index, body, &text)?;
         }
         Ok(())
     }

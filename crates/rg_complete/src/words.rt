@@ -1,7 +1,9 @@
 //! The words of a part, as the part names them.
 
 use crate::numbers::{bounds_of, number_of, size_of};
-use rg_outline_syntax::{Declaration, ExpressionKind, HeadKind, PartWritten, Span, Written};
+use rg_outline_syntax::{
+    Declaration, ExpressionKind, HeadKind, PartWritten, Span, Written, push_number,
+};
 use std::alloc::{AllocError, Global};
 
 /// The most members of a family that are each named by themselves.
@@ -43,7 +45,8 @@ pub(crate) fn family_of(
     {
         let sum = bounds.0.saturating_add(bounds.1);
         let mut text = Vec::new(alloc);
-        text.extend_from_slice(format!(in alloc; "{sum} - ")?.as_bytes())?;
+        push_number(&mut text, i128::from(sum))?;
+        text.extend_from_slice(b" - ")?;
         text.extend_from_slice(index.of(source))?;
         other = Some(text);
     }
@@ -120,8 +123,9 @@ impl PartWords<'_> {
             return Ok(());
         }
         for number in bounds.0..bounds.1.saturating_add(1) {
-            let index = format!(in self.alloc; "{number}")?;
-            self.add_member(declaration.name, index.as_bytes(), width, is_own)?;
+            let mut index = Vec::new(self.alloc);
+            push_number(&mut index, i128::from(number))?;
+            self.add_member(declaration.name, &index, width, is_own)?;
         }
         Ok(())
     }
@@ -235,7 +239,9 @@ pub fn some_word(
         let Some((first, _)) = bounds_of(written, source, *range) else {
             return Ok(None);
         };
-        text.extend_from_slice(format!(in alloc; "[{first}]")?.as_bytes())?;
+        text.push(b'[')?;
+        push_number(&mut text, i128::from(first))?;
+        text.push(b']')?;
     }
     Ok(Some(text))
 }
