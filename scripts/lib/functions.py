@@ -53,20 +53,38 @@ def key(function):
     return function[:4]
 
 
-def names_of(function, crate, known):
-    """Returns those of the names that a check knows that are the function's and its closures'. Takes the function's key.
-
-    A method lies in its type's module, which can be another file's."""
-    file, owner, name, _ = function
+def owner_of(owner):
+    """Returns the words of the trait and those of the type of the innermost impl or trait in these heads, and an empty list for each that isn't there."""
     head = re.search(r"\b(impl|trait)\b(?!.*\b(?:impl|trait)\b)(.*)", re.sub(r"\bwhere\b.*", "", owner, flags=re.S), re.S)
     owner = re.sub(r"\w+::|'\w+|\b(?:mut|dyn)\b|->", "", head[2]) if head else ""
     if owner.startswith("<"):
         depths = [owner[: at + 1].count("<") - owner[: at + 1].count(">") for at in range(len(owner))]
         owner = owner[depths.index(0) + 1 :]
     made, _, of = owner.rpartition(" for ")
-    made, of = re.findall(r"\w+", made), re.findall(r"\w+", of)
+    return re.findall(r"\w+", made), re.findall(r"\w+", of)
+
+
+def path_of(file):
+    """Returns the path of a file's module below its crate, empty for the crate's own."""
     path = re.sub(r"^src/|(/mod)?\.rt$", "", file).replace("/", "::")
-    module = crate + ("" if path in ("lib", "main") else f"::{path}")
+    return "" if path in ("lib", "main") else path
+
+
+def end_of(function):
+    """Returns the end of the name that a check has for a function. Takes the function's key."""
+    file, owner, name, _ = function
+    made, of = owner_of(owner)
+    place = f"{of[0]}{''.join(made[:2])}" if of else path_of(file)
+    return f"{place}::{name}".removeprefix("::")
+
+
+def names_of(function, crate, known):
+    """Returns those of the names that a check knows that are the function's and its closures'. Takes the function's key.
+
+    A method lies in its type's module, which can be another file's."""
+    file, owner, name, _ = function
+    made, of = owner_of(owner)
+    module = f"{crate}::{path_of(file)}".removesuffix("::")
     place = rf"{crate}::(?:\w+::)*{of[0]}" if of else rf"{module}(?:::[a-z]\w*)*?"
     # (From<A> and From<B> of one type are FromA and FromB; a drop has its type alone, and some impl Type<A> is Type+A)
     exact = rf"\w*{''.join(made[:2])}" if made else ""
