@@ -17,9 +17,10 @@ pub struct Added {
 #[derive(Drop)]
 pub struct Completion {
     pub source: Vec<u8>,
-    /// The assertions that were added to it, and the conjuncts of its invariant.
+    /// The assertions that were added to it, the conjuncts of its invariant, and those of the relies of its parts.
     pub(crate) assertions: Vec<Added>,
     pub(crate) conjuncts: Vec<Added>,
+    pub(crate) relies: Vec<Added>,
 }
 
 /// The formulas that were added to an outline.
@@ -64,7 +65,7 @@ fn listed(alloc: Global, added: &[Added]) -> Result<Value, AllocError> {
 }
 
 impl Completion {
-    /// How many assertions, and conjuncts of the invariant, were found, in lines.
+    /// How many assertions, conjuncts of the invariant, and conjuncts of relies were found, in lines.
     ///
     /// # Errors
     ///
@@ -86,10 +87,19 @@ impl Completion {
                 b" conjuncts of the invariant were found: read what they say\n",
             )?;
         }
+        if !self.relies.is_empty() {
+            push_said(
+                &mut text,
+                self.relies.len(),
+                b" conjunct of a rely was found: read what it says\n",
+                b" conjuncts of relies were found: read what they say\n",
+            )?;
+        }
         Ok(text)
     }
 
-    /// Which assertions, and conjuncts of the invariant, were found and where they stand, as a JSON value in a line of its own.
+    /// Which assertions, conjuncts of the invariant, and conjuncts of relies were found and where they stand, as a JSON value in a line of its own. It speaks of
+    /// relies where some were found.
     ///
     /// # Errors
     ///
@@ -98,8 +108,12 @@ impl Completion {
         let (found, conjuncts) = (self.assertions.len(), self.conjuncts.len());
         let assertions = listed(alloc, &self.assertions)?;
         let invariant = listed(alloc, &self.conjuncts)?;
-        let value =
-            json!(in alloc; {"assertions": assertions, "conjuncts": conjuncts, "found": found, "invariant": invariant, "kind": "completed"})?;
+        let value = if self.relies.is_empty() {
+            json!(in alloc; {"assertions": assertions, "conjuncts": conjuncts, "found": found, "invariant": invariant, "kind": "completed"})?
+        } else {
+            let relies = listed(alloc, &self.relies)?;
+            json!(in alloc; {"assertions": assertions, "conjuncts": conjuncts, "found": found, "invariant": invariant, "kind": "completed", "relies": relies})?
+        };
         let mut text = value.to_string(alloc)?;
         text.push_str("\n")?;
         Vec::from_slice(alloc, text.as_bytes())

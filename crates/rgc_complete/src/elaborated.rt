@@ -23,7 +23,7 @@ pub(crate) struct Instance {
     pub(crate) scope: usize,
     /// The part of the text, and the words that it owns, as bits.
     pub(crate) part: usize,
-    owned: u64,
+    pub(crate) owned: u64,
     /// Each formula as the text has it; empty where it is out.
     pub(crate) texts: Texts,
     pub(crate) formulas: Vec<Option<Formula>>,
@@ -238,7 +238,7 @@ fn cost_of(text: &[u8], has_index: bool) -> usize {
 }
 
 /// The words that no step changes, as bits.
-fn fixed_words(layout: &Layout) -> u64 {
+pub(crate) fn fixed_words(layout: &Layout) -> u64 {
     let mut bits = 0u64;
     for word in 0..layout.len() {
         if layout.is_fixed(word) {

@@ -61,6 +61,7 @@ impl Thinning<'_> {
             source: made.source,
             assertions,
             conjuncts: Vec::new(alloc),
+            relies: Vec::new(alloc),
         })
     }
 

@@ -30,7 +30,7 @@ struct Conjunct {
 
 /// What a search for assertions came to.
 #[derive(Drop)]
-enum Attempt {
+pub(crate) enum Attempt {
     Holds,
     Fails(Failure),
     /// The outline can't be worked out.
@@ -53,7 +53,7 @@ struct Strengthening<'a, P> {
 }
 
 /// Searches for the assertions of an outline.
-fn attempted<P: Watcher + Copy>(
+pub(crate) fn attempted<P: Watcher + Copy>(
     alloc: Global,
     source: &[u8],
     watcher: P,
@@ -159,6 +159,7 @@ impl<P: Watcher + Copy> Strengthening<'_, P> {
             source: made.source,
             assertions: Vec::new(alloc),
             conjuncts,
+            relies: Vec::new(alloc),
         })
     }
 
@@ -288,25 +289,20 @@ fn strengthened<P: Watcher + Copy>(
     Ok(Some(strengthening.completion()?))
 }
 
-/// Searches for conjuncts of the invariant and for assertions that an outline lacks. Where none are found, what is reported is so of the outline as it stands.
-///
-/// # Errors
-///
-/// Where memory is refused, or where more decisions are asked than a search may make.
-pub fn complete_with_invariant<R: Threads + Wait + Sync, P: Watcher + Copy + Sync>(
+/// Searches for assertions that an outline lacks to which this was added; where none are found, what is reported is so of the outline as it stands.
+pub(crate) fn complete_over<R: Threads + Wait + Sync, P: Watcher + Copy + Sync>(
     context: &Context<'_, R, P>,
     outlined: &Outlined<'_>,
+    added: Completion,
     steps: u64,
 ) -> Result<Completed, Refusal> {
     let alloc = context.alloc;
-    let Some(stronger) = strengthened(alloc, outlined, *context.watcher)? else {
-        return complete(context, outlined, steps);
-    };
     let Completion {
         source,
         conjuncts,
+        relies,
         ..
-    } = stronger;
+    } = added;
     let outline = OutlineSource {
         source: &source,
         ..outlined.outline
@@ -322,7 +318,24 @@ pub fn complete_with_invariant<R: Threads + Wait + Sync, P: Watcher + Copy + Syn
             source: found.source,
             assertions: found.assertions,
             conjuncts,
+            relies,
         })),
         _ => complete(context, outlined, steps),
+    }
+}
+
+/// Searches for conjuncts of the invariant and for assertions that an outline lacks. Where none are found, what is reported is so of the outline as it stands.
+///
+/// # Errors
+///
+/// Where memory is refused, or where more decisions are asked than a search may make.
+pub fn complete_with_invariant<R: Threads + Wait + Sync, P: Watcher + Copy + Sync>(
+    context: &Context<'_, R, P>,
+    outlined: &Outlined<'_>,
+    steps: u64,
+) -> Result<Completed, Refusal> {
+    match strengthened(context.alloc, outlined, *context.watcher)? {
+        Some(stronger) => complete_over(context, outlined, stronger, steps),
+        None => complete(context, outlined, steps),
     }
 }

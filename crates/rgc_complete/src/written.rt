@@ -19,7 +19,7 @@ fn push_enclosed(text: &mut Vec<u8>, formula: &[u8], is_enclosed: bool) -> Resul
 }
 
 /// Adds a formula that is tried.
-fn push_atom(
+pub(crate) fn push_atom(
     text: &mut Vec<u8>,
     family: &FamilyAtoms,
     atom: usize,

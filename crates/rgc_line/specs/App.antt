@@ -102,6 +102,10 @@ accesses = field Flag "accesses"
 abbrev pub complete : Rule
 complete = field Flag "complete"
 
+-- whether conjuncts of the relies of parts are searched for, too
+abbrev pub relies : Rule
+relies = field Flag "relies"
+
 -- the settings that are numbers
 abbrev pub number_settings : List Rule
 number_settings = threads ∷ seconds ∷ []
@@ -124,7 +128,7 @@ row_of Clauses = leaf (codes "clauses") (field File "TEXT" ∷ derivation_files 
 row_of Find = leaf (codes "find") (field File "TEXT" ∷ derivation_files ∷ condition ∷ field NumberOrMillion "steps" ∷ seconds ∷ output ∷ explained ∷ [])
 row_of Outline = leaf (codes "outline") (field File "OUTLINE" ∷ field OptionalNumber "steps" ∷ field OptionalFile "text" ∷ derivation_files ∷ field RepeatedFile "proofs" ∷ field OptionalFile "map" ∷ threads ∷ seconds ∷ [])
 row_of Verify = leaf (codes "verify") (field Files "OUTLINE" ∷ field OptionalNumber "steps" ∷ field Flag "runs-only" ∷ field OptionalFile "text" ∷ threads ∷ seconds ∷ format ∷ warnings ∷ accesses ∷ priority ∷ complete ∷ [])
-row_of Complete = leaf (codes "complete") (field File "OUTLINE" ∷ field OptionalNumber "steps" ∷ field Flag "invariant" ∷ field Flag "in-place" ∷ threads ∷ seconds ∷ format ∷ warnings ∷ [])
+row_of Complete = leaf (codes "complete") (field File "OUTLINE" ∷ field OptionalNumber "steps" ∷ field Flag "invariant" ∷ field Flag "in-place" ∷ threads ∷ seconds ∷ format ∷ warnings ∷ relies ∷ [])
 row_of Challenge = leaf (codes "challenge") (field File "OUTLINE" ∷ field Flag "refused" ∷ threads ∷ seconds ∷ format ∷ [])
 row_of Explain = leaf (codes "explain") (field NeededNumber "NUMBER" ∷ [])
 
@@ -184,3 +188,4 @@ pub record HasSettings (rows : List Row) (settings : Settings) : Type 0 where
   pub priority : HasValue rows priority.id (optional file settings.priority)
   pub accesses : HasValue rows accesses.id (flag settings.has_accesses)
   pub complete : HasValue rows complete.id (flag settings.is_completed)
+  pub relies : HasValue rows relies.id (flag settings.finds_relies)

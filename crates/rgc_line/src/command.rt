@@ -8,7 +8,7 @@ ghost use Rattle.rgc_line.specs.Named.{named};
 ghost use Rattle.rgc_line.specs.declared.fields.FieldFault.TheVariants.{UnknownFormat};
 
 use crate::commands::{
-    COMPLETED, ERASE, EXPLAINED, FORMAT, KEEP_AUX, OUTPUT, PREFIX, PRIORITY, SECONDS, SEED,
+    COMPLETED, ERASE, EXPLAINED, FORMAT, KEEP_AUX, OUTPUT, PREFIX, PRIORITY, RELIES, SECONDS, SEED,
     SHOWN_ACCESSES, THREADS, TRACED, WARNINGS,
 };
 use crate::fields::{FieldFault, is_given, number_or_none, option};
@@ -78,6 +78,8 @@ pub struct Settings<'a> {
     pub has_accesses: bool,
     /// Whether assertions that an outline lacks are searched for first.
     pub is_completed: bool,
+    /// Whether conjuncts of the relies of parts are searched for, too.
+    pub finds_relies: bool,
 }
 
 /// The settings where nothing is asked for.
@@ -98,6 +100,7 @@ pub const PLAIN: Settings<'static> = Settings {
     priority: None,
     has_accesses: false,
     is_completed: false,
+    finds_relies: false,
 };
 
 /// The format; without a word for it, lines to be read.
@@ -160,6 +163,7 @@ pub fn settings_of<'a>(matches: &ArgMatches<'a>) -> Result<Settings<'a>, FieldFa
         priority: option(matches, PRIORITY.id),
         has_accesses: is_given(matches, SHOWN_ACCESSES.id),
         is_completed: is_given(matches, COMPLETED.id),
+        finds_relies: is_given(matches, RELIES.id),
     })
 }
 

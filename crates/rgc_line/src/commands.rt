@@ -162,6 +162,8 @@ pub const SHOWN_ACCESSES: Field = field!(Flag "accesses");
 
 pub const COMPLETED: Field = field!(Flag "complete");
 
+pub const RELIES: Field = field!(Flag "relies");
+
 /// The commands, in the order in which the help lists them.
 pub static COMMANDS: [Row; 15] = [
     Row {
@@ -333,6 +335,7 @@ pub static COMMANDS: [Row; 15] = [
             SECONDS,
             FORMAT,
             WARNINGS,
+            RELIES,
         ],
     },
     Row {

@@ -468,6 +468,11 @@ Example:
              keeps, so read what is found",
         ),
         (
+            "relies",
+            "search for conjuncts of the relies of parts, too: they say what the\n\
+             others keep, so read what is found",
+        ),
+        (
             "in-place",
             "rewrite the file, in place of printing the outline",
         ),

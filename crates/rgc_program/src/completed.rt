@@ -5,7 +5,9 @@ use rg_outline_reports::{OutlineSource, Outlined};
 use rg_outline_syntax::own_start;
 use rg_words::{Refusal, RefusalNumber};
 use rgc_commands::{Context, Given, Sides};
-use rgc_complete::{Completed, Completion, complete, complete_with_invariant};
+use rgc_complete::{
+    Completed, Completion, complete, complete_with_invariant, complete_with_relies,
+};
 use rgc_line::{Command, Format, Line, Outlines};
 use rgc_system::{Memory, Output, Terminal, report, report_failure, write_outputs};
 use std::alloc::AllocError;
@@ -220,6 +222,11 @@ fn searched<R: Threads + Wait + Sync>(
         threads: call.most,
         watcher: &watcher,
     };
+    if line.settings.finds_relies
+        && let Completed::Found(found) = complete_with_relies(&context, outlined, steps_of(line))?
+    {
+        return Ok(Completed::Found(found));
+    }
     match line.command {
         Command::Complete {
             finds_invariant: true,

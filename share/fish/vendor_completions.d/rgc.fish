@@ -98,6 +98,7 @@ complete -c rgc -n '__fish_seen_subcommand_from complete' -l threads -x -d 'the 
 complete -c rgc -n '__fish_seen_subcommand_from complete' -l seconds -x -d 'the most seconds of all searches: what has no answer then is given up'
 complete -c rgc -n '__fish_seen_subcommand_from complete' -l format -x -a 'plain json' -d 'plain: lines, as without the option; json: one JSON value a line'
 complete -c rgc -n '__fish_seen_subcommand_from complete' -l warnings -x -a 'error off' -d 'error: the status is 1 where a warning is given; off: none is given'
+complete -c rgc -n '__fish_seen_subcommand_from complete' -l relies -f -d 'search for conjuncts of the relies of parts, too: they say what the others keep, so read what is found'
 complete -c rgc -n __fish_use_subcommand -a challenge -d 'Changes a verified outline in small ways, and says which its specification doesn'\''t see'
 complete -c rgc -n '__fish_seen_subcommand_from challenge' -l refused -f -d 'report the other changes too, each with why it isn'\''t proved'
 complete -c rgc -n '__fish_seen_subcommand_from challenge' -l threads -x -d 'the most threads, at most 256; without it one for each processor, and one for small files. What is printed is the same for any number'
