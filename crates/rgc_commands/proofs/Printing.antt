@@ -61,15 +61,17 @@ ready_files names files ready start moves limit left first moving same =
 
 -- what is left of files, or of an outline, has no C
 pub files_lack : (s : Settings) (in_c : Bool) (files : Files) (q : ProgramTree) (blocks : List (List BlockTree))
-    → OfThree files (λ t d p. IsLeftOfFiles s.erase t d p q blocks) → in_c ≡ true → (lines : List ℕ) → LacksPlan (said s.priority) q lines → LacksCodeOfFiles s in_c files lines
+    → OfThree files (λ t d p. IsLeftOfFiles s.erase t d p q blocks) → in_c ≡ true → (lines : List ℕ) → LacksPlan (said s.priority) q [] lines → LacksCodeOfFiles s in_c files lines
 files_lack s in_c files q blocks left asked lines lacks =
-    of_three (λ t d p. IsLeftOfFiles s.erase t d p q blocks) (λ t d p. LacksCode (IsBuiltInPieces t d p) s.erase [] (said s.priority) in_c lines) files
+    of_three (λ t d p. IsLeftOfFiles s.erase t d p q blocks) (λ t d p. LacksCode (IsBuiltInPieces t d p) s.erase [] (said s.priority) in_c [] lines) files
     (λ t d p l. record { program = l.program; whole = l.whole; built = l.built; why = inr (asked, record { left = q; blocks = blocks; is_left = l.is_left; lacks = lacks }) }) left
 
 pub outline_lacks : (s : Settings) (in_c : Bool) (outline : OutlineFiles) (q : ProgramTree) (blocks : List (List BlockTree))
-    → IsLeftOfOutline s.erase s.keeps_aux outline q blocks → in_c ≡ true → (lines : List ℕ) → LacksPlan (priority_for s.priority outline) q lines → LacksCodeOfOutline s in_c lines outline
-outline_lacks s in_c outline q blocks l asked lines lacks =
-    record { program = l.program; whole = l.whole; built = l.built; why = inr (asked, record { left = q; blocks = blocks; is_left = l.is_left; lacks = lacks }) }
+    → IsLeftOfOutline s.erase s.keeps_aux outline q blocks → in_c ≡ true → (priority : Option (List ℕ)) (places lines : List ℕ) → priority ≡ priority_for s.priority outline → LacksPlan priority q places lines
+    → LacksCodeOfOutline s in_c lines outline
+outline_lacks s in_c outline q blocks l asked priority places lines same lacks =
+    let here : LacksPlan (priority_for s.priority outline) q places lines = subst (λ (p : Option (List ℕ)). LacksPlan p q places lines) same lacks in
+    (places, record { program = l.program; whole = l.whole; built = l.built; why = inr (asked, record { left = q; blocks = blocks; is_left = l.is_left; lacks = here }) })
 
 -- no word is left out where none is named or flagged
 pub none_left_out : (words : List Word) (ks : List ℕ) → list_any (λ b. b) (map (is_left_out words None []) ks) ≡ false

@@ -31,16 +31,16 @@ abbrev pub NamesStranger : List Word → Option (Bor (List ℕ)) → List ℕ �
 NamesStranger words None lines = ⊥
 NamesStranger words (Some names) lines = (name : List ℕ) × (stranger words names.now ≡ Some name) × (lines ≡ unknown_line name)
 
--- some words are flagged, and they can't be erased, for a fault that these lines report
-pub record CantBeErased (erased : List Bool) (p : ProgramTree) (lines : List ℕ) : Type 0 where
+-- some words are flagged, and they can't be erased, for a fault that these lines report, with these places for the lines of its text
+pub record CantBeErased (erased : List Bool) (p : ProgramTree) (places lines : List ℕ) : Type 0 where
   pub some : list_any (λ b. b) erased ≡ true
   pub fault : Fault
   pub is : fault_of erased p ≡ Some fault
-  pub told : lines ≡ fault_line p.words fault
+  pub told : lines ≡ fault_line p.words places fault
 
 -- words of a program have to stay: one of the names is that of no word, or those that are named and flagged can't be erased
-abbrev pub HaveToStay : Option (Bor (List ℕ)) → List Bool → ProgramTree → List ℕ → Type 0
-HaveToStay names flagged p lines = NamesStranger p.words names lines ⊎ CantBeErased (flags_for p.words names flagged) p lines
+abbrev pub HaveToStay : Option (Bor (List ℕ)) → List Bool → ProgramTree → List ℕ → List ℕ → Type 0
+HaveToStay names flagged p places lines = NamesStranger p.words names lines ⊎ CantBeErased (flags_for p.words names flagged) p places lines
 
 -- whether some words are erased: it is left without those that are flagged, or whole
 abbrev pub IsLeft : Bool → List Bool → ProgramTree → List (List BlockTree) → ProgramTree → List (List BlockTree) → Type 0
@@ -51,25 +51,25 @@ IsLeft false erased p code q blocks = (q ≡ p) × (blocks ≡ code)
 abbrev pub IsLeftBy : List Bool → ProgramTree → List (List BlockTree) → ProgramTree → List (List BlockTree) → Type 0
 IsLeftBy erased p code q blocks = IsLeft (list_any (λ b. b) erased) erased p code q blocks
 
--- there is no C for a program whose parts interrupt each other so, as these lines report
-abbrev pub IsUnplanned : List (Option Rank) → ProgramTree → List ℕ → Type 0
-IsUnplanned order p lines = (why : Unplanned) × (unplanned p order [] ≡ Some why) × (lines ≡ unplanned_line p.words why)
+-- there is no C for a program whose parts interrupt each other so, as these lines report, with these places for those of its text
+abbrev pub IsUnplanned : List (Option Rank) → ProgramTree → List ℕ → List ℕ → Type 0
+IsUnplanned order p places lines = (why : Unplanned) × (unplanned p order [] ≡ Some why) × (lines ≡ unplanned_line p.words places why)
 
 -- its parts aren't those of which a text says which interrupt which, or there is no C
-abbrev pub LacksPlan : Option (List ℕ) → ProgramTree → List ℕ → Type 0
-LacksPlan priority p lines = (misordered p priority ≡ Some lines) ⊎ IsUnplanned (order_for p priority) p lines
+abbrev pub LacksPlan : Option (List ℕ) → ProgramTree → List ℕ → List ℕ → Type 0
+LacksPlan priority p places lines = (misordered p priority ≡ Some lines) ⊎ IsUnplanned (order_for p priority) p places lines
 
 -- the same of what is left
-pub record HasNoC (IsLeft : ProgramTree → List (List BlockTree) → Type 0) (priority : Option (List ℕ)) (lines : List ℕ) : Type 0 where
+pub record HasNoC (IsLeft : ProgramTree → List (List BlockTree) → Type 0) (priority : Option (List ℕ)) (places lines : List ℕ) : Type 0 where
   pub left : ProgramTree
   pub blocks : List (List BlockTree)
   pub is_left : IsLeft left blocks
-  pub lacks : LacksPlan priority left lines
+  pub lacks : LacksPlan priority left places lines
 
 -- the code of a program that is built isn't had without words that are named and flagged: these have to stay; or C is asked for, with such an order of the parts, and what
--- is left has none
-pub record LacksCode (IsBuilt : ProgramTree → List (List BlockTree) → Type 0) (names : Option (Bor (List ℕ))) (flagged : List Bool) (priority : Option (List ℕ)) (in_c : Bool) (lines : List ℕ) : Type 0 where
+-- is left has none; these places stand for the lines of its text
+pub record LacksCode (IsBuilt : ProgramTree → List (List BlockTree) → Type 0) (names : Option (Bor (List ℕ))) (flagged : List Bool) (priority : Option (List ℕ)) (in_c : Bool) (places lines : List ℕ) : Type 0 where
   pub program : ProgramTree
   pub whole : List (List BlockTree)
   pub built : IsBuilt program whole
-  pub why : HaveToStay names flagged program lines ⊎ ((in_c ≡ true) × HasNoC (IsLeftBy (flags_for program.words names flagged) program whole) priority lines)
+  pub why : HaveToStay names flagged program places lines ⊎ ((in_c ≡ true) × HasNoC (IsLeftBy (flags_for program.words names flagged) program whole) priority places lines)

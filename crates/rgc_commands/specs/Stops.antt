@@ -111,12 +111,13 @@ AreFilesRefused (Complete _ _ _ _) files e = ⊥
 AreFilesRefused (Challenge _ _) files e = OfOutline files (λ outline. IsVerifyRefusal outline MOST_STEPS e ⊎ ((conditions : ℕ) × IsVerified conditions outline))
 AreFilesRefused (Explain _) files e = ⊥
 
--- the code of files isn't had, or that of an outline, as settings ask for it
+-- the code of files isn't had, or that of an outline, as settings ask for it; what is reported of a line names that of the text, or the one that it has in the outline
 abbrev pub LacksCodeOfFiles : Settings → Bool → Files → List ℕ → Type 0
-LacksCodeOfFiles s in_c files lines = OfThree files (λ text derivation proofs. LacksCode (IsBuiltInPieces text derivation proofs) s.erase [] (said s.priority) in_c lines)
+LacksCodeOfFiles s in_c files lines = OfThree files (λ text derivation proofs. LacksCode (IsBuiltInPieces text derivation proofs) s.erase [] (said s.priority) in_c [] lines)
 
 abbrev pub LacksCodeOfOutline : Settings → Bool → List ℕ → OutlineFiles → Type 0
-LacksCodeOfOutline s in_c lines outline = LacksCode (IsBuiltOutline outline) s.erase (auxiliary_of s.keeps_aux outline) (priority_for s.priority outline) in_c lines
+LacksCodeOfOutline s in_c lines outline =
+    (places : List ℕ) × LacksCode (IsBuiltOutline outline) s.erase (auxiliary_of s.keeps_aux outline) (priority_for s.priority outline) in_c places lines
 
 -- these lines report that the outline of a command is refused; or that words have to stay, or that there is no C, where the command is about code
 abbrev pub IsFault : Settings → Command → Files → List ℕ → Type 0

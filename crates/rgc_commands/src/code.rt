@@ -155,20 +155,21 @@ fn apart_of<P: Watcher + Copy>(
 }
 
 /// What is left of an accepted program without these words, all of it where none is flagged, with flags of the words at which the search finds that its parts are
-/// apart; what is lost is noted.
+/// apart; what is lost is noted. A fault names these lines for those of the text.
 fn left_of<P: Watcher + Copy>(
-    alloc: Global,
     emitted: Emitted,
     flags: &[bool],
     search: Option<Search<'_, P>>,
+    lines: &[u64],
     notes: &mut Vec<u8>,
 ) -> Result<(Coded, Vec<bool>), Stop>
     ensures left { IfOk result (λ r. IsLeftBy flags.now (emitted_program emitted) (emitted_blocks emitted) (coded_program r.0) (coded_blocks r.0)) }
     ensures apart { IfOk result (λ r. PartsAreApart (coded_program r.0) r.1.items) }
-    ensures stopped { IfErr result (IsFaultStop (CantBeErased flags.now (emitted_program emitted))) }
+    ensures stopped { IfErr result (IsFaultStop (CantBeErased flags.now (emitted_program emitted) lines.now)) }
 {
     // The parts of what is left stand where the program's parts stand.
     parts_stand_where_they_stood();
+    let alloc = *notes.allocator();
     if !has_flag(flags) {
         let apart = apart_of(alloc, &emitted, emitted.program(), &[], search)?;
         return Ok((Coded::Whole(emitted), apart));
@@ -181,37 +182,48 @@ fn left_of<P: Watcher + Copy>(
             Ok((Coded::Left(left), apart))
         }
         Err(fault) => {
-            let line = fault_line(alloc, &emitted.program().layout, fault)?;
+            let line = fault_line(alloc, &emitted.program().layout, lines, fault)?;
             Err(Stop::Fault(line.into_bytes()))
         }
     }
 }
 
 /// What is left of an accepted program without the words of these names and those that are flagged, with flags as `left_of` gives them; what is lost is noted.
+/// A fault names these lines for those of the text.
 pub(crate) fn left_with<P: Watcher + Copy>(
-    alloc: Global,
     emitted: Emitted,
     names: Option<&str>,
     flagged: &[bool],
     search: Option<Search<'_, P>>,
+    lines: &[u64],
     notes: &mut Vec<u8>,
 ) -> Result<(Coded, Vec<bool>), Stop>
     ensures left { IfOk result (λ r. IsLeftBy (flags_for (emitted_program emitted).words names.entry flagged.now) (emitted_program emitted) (emitted_blocks emitted) (coded_program r.0) (coded_blocks r.0)) }
     ensures apart { IfOk result (λ r. PartsAreApart (coded_program r.0) r.1.items) }
-    ensures stopped { IfErr result (IsFaultStop (HaveToStay names.entry flagged.now (emitted_program emitted))) }
+    ensures stopped { IfErr result (IsFaultStop (HaveToStay names.entry flagged.now (emitted_program emitted) lines.now)) }
 {
-    let flags = flags_of(alloc, &emitted.program().layout, names, flagged)?;
-    left_of(alloc, emitted, &flags, search, notes)
+    let flags = flags_of(
+        *notes.allocator(),
+        &emitted.program().layout,
+        names,
+        flagged,
+    )?;
+    left_of(emitted, &flags, search, lines, notes)
 }
 
-/// A kind for each word of a program whose parts interrupt each other so, and of which no parts are apart.
-fn plain_kinds(alloc: Global, program: &Program, order: &[Option<Rank>]) -> Result<Vec<Kind>, Stop>
+/// A kind for each word of a program whose parts interrupt each other so, and of which no parts are apart. A fault names these lines for those of the text.
+fn plain_kinds(
+    alloc: Global,
+    program: &Program,
+    order: &[Option<Rank>],
+    lines: &[u64],
+) -> Result<Vec<Kind>, Stop>
     ensures kinds { IfOk result (λ kinds. IsPlan kinds.items order.now [] (program_tree program.now)) }
-    ensures stopped { IfErr result (IsFaultStop (IsUnplanned order.now (program_tree program.now))) }
+    ensures stopped { IfErr result (IsFaultStop (IsUnplanned order.now (program_tree program.now) lines.now)) }
 {
     match plan(alloc, program, order, &[])? {
         Ok(plan) => Ok(plan.kinds),
-        Err(why) => Err(Stop::Fault(unplanned_line(alloc, &program.layout, why)?)),
+        Err(why) => Err(Stop::Fault(unplanned_line(alloc, &program.layout, lines, why)?)),
     }
 }
 
@@ -244,9 +256,10 @@ fn kinds_of(
     program: &Program,
     order: &[Option<Rank>],
     apart: &[bool],
+    lines: &[u64],
 ) -> Result<Vec<Kind>, Stop>
     ensures kinds { IfOk result (λ kinds. (some : List Bool) × AreAmong some apart.now × IsPlan kinds.items order.now some (program_tree program.now)) }
-    ensures stopped { IfErr result (IsFaultStop (IsUnplanned order.now (program_tree program.now))) }
+    ensures stopped { IfErr result (IsFaultStop (IsUnplanned order.now (program_tree program.now) lines.now)) }
 {
     let mut some = Vec::from_slice(alloc, apart)?;
     for _ in 0..apart.len() {
@@ -254,12 +267,12 @@ fn kinds_of(
             Ok(plan) => return Ok(plan.kinds),
             Err(why) => {
                 if !clear_for(&mut some, why) {
-                    return plain_kinds(alloc, program, order);
+                    return plain_kinds(alloc, program, order, lines);
                 }
             }
         }
     }
-    plain_kinds(alloc, program, order)
+    plain_kinds(alloc, program, order, lines)
 }
 
 /// The rank of each part of a program, as a text says, if there is one, and a kind for each word.
@@ -268,12 +281,13 @@ fn planned(
     program: &Program,
     priority: Option<&str>,
     apart: &[bool],
+    lines: &[u64],
 ) -> Result<(Vec<Option<Rank>>, Vec<Kind>), Stop>
     ensures planned { IfOk result (λ r. (some : List Bool) × AreAmong some apart.now × IsPlanned (said priority.entry) r.0.items r.1.items some (program_tree program.now)) }
-    ensures stopped { IfErr result (IsFaultStop (LacksPlan (said priority.entry) (program_tree program.now))) }
+    ensures stopped { IfErr result (IsFaultStop (LacksPlan (said priority.entry) (program_tree program.now) lines.now)) }
 {
     let order = order_for(alloc, program, priority)?;
-    let kinds = kinds_of(alloc, program, &order, apart)?;
+    let kinds = kinds_of(alloc, program, &order, apart, lines)?;
     Ok((order, kinds))
 }
 
@@ -287,17 +301,17 @@ fn form_text<E: Checked>(
     form: Form<'_>,
 ) -> Result<String, Stop>
     ensures printed { IfOk result (λ text. (some : List Bool) × AreAmong some apart.now × IsPrintedAs (shown form.entry) (said priority.entry) lines.now some (program_tree (E.program_of left.now)) (E.code_of left.now) (string_bytes text)) }
-    ensures stopped { IfErr result (IsFaultStop (λ lines. (is_in_c (shown form.entry) ≡ true) × LacksPlan (said priority.entry) (program_tree (E.program_of left.now)) lines)) }
+    ensures stopped { IfErr result (IsFaultStop (λ report. (is_in_c (shown form.entry) ≡ true) × LacksPlan (said priority.entry) (program_tree (E.program_of left.now)) lines.now report)) }
 {
     let program = left.program();
     match form {
         Form::Listing => Ok(listing_text(alloc, left.code())?),
         Form::C(options) => {
-            let (order, kinds) = planned(alloc, program, priority, apart)?;
+            let (order, kinds) = planned(alloc, program, priority, apart, lines)?;
             Ok(header(alloc, program, &order, &kinds, lines, &options)?)
         }
         Form::Accesses => {
-            let (order, kinds) = planned(alloc, program, priority, apart)?;
+            let (order, kinds) = planned(alloc, program, priority, apart, lines)?;
             Ok(report(alloc, program, &order, &kinds, lines)?)
         }
     }
@@ -313,7 +327,7 @@ pub(crate) fn code_text(
     form: Form<'_>,
 ) -> Result<String, Stop>
     ensures printed { IfOk result (λ text. (some : List Bool) × AreAmong some apart.now × IsPrinted (shown form.entry) (said priority.entry) lines.now some code.now (string_bytes text)) }
-    ensures stopped { IfErr result (IsFaultStop (λ lines. (is_in_c (shown form.entry) ≡ true) × LacksPlan (said priority.entry) (coded_program code.now) lines)) }
+    ensures stopped { IfErr result (IsFaultStop (λ report. (is_in_c (shown form.entry) ≡ true) × LacksPlan (said priority.entry) (coded_program code.now) lines.now report)) }
 {
     match code {
         Coded::Whole(emitted) => form_text(alloc, emitted, priority, apart, lines, form),

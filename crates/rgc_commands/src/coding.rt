@@ -61,7 +61,7 @@ fn left_of_files<R: Threads + Wait + Sync, P>(
     };
     let emitted = build_in_pieces(&checker, context.alloc, text, derivation, proofs)?;
     let search: Option<Search<'_, Unwatched>> = None;
-    let (code, _) = left_with(context.alloc, emitted, settings.erase, &[], search, notes)?;
+    let (code, _) = left_with(emitted, settings.erase, &[], search, &[], notes)?;
     Ok(code)
 }
 
@@ -96,14 +96,7 @@ fn left_of_outline<R: Threads + Wait + Sync, P: Watcher + Copy>(
     let lines = lines_of(context.alloc, outlined, emitted.program(), in_header)?;
     let auxiliary = auxiliary_of(settings.keeps_aux, outlined);
     let search = search_for(form, context.watcher);
-    let (code, apart) = left_with(
-        context.alloc,
-        emitted,
-        settings.erase,
-        auxiliary,
-        search,
-        notes,
-    )?;
+    let (code, apart) = left_with(emitted, settings.erase, auxiliary, search, &lines, notes)?;
     Ok((code, apart, lines))
 }
 

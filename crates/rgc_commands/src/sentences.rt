@@ -8,6 +8,7 @@ ghost use Rattle.rgc_commands.specs.Sentences.{unknown_line, fault_line, step_li
 
 use itoa::Buffer;
 use rg_c_plan::planned::Unplanned;
+use rg_c_report::lines::line_shown;
 use rg_erase::{Fault, lost};
 use rg_tree::print::print;
 use rg_tree::tree::Formula;
@@ -36,9 +37,14 @@ fn name_of(layout: &Layout, word: usize) -> &str
     }
 }
 
-/// Why words can't be erased.
-pub(crate) fn fault_line(alloc: Global, layout: &Layout, fault: Fault) -> Result<String, AllocError>
-    ensures { IfOk result (λ line. string_bytes line ≡ fault_line layout.now fault) }
+/// Why words can't be erased, with these lines for those of the text.
+pub(crate) fn fault_line(
+    alloc: Global,
+    layout: &Layout,
+    lines: &[u64],
+    fault: Fault,
+) -> Result<String, AllocError>
+    ensures { IfOk result (λ line. string_bytes line ≡ fault_line layout.now lines.now fault) }
 {
     match fault {
         Fault::NothingLeft => {
@@ -62,7 +68,7 @@ pub(crate) fn fault_line(alloc: Global, layout: &Layout, fault: Fault) -> Result
             let mut digits = Buffer::new();
             format!(in alloc;
                 "error: line {}: {} can't be erased: what stays reads it\n",
-                digits.format(line),
+                digits.format(line_shown(lines, line)),
                 name_of(layout, word)
             )
         }
@@ -70,7 +76,7 @@ pub(crate) fn fault_line(alloc: Global, layout: &Layout, fault: Fault) -> Result
 }
 
 /// The line that reports that no C does the step at this line at once, for this word.
-fn step_line(alloc: Global, layout: &Layout, line: u32, word: usize) -> Result<Vec<u8>, AllocError>
+fn step_line(alloc: Global, layout: &Layout, line: u64, word: usize) -> Result<Vec<u8>, AllocError>
     ensures { IfOk result (λ text. text.items ≡ step_line layout.now line word) }
 {
     let mut digits = Buffer::new();
@@ -83,7 +89,7 @@ fn step_line(alloc: Global, layout: &Layout, line: u32, word: usize) -> Result<V
 }
 
 /// The line that reports that a part which interrupts another one may wait at this line.
-fn wait_line(alloc: Global, line: u32) -> Result<Vec<u8>, AllocError>
+fn wait_line(alloc: Global, line: u64) -> Result<Vec<u8>, AllocError>
     ensures { IfOk result (λ text. text.items ≡ wait_line line) }
 {
     let mut digits = Buffer::new();
@@ -94,17 +100,18 @@ fn wait_line(alloc: Global, line: u32) -> Result<Vec<u8>, AllocError>
     Ok(line.into_bytes())
 }
 
-/// Why there is no C.
+/// Why there is no C, with these lines for those of the text.
 pub(crate) fn unplanned_line(
     alloc: Global,
     layout: &Layout,
+    lines: &[u64],
     why: Unplanned,
 ) -> Result<Vec<u8>, AllocError>
-    ensures { IfOk result (λ line. line.items ≡ unplanned_line layout.now why) }
+    ensures { IfOk result (λ line. line.items ≡ unplanned_line layout.now lines.now why) }
 {
     match why {
-        Unplanned::Step(line, word) => step_line(alloc, layout, line, word),
-        Unplanned::Wait(line) => wait_line(alloc, line),
+        Unplanned::Step(line, word) => step_line(alloc, layout, line_shown(lines, line), word),
+        Unplanned::Wait(line) => wait_line(alloc, line_shown(lines, line)),
     }
 }
 

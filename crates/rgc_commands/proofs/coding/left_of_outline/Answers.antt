@@ -14,7 +14,7 @@ returns-in_err-code-clause-stopped g c = λ steps in_c.
     let outline = c.args.outlined.now.files in
     let p = err_from_is_err_and c.from_residual-in_err-code.result c.from_residual-in_err-code.ensures.1 in
     rw (p.1, p.2)
-    (proof_code_stop outline steps _ (λ lines. LacksCodeOfOutline c.args.settings.now in_c lines outline) c.requires (λ lines stay. record { program = _; whole = _; built = c.in_ok-emitted.ensures.built _ c.requires; why = inl (rw c.auxiliary_of-auxiliary.ensures at stay) }) _ c.in_err-code.ensures.stopped)
+    (proof_code_stop outline steps _ (λ lines. LacksCodeOfOutline c.args.settings.now in_c lines outline) c.requires (λ lines stay. (_, record { program = _; whole = _; built = c.in_ok-emitted.ensures.built _ c.requires; why = inl (rw c.auxiliary_of-auxiliary.ensures at stay) })) _ c.in_err-code.ensures.stopped)
 
 pub returns-clause-left : goal.returns-clause-left
 returns-clause-left g c =

@@ -4,7 +4,6 @@ use Rattle.std.proofs.lemmas.Result.{err_from_is_err_and, IfOk-weaker, IfErr-wea
 use Rattle.rgc_commands.specs.Answers.{AsInOutline, HasCode, IsLeftOfOutline}
 use Rattle.rgc_commands.specs.Code.{AreAmong, coded_program, is_in_c, shown}
 use Rattle.rgc_commands.specs.Inner.Stops.{IsProofStop}
-use Rattle.rgc_commands.specs.Left.{LacksPlan}
 use Rattle.rgc_commands.specs.Priority.{priority_for}
 use Rattle.rgc_commands.specs.Stops.{LacksCodeOfOutline}
 use Rattle.rgc_commands.proofs.Apart.{apart_at_fewer}
@@ -35,5 +34,4 @@ returns-clause-stopped g c = λ steps.
     let in_c = is_in_c (shown c.args.form) in
     let outline = c.args.outlined.now.files in
     IfErr-weaker c.code_text.result _ (IsProofStop outline steps (λ lines. LacksCodeOfOutline c.args.settings.now in_c lines outline))
-    (λ stop h. proof_code_stop outline steps _ _ c.requires (λ lines lacks. outline_lacks c.args.settings.now in_c outline _ _ c.in_ok-code.ensures.left lacks.0 lines
-    (subst (λ (priority : Option (List ℕ)). LacksPlan priority (coded_program c.in_ok-code.code) lines) c.priority_for-priority.ensures lacks.1)) stop h) c.code_text.ensures.stopped
+    (λ stop h. proof_code_stop outline steps _ _ c.requires (λ lines lacks. outline_lacks c.args.settings.now in_c outline _ _ c.in_ok-code.ensures.left lacks.0 _ _ lines c.priority_for-priority.ensures lacks.1) stop h) c.code_text.ensures.stopped
