@@ -69,8 +69,8 @@ def only(edits, crate, known):
     words = []
     for function in sorted({function for it in edits for function in it.functions}):
         names = names_of(function, crate, known)
-        # (a function's closures come with it)
-        names = [it for it in names if not any(it.startswith((f"{other}::", f"{other}+")) for other in names)]
+        # (a function's closures come with it, and an edit can take them away)
+        names = [it for it in names if "::fn::" not in it and not any(it.startswith((f"{other}::", f"{other}+")) for other in names)]
         if not names:
             return []
         words += [word for it in names for word in ("--only", it)]
