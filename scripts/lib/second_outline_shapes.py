@@ -13,8 +13,9 @@ KEYWORDS = set(
 BLANK = re.compile(rb"[ \t\r\n]+|#[^\n]*")
 # (signs of other languages that would be two tokens are no signs)
 SIGN = re.compile(rb"==|\+=|-=|\+\+|--|->|=>|<=>|<<|>>")
-NUMBER = re.compile(rb"0x[0-9A-Fa-f_]*[0-9A-Fa-f][0-9A-Fa-f_]*|0b[01_]*[01][01_]*|[0-9][0-9_]*")
-TOKEN = re.compile(rb"([A-Za-z_][A-Za-z0-9_]*)|([0-9])|(\.\.|:=|!=|<=|>=|[(){}\[\],:;=<>+'-])")
+NUMBER = re.compile(rb"0x[0-9A-Fa-f_]+|0b[01_]+|[0-9][0-9_]*")
+# (a name of a file in quotes is a token that fits nowhere here)
+TOKEN = re.compile(rb"([A-Za-z_][A-Za-z0-9_]*)|([0-9])|(\.\.|:=|!=|<=|>=|[(){}\[\],:;=<>+'-]|\"[^\"\n]*\")")
 COMPARISONS = {"=": operator.eq, "!=": operator.ne, "<": operator.lt, "<=": operator.le, ">": operator.gt, ">=": operator.ge}
 CHAINS, ALONE = ("band", "bor", "bxor"), ("shl", "shr")
 
@@ -155,7 +156,7 @@ class Shape:
                     found = self.open[-1]
                 raise First(found.place, "an `end` is missing" if found is self.after_else else f"this `{found.text}` has no `end`")
             before = self.tokens[self.at - 1].kind
-            self.unfit("" if self.is_bare else WANTED["}" if before == "}" else kind])
+            self.unfit("" if self.is_bare else WANTED["}" if before == "}" and self.kind != "else" else kind])
         token = self.take("end")
         opened = self.open.pop()
         is_first = self.at < 2 or self.tokens[self.at - 2].place[0] != token.place[0]
@@ -268,7 +269,7 @@ class Shape:
                     self.unfit("the `;` stands directly behind the statement, before the assertion")
                 semicolon = self.take(";")
                 found += self.notes()
-                if self.kind in ("end", "else") and self.tokens[self.at - 1] is semicolon:
+                if self.kind in ("end", "else"):
                     raise First(semicolon.place)
                 found.append(self.statement())
             else:
@@ -295,7 +296,7 @@ class Shape:
             return compound(self.take(kind))
         if kind != "name":
             self.unfit()
-        return self.assignment() if self.tokens[self.at + 1].kind in (":=", "[") else self.use()
+        return self.assignment() if self.tokens[self.at + 1].kind in (":=", "[", "part") else self.use()
 
     def awaited(self, token):
         test, steps = self.formula(), None

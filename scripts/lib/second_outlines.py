@@ -695,7 +695,7 @@ LIMITS = re.compile("the text that the outline stands for has more than|what thi
 def faults_of(source):
     """The faults of an outline: of its tokens, or of its shape, the first; of its meaning all that were met, in the order in which it is read; none where it is
     read. None where it has a `use` at its head, which isn't read here."""
-    if re.match(rb"(?:\xef\xbb\xbf)?(?:[ \t\r\n]+|#[^\n]*)*use[ \t\r\n]*\"", source):
+    if re.match(rb"(?:\xef\xbb\xbf)?(?:[ \t\r\n]+|#[^\n]*)*use(?![A-Za-z0-9_])", source):
         return None
     sys.setrecursionlimit(20_000)
     try:

@@ -202,6 +202,9 @@ fn condition_names<R: Threads + Wait + Sync>(
         };
         let mut sides = Sides::new(alloc);
         let _ = performed(call, &asked, files, &mut names, &mut faults, &mut sides);
+        if names.is_refused() {
+            return Err(AllocError);
+        }
     }
     Vec::from_slice(alloc, names.bytes())
 }

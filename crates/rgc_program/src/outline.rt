@@ -182,6 +182,9 @@ fn run_from<R: Threads + Wait + Sync>(
     // (nothing is written to the faults before the run is over)
     let mut faults = Memory::new(rt.alloc());
     let status = performed(call, line, &files, &mut out, &mut faults, &mut sides);
+    if faults.is_refused() {
+        return Err(AllocError);
+    }
     report(rt, faults.bytes());
     if status == 0 {
         return write_sides(call, &line.command, files.outline, &sides);
