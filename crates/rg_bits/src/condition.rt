@@ -150,7 +150,8 @@ fn assigned<T: Table>(
 ) -> Result<Vec<Vec<Lit>>, GateError>
     requires words { AssignmentsFit (map assignment assigns.now) (length first.items) }
     requires rows { AreRowsIn gates.old (rows_of first.items) }
-    ensures builds { Builds (fold_of assign_of (map assignment assigns.now) (rows_of first.items)) (λ out. rows_of out.items) AreRowsIn gates.old gates.new result }
+    ensures builds { Builds (fold_of assign_of (map assignment assigns.now) (rows_of first.items)) (λ out. rows_of out.items) AreRowsIn
+        gates.old gates.new result }
     ensures size { IfOk result (λ out. length out.items ≡ length first.items) }
 {
     let mut rows = first;

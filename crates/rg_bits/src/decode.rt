@@ -99,10 +99,13 @@ pub fn states(
 
     // Each word's value is the number of its bits; a fixed word's bits are the first state's.
     ensures first { IfOk result (λ r. r.0 ≡ state_of condition.now.layout (first_of (condition_tree condition.now) values.now)) }
-    ensures second { IfOk result (λ r. r.1 ≡ own_second (second_state condition.now.second) condition.now.layout (second_of (condition_tree condition.now) values.now)) }
+    ensures second { IfOk result (λ r. r.1
+        ≡ own_second (second_state condition.now.second) condition.now.layout
+        (second_of (condition_tree condition.now) values.now)) }
 
     // They are states of the words, with the same values for fixed words, and the values are their bits.
-    ensures pair { IfOk result (λ _. IsPair condition.now.layout (first_of (condition_tree condition.now) values.now) (second_of (condition_tree condition.now) values.now)) }
+    ensures pair { IfOk result (λ _. IsPair condition.now.layout (first_of (condition_tree condition.now) values.now)
+        (second_of (condition_tree condition.now) values.now)) }
     ensures bits { IfOk result (λ _. input_bits (condition_tree condition.now) (first_of (condition_tree condition.now) values.now) (second_of (condition_tree condition.now) values.now)
         ≡ take (inputs_of (condition_tree condition.now)) values.now) }
 {

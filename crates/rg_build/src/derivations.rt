@@ -324,7 +324,8 @@ fn read(alloc: Global, tokens: &[Token]) -> Result<DerivationDraft, AllocError>
 
 /// All lines, with the one that ends with the text.
 fn finish(draft: DerivationDraft) -> Result<Vec<LineText>, AllocError>
-    ensures { IfOk result (λ ls. (src : List ℕ) → map (line_text src) ls.items ≡ whole_lines (map (line_text src) draft.lines.items) (open_line src draft.place)) }
+    ensures { IfOk result (λ ls. (src : List ℕ) →
+        map (line_text src) ls.items ≡ whole_lines (map (line_text src) draft.lines.items) (open_line src draft.place)) }
 {
     let DerivationDraft { lines, place } = draft;
     match place {

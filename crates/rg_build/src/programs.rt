@@ -503,7 +503,9 @@ fn on_acts(
 
 /// Takes a clause of the program.
 fn program_clause(draft: &mut ProgramDraft, formula: FormulaText) -> Result<(), AllocError>
-    ensures { OnOk result ((src : List ℕ) → drafted src draft.new ≡ with_claim (drafted src draft.old) (read_for src Purpose.ProgramClause) (claim src formula)) }
+    ensures { OnOk result ((src : List ℕ) →
+        drafted src draft.new
+        ≡ with_claim (drafted src draft.old) (read_for src Purpose.ProgramClause) (claim src formula)) }
 {
     put(&mut draft.clauses, formula)?;
     if draft.clauses.len() < 4 {
@@ -521,7 +523,9 @@ fn part_clause(
     name: Token,
     formula: FormulaText,
 ) -> Result<(), AllocError>
-    ensures { OnOk result ((src : List ℕ) → drafted src draft.new ≡ with_claim (drafted src draft.old) (read_for src (Purpose.PartClause name)) (claim src formula)) }
+    ensures { OnOk result ((src : List ℕ) →
+        drafted src draft.new
+        ≡ with_claim (drafted src draft.old) (read_for src (Purpose.PartClause name)) (claim src formula)) }
 {
     put(&mut draft.part_clauses, formula)?;
     if draft.part_clauses.len() < 4 {

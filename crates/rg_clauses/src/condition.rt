@@ -79,7 +79,8 @@ impl Clauses {
         // Too many variables are refused as such, and nothing else is.
         ensures within { IfOk result (λ clauses. clauses.variables ≤ MOST_VARIABLES) }
         ensures refusal { IfErr result (λ e. (e ≡ no_memory) ⊎ (e ≡ refused_in Limit file (the_condition number))) }
-        ensures limit { result ≡ Err (refused_in Limit file (the_condition number)) → MOST_VARIABLES < (clauses_of_condition (condition_tree condition.now)).variables }
+        ensures limit { result ≡ Err (refused_in Limit file (the_condition number)) →
+            MOST_VARIABLES < (clauses_of_condition (condition_tree condition.now)).variables }
     {
         let mut gates = Gates::input(alloc, inputs(condition));
         match clauses_over(alloc, &mut gates, condition) {

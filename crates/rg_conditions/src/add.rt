@@ -40,7 +40,9 @@ pub(crate) fn add_reached(
     goal: &Formula,
 ) -> Result<(), AllocError>
     requires { ConditionTyped (as_condition layout.now (reach (map formula given.items) (map assignment act.now) (formula goal.now))) }
-    ensures { OnOk result (map condition_tree all.new.items ≡ map condition_tree all.old.items ++ as_condition layout.now (reach (map formula given.items) (map assignment act.now) (formula goal.now)) ∷ []) }
+    ensures { OnOk result (map condition_tree all.new.items
+        ≡ map condition_tree all.old.items
+        ++ as_condition layout.now (reach (map formula given.items) (map assignment act.now) (formula goal.now)) ∷ []) }
 {
     let (act, goal, layout) = copies(alloc, layout, act, goal)?;
     all.push(reaches(layout, given, act, goal))?;
@@ -57,7 +59,9 @@ pub(crate) fn add_made(
     goal: &Formula,
 ) -> Result<(), AllocError>
     requires { ConditionTyped (as_condition layout.now (make (map formula given.items) (map assignment act.now) (formula goal.now))) }
-    ensures { OnOk result (map condition_tree all.new.items ≡ map condition_tree all.old.items ++ as_condition layout.now (make (map formula given.items) (map assignment act.now) (formula goal.now)) ∷ []) }
+    ensures { OnOk result (map condition_tree all.new.items
+        ≡ map condition_tree all.old.items
+        ++ as_condition layout.now (make (map formula given.items) (map assignment act.now) (formula goal.now)) ∷ []) }
 {
     let (act, goal, layout) = copies(alloc, layout, act, goal)?;
     all.push(makes(layout, given, act, goal))?;
@@ -73,7 +77,9 @@ pub(crate) fn add_kept(
     relation: &Formula,
 ) -> Result<(), AllocError>
     requires { ConditionTyped (as_condition layout.now (keep (formula predicate.now) (formula relation.now))) }
-    ensures { OnOk result (map condition_tree all.new.items ≡ map condition_tree all.old.items ++ as_condition layout.now (keep (formula predicate.now) (formula relation.now)) ∷ []) }
+    ensures { OnOk result (map condition_tree all.new.items
+        ≡ map condition_tree all.old.items
+        ++ as_condition layout.now (keep (formula predicate.now) (formula relation.now)) ∷ []) }
 {
     let layout = layout.copy()?;
     let condition = keeps(alloc, layout, predicate, relation)?;
@@ -90,7 +96,9 @@ pub(crate) fn add_allowed(
     second: &Formula,
 ) -> Result<(), AllocError>
     requires { ConditionTyped (as_condition layout.now (allow (formula first.now) (formula second.now))) }
-    ensures { OnOk result (map condition_tree all.new.items ≡ map condition_tree all.old.items ++ as_condition layout.now (allow (formula first.now) (formula second.now)) ∷ []) }
+    ensures { OnOk result (map condition_tree all.new.items
+        ≡ map condition_tree all.old.items
+        ++ as_condition layout.now (allow (formula first.now) (formula second.now)) ∷ []) }
 {
     let layout = layout.copy()?;
     let condition = allows(alloc, layout, first, second)?;
@@ -107,7 +115,9 @@ pub(crate) fn add_implied(
     goal: &Formula,
 ) -> Result<(), AllocError>
     requires { ConditionTyped (as_condition layout.now (reach (formula given.now ∷ []) [] (formula goal.now))) }
-    ensures { OnOk result (map condition_tree all.new.items ≡ map condition_tree all.old.items ++ as_condition layout.now (reach (formula given.now ∷ []) [] (formula goal.now)) ∷ []) }
+    ensures { OnOk result (map condition_tree all.new.items
+        ≡ map condition_tree all.old.items
+        ++ as_condition layout.now (reach (formula given.now ∷ []) [] (formula goal.now)) ∷ []) }
 {
     let layout = layout.copy()?;
     let condition = implies(alloc, layout, given, goal)?;

@@ -60,7 +60,10 @@ fn add_stable(
     spec: &Spec,
 ) -> Result<(), AllocError>
     requires { IsTypedSpecification layout.now (specification spec.now) }
-    ensures { OnOk result (map condition_tree all.new.items ≡ map condition_tree all.old.items ++ map (as_condition layout.now) (keeps (formula spec.now.pre) (formula spec.now.rely) ∷ keeps (formula spec.now.post) (formula spec.now.rely) ∷ [])) }
+    ensures { OnOk result (map condition_tree all.new.items
+        ≡ map condition_tree all.old.items
+        ++ map (as_condition layout.now) (keeps (formula spec.now.pre) (formula spec.now.rely) ∷ keeps (formula spec.now.post)
+        (formula spec.now.rely) ∷ [])) }
 {
     let rely = &spec.rely;
     add_kept(alloc, all, layout, &spec.pre, rely)?;
@@ -77,7 +80,9 @@ fn add_loop(
 ) -> Result<(), AllocError>
     requires spec { IsTypedSpecification layout.now (specification spec.now) }
     requires test { IsTyped (widths_of layout.now) (formula test.now) }
-    ensures { OnOk result (map condition_tree all.new.items ≡ map condition_tree all.old.items ++ map (as_condition layout.now) (loop_conditions (specification spec.now) (formula test.now))) }
+    ensures { OnOk result (map condition_tree all.new.items
+        ≡ map condition_tree all.old.items
+        ++ map (as_condition layout.now) (loop_conditions (specification spec.now) (formula test.now))) }
 {
     add_kept(alloc, all, layout, &spec.pre, &spec.rely)?;
     let given = without(alloc, &spec.pre, test)?;
@@ -95,7 +100,9 @@ fn add_conseq(
 ) -> Result<(), AllocError>
     requires spec { IsTypedSpecification layout.now (specification spec.now) }
     requires from { IsTypedSpecification layout.now (specification from.now) }
-    ensures { OnOk result (map condition_tree all.new.items ≡ map condition_tree all.old.items ++ map (as_condition layout.now) (conseq_conditions (specification spec.now) (specification from.now))) }
+    ensures { OnOk result (map condition_tree all.new.items
+        ≡ map condition_tree all.old.items
+        ++ map (as_condition layout.now) (conseq_conditions (specification spec.now) (specification from.now))) }
 {
     add_implied(alloc, all, layout, &spec.pre, &from.pre)?;
     add_allowed(alloc, all, layout, &spec.rely, &from.rely)?;
@@ -113,7 +120,10 @@ fn add_act(
 ) -> Result<(), AllocError>
     requires spec { IsTypedSpecification layout.now (specification spec.now) }
     requires act { AssignmentsTyped (widths_of layout.now) (map assignment act.now) }
-    ensures { OnOk result (map condition_tree all.new.items ≡ map condition_tree all.old.items ++ map (as_condition layout.now) (step_conditions (specification spec.now) (formula spec.now.pre ∷ []) (map assignment act.now))) }
+    ensures { OnOk result (map condition_tree all.new.items
+        ≡ map condition_tree all.old.items
+        ++ map (as_condition layout.now)
+        (step_conditions (specification spec.now) (formula spec.now.pre ∷ []) (map assignment act.now))) }
 {
     let given = one_formula(alloc, &spec.pre)?;
     add_reached(alloc, all, layout, given, act, &spec.post)?;
@@ -134,7 +144,10 @@ fn add_await(
     requires spec { IsTypedSpecification layout.now (specification spec.now) }
     requires test { IsTyped (widths_of layout.now) (formula test.now) }
     requires act { AssignmentsTyped (widths_of layout.now) (map assignment act.now) }
-    ensures { OnOk result (map condition_tree all.new.items ≡ map condition_tree all.old.items ++ map (as_condition layout.now) (step_conditions (specification spec.now) (formula spec.now.pre ∷ formula test.now ∷ []) (map assignment act.now))) }
+    ensures { OnOk result (map condition_tree all.new.items
+        ≡ map condition_tree all.old.items
+        ++ map (as_condition layout.now) (step_conditions (specification spec.now) (formula spec.now.pre ∷ formula test.now ∷ [])
+        (map assignment act.now))) }
 {
     let given = two_formulas(alloc, &spec.pre, test)?;
     add_reached(alloc, all, layout, given, act, &spec.post)?;
@@ -153,7 +166,9 @@ fn add_basic(
 ) -> Result<(), AllocError>
     requires spec { IsTypedSpecification layout.now (specification spec.now) }
     requires statement { IsTypedStatement layout.now (statement s.now) }
-    ensures { OnOk result (map condition_tree all.new.items ≡ map condition_tree all.old.items ++ map (as_condition layout.now) (conditions_of_rule [] (specification spec.now) [] Basic (statement s.now))) }
+    ensures { OnOk result (map condition_tree all.new.items
+        ≡ map condition_tree all.old.items
+        ++ map (as_condition layout.now) (conditions_of_rule [] (specification spec.now) [] Basic (statement s.now))) }
 {
     match s {
         Stmt::Assign(_, a) => add_act(alloc, all, layout, spec, slice::from_ref(a)),
@@ -173,7 +188,10 @@ pub fn add_line(
     requires lines { AreTypedLines layout.now (map line_tree lines.now) }
     requires line { IsTypedSpecification layout.now (specification line.now.spec) }
     requires statement { IsTypedStatement layout.now (statement s.now) }
-    ensures { OnOk result (map condition_tree all.new.items ≡ map condition_tree all.old.items ++ map (as_condition layout.now) (conditions_of_rule (map line_tree lines.now) (specification line.now.spec) line.now.premises.items line.now.rule (statement s.now))) }
+    ensures { OnOk result (map condition_tree all.new.items
+        ≡ map condition_tree all.old.items
+        ++ map (as_condition layout.now) (conditions_of_rule (map line_tree lines.now) (specification line.now.spec) line.now.premises.items
+        line.now.rule (statement s.now))) }
 {
     let spec = &line.spec;
     match (line.rule, s) {

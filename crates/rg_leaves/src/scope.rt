@@ -56,7 +56,8 @@ impl Scope<'_> {
     ) -> Result<usize, Refusal>
         ensures faultless { IfOk result (λ _. word_faults self.now.layout.now group barred token.now.line (index_of self.now.layout.now name.now) ≡ []) }
         ensures place { IfOk result (λ k. k ≡ place_of self.now.layout.now name.now) }
-        ensures fault { IfErr result (λ e. IsRefusal self.now.file (word_faults self.now.layout.now group barred token.now.line (index_of self.now.layout.now name.now)) e) }
+        ensures fault { IfErr result (λ e. IsRefusal self.now.file
+            (word_faults self.now.layout.now group barred token.now.line (index_of self.now.layout.now name.now)) e) }
     {
         let Some(word) = find(self.layout, name) else {
             return Err(self.fault(RefusalNumber::UnknownName, token));
@@ -73,9 +74,11 @@ impl Scope<'_> {
     /// The count of a shift, which is of no group.
     #[tactic(auto, using(crate::proofs::Refusals::refusals))]
     pub fn shift_count(&self, token: &Token) -> Result<u32, Refusal>
-        ensures faultless { IfOk result (λ _. unless (nat_le (number_of (text_of self.now.source.now token.now)) MOST_SHIFT) NumberTooLarge token.now.line ≡ []) }
+        ensures faultless { IfOk result (λ _.
+            unless (nat_le (number_of (text_of self.now.source.now token.now)) MOST_SHIFT) NumberTooLarge token.now.line ≡ []) }
         ensures value { IfOk result (λ k. k ≡ number_of (text_of self.now.source.now token.now)) }
-        ensures fault { IfErr result (λ e. IsRefusal self.now.file (unless (nat_le (number_of (text_of self.now.source.now token.now)) MOST_SHIFT) NumberTooLarge token.now.line) e) }
+        ensures fault { IfErr result (λ e. IsRefusal self.now.file
+            (unless (nat_le (number_of (text_of self.now.source.now token.now)) MOST_SHIFT) NumberTooLarge token.now.line) e) }
     {
         match number(text(self.source, token)) {
             Some(count) if count <= MOST_SHIFT => Ok(count as u32),

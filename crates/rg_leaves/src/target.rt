@@ -14,8 +14,12 @@ use rg_words::{Refusal, RefusalNumber};
 #[tactic(auto, using(crate::proofs::Refusals::refusals))]
 pub fn target(scope: &Scope, token: &Token) -> Result<usize, Refusal>
     ensures word { IfOk result (λ word. index_of scope.now.layout.now (text_of scope.now.source.now token.now) ≡ Some word) }
-    ensures faultless { IfOk result (λ _. target_faults scope.now.layout.now (leaf_of scope.now.source.now token.now) (index_of scope.now.layout.now (text_of scope.now.source.now token.now)) ≡ []) }
-    ensures fault { IfErr result (λ refusal. IsRefusal scope.now.file (target_faults scope.now.layout.now (leaf_of scope.now.source.now token.now) (index_of scope.now.layout.now (text_of scope.now.source.now token.now))) refusal) }
+    ensures faultless { IfOk result (λ _. target_faults scope.now.layout.now (leaf_of scope.now.source.now token.now)
+        (index_of scope.now.layout.now (text_of scope.now.source.now token.now))
+        ≡ []) }
+    ensures fault { IfErr result (λ refusal. IsRefusal scope.now.file
+        (target_faults scope.now.layout.now (leaf_of scope.now.source.now token.now) (index_of scope.now.layout.now (text_of scope.now.source.now token.now)))
+        refusal) }
 {
     let Some(word) = find(scope.layout, text(scope.source, token)) else {
         return Err(scope.fault(RefusalNumber::UnknownName, token));

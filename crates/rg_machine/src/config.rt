@@ -57,7 +57,9 @@ impl<'e> Config<'e> {
     /// Each part at its first block, from this state of the code's words.
     pub fn new(alloc: Global, code: &'e Code, state: State) -> Result<Config<'e>, AllocError>
         requires { state.widths ≡ widths_of code.now.layout }
-        ensures { IfOk result (λ c. c ≡ record { words = code.now.layout; codes = code_blocks code.now; state = state.values; places = zeros (code_blocks code.now) }) }
+        ensures { IfOk result (λ c. c
+            ≡ record
+            { words = code.now.layout; codes = code_blocks code.now; state = state.values; places = zeros (code_blocks code.now) }) }
     {
         let places = vec![in alloc; 0usize; code.parts.len()]?;
         let stack = Vec::with_capacity(alloc, code_room(code))?;

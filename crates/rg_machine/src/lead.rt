@@ -53,7 +53,8 @@ pub(crate) fn lead(
     requires legal { (n : ℕ) × IsLegalBlock layout.now n (block_tree block.now) }
     requires state { state.old.widths ≡ widths_of layout.now }
     requires room { block_room (block_tree block.now) ≤ vec_capacity stack.old }
-    ensures made { MatchOption result ((CanLead (Some (block_tree block.now)) state.old.values → ⊥) × (state.new ≡ state.old)) (λ to. Makes_step (Some (block_tree block.now)) state.old.values state.new.values to) }
+    ensures made { MatchOption result ((CanLead (Some (block_tree block.now)) state.old.values → ⊥) × (state.new ≡ state.old))
+        (λ to. Makes_step (Some (block_tree block.now)) state.old.values state.new.values to) }
     ensures widths { state.new.widths ≡ state.old.widths }
     ensures capacity { vec_capacity stack.old ≤ vec_capacity stack.new }
 {

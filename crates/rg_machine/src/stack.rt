@@ -31,7 +31,8 @@ fn put(stack: &mut Vec<u64>, x: u64)
 fn apply(stack: &mut Vec<u64>, operation: Operation, state: &State) -> Option<()>
     requires fits { OperationFits (length state.now.values) operation }
     requires room { vec_len stack.old < vec_capacity stack.old }
-    ensures exact { MatchOption result (after_operation state.now.values operation (reverse stack.old.items) ≡ None) (λ _. after_operation state.now.values operation (reverse stack.old.items) ≡ Some (reverse stack.new.items)) }
+    ensures exact { MatchOption result (after_operation state.now.values operation (reverse stack.old.items) ≡ None)
+        (λ _. after_operation state.now.values operation (reverse stack.old.items) ≡ Some (reverse stack.new.items)) }
     ensures len { OnSome result (vec_len stack.new ≤ vec_len stack.old + 1) }
     ensures capacity { vec_capacity stack.old ≤ vec_capacity stack.new }
 {

@@ -142,8 +142,6 @@ pub struct Specification {
     pub post: usize,
     /// The `guar` items, each by itself: a list of `clauses`.
     pub promised: List,
-    /// The `invariant` and `rely` items, each by itself: a list of `clauses`.
-    pub(crate) kept: List,
 }
 
 /// A line of the derivation, and the statement at which it is reported.
@@ -298,7 +296,6 @@ impl<'a> Expansion<'a> {
                 guar: 0,
                 post: 0,
                 promised: List::EMPTY,
-                kept: List::EMPTY,
             },
             statements: Vec::new(alloc),
             blocks: Vec::new(alloc),

@@ -11,7 +11,7 @@ use rg_outline_terms::{Root, bit_of};
 #[derive(Clone, Copy)]
 struct Aim {
     goal: Option<Assertion>,
-    kept: u64,
+    stable: u64,
 }
 
 impl Expansion<'_> {
@@ -47,13 +47,13 @@ impl Expansion<'_> {
     /// `FaultKind::Memory`.
     pub(crate) fn settle_body(&mut self, part: OutlinePart) {
         let goal = part.last;
-        let mut kept = part.owned_bits;
+        let mut stable = part.owned_bits;
         for (word, known) in self.scope.words.iter().enumerate() {
             if known.standing == Standing::Fixed {
-                kept |= bit_of(word);
+                stable |= bit_of(word);
             }
         }
-        self.settle(part.body, part.pre, Aim { goal, kept }, DEEPEST);
+        self.settle(part.body, part.pre, Aim { goal, stable }, DEEPEST);
     }
 
     /// Notes what the rule around a block asks for.
@@ -119,7 +119,7 @@ impl Expansion<'_> {
         statement.at_test = statement.invariant.unwrap_or(now);
         statement.after = match (aim.goal, statement.action) {
             (Some(wanted), _) => wanted,
-            (None, Action::While) => self.known_after_test(statement, false, aim.kept),
+            (None, Action::While) => self.known_after_test(statement, false, aim.stable),
             (None, Action::If) => self.agreed(statement).unwrap_or(carried_on(now)),
             (None, _) => carried_on(now),
         };
@@ -127,10 +127,10 @@ impl Expansion<'_> {
             *slot = statement;
         }
         match statement.action {
-            Action::While => self.settle_branch(statement, true, aim.kept, depth),
+            Action::While => self.settle_branch(statement, true, aim.stable, depth),
             Action::If => {
-                self.settle_branch(statement, true, aim.kept, depth);
-                self.settle_branch(statement, false, aim.kept, depth);
+                self.settle_branch(statement, true, aim.stable, depth);
+                self.settle_branch(statement, false, aim.stable, depth);
             }
             _ => {}
         }
@@ -139,7 +139,7 @@ impl Expansion<'_> {
 
     /// Finds what holds in the block of a statement where its test holds, or in the one where it fails.
     #[cycle(settling)]
-    fn settle_branch(&mut self, statement: Statement, holds: bool, kept: u64, depth: u32) {
+    fn settle_branch(&mut self, statement: Statement, holds: bool, stable: u64, depth: u32) {
         let (yes, no) = statement.blocks;
         let block = if holds { yes } else { no };
         let end = match statement.action {
@@ -147,8 +147,8 @@ impl Expansion<'_> {
             _ => statement.after,
         };
         let goal = Some(end);
-        let entry = self.known_after_test(statement, holds, kept);
-        self.settle(block, entry, Aim { goal, kept }, depth);
+        let entry = self.known_after_test(statement, holds, stable);
+        self.settle(block, entry, Aim { goal, stable }, depth);
         let Statement {
             at_test,
             test,
@@ -177,8 +177,8 @@ impl Expansion<'_> {
     }
 
     /// What holds where a statement's test holds, or fails: what held before it, and what it says of words that nobody else changes.
-    fn known_after_test(&mut self, statement: Statement, holds: bool, kept: u64) -> Assertion {
-        let facts = self.facts_of(statement.test, holds, kept);
+    fn known_after_test(&mut self, statement: Statement, holds: bool, stable: u64) -> Assertion {
+        let facts = self.facts_of(statement.test, holds, stable);
         let span = statement.span;
         let mut known = carried_on(statement.at_test);
         for fact in &facts {

@@ -25,14 +25,14 @@ impl Expansion<'_> {
             pre: self.conjoined_of(&clauses, Clause::Pre),
             guar: self.conjoined_of(&clauses, Clause::Guar),
             post: self.conjoined_of(&clauses, Clause::Post),
-            promised: self.kept_of(&clauses, Clause::Guar),
-            kept: self.repeated_of(&clauses),
+            promised: self.each_of(&clauses, Clause::Guar),
             rely: if has_clause(&clauses, Clause::Rely) {
                 self.conjoined_of(&clauses, Clause::Rely)
             } else {
                 self.scope.all_words_same(NOWHERE)
             },
         };
+        self.add_repeated(&clauses);
     }
 
     /// Adds the clause that a head of the program is, or makes the name known that it gives.
@@ -69,18 +69,15 @@ impl Expansion<'_> {
     }
 
     /// The clauses of a kind, each by itself.
-    fn kept_of(&mut self, clauses: &[ProgramClause], kind: Clause) -> List {
+    fn each_of(&mut self, clauses: &[ProgramClause], kind: Clause) -> List {
         let trees = self.trees_of(clauses, kind);
         add_all(&mut self.scope, &mut self.clauses, &trees)
     }
 
-    /// The invariants and the relies, each by itself.
-    fn repeated_of(&mut self, clauses: &[ProgramClause]) -> List {
-        let mut trees = self.trees_of(clauses, Clause::Invariant);
-        for tree in self.trees_of(clauses, Clause::Rely) {
-            add(&mut self.scope, &mut trees, tree);
-        }
-        add_all(&mut self.scope, &mut self.clauses, &trees)
+    /// Adds the invariants and the relies, each by itself: all parts repeat them, so one of them may be what makes a text too large.
+    fn add_repeated(&mut self, clauses: &[ProgramClause]) {
+        let _ = self.each_of(clauses, Clause::Invariant);
+        let _ = self.each_of(clauses, Clause::Rely);
     }
 
     /// Works out what each part relies on and promises.
@@ -108,10 +105,10 @@ impl Expansion<'_> {
                 &mut others,
                 self.specification.invariant_next,
             );
-            let kept = self.conjoined(&others, part.span);
-            let made = self.scope.forest.keeping(invariant, kept, part.span);
-            let kept = self.scope.made(made);
-            add(&mut self.scope, &mut formulas, kept);
+            let relied = self.conjoined(&others, part.span);
+            let made = self.scope.forest.keeping(invariant, relied, part.span);
+            let under_invariant = self.scope.made(made);
+            add(&mut self.scope, &mut formulas, under_invariant);
         }
         self.conjoined(&formulas, part.span)
     }

@@ -199,7 +199,7 @@ impl Expansion<'_> {
                 statement.test = self.test_of(guard);
                 statement.updates = match assignments {
                     Some(assignments) => self.updates_in(assignments),
-                    None => self.kept_word(statement.span),
+                    None => self.unchanged_update(statement.span),
                 };
             }
             _ => {}
@@ -319,7 +319,7 @@ impl Expansion<'_> {
     }
 
     /// The update of an await without assignments: it keeps the first word that the part owns, else the first that isn't fixed.
-    fn kept_word(&mut self, span: Span) -> List {
+    fn unchanged_update(&mut self, span: Span) -> List {
         let part = self.parts.len().saturating_sub(1);
         let owned = self.owned.iter().find(|owned| owned.part == part);
         let mut words = self.scope.words.iter();

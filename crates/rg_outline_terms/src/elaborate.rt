@@ -1,7 +1,7 @@
 //! From what is written to trees over words.
 
 use crate::fold::compares;
-use crate::forest::{Made, Root};
+use crate::forest::{NewTree, Root};
 use crate::scope::Scope;
 use crate::uses::Use;
 use rg_outline_syntax::{Comparison, Expression, ExpressionKind, Junction, MeaningFault, Span};
@@ -132,17 +132,17 @@ impl Scope<'_> {
 
     /// The tree of a number, a truth, or a form with operands.
     #[cycle(elaborate)]
-    fn composed(&mut self, kind: ExpressionKind, span: Span, depth: u32) -> Made {
+    fn composed(&mut self, kind: ExpressionKind, span: Span, depth: u32) -> NewTree {
         match kind {
             ExpressionKind::Number(number) => self.forest.numeral(Some(i128::from(number)), span),
             ExpressionKind::Truth(truth) => self.forest.leaf(Root::Truth(truth), span),
             ExpressionKind::Not(inner) => {
                 let formula = self.sorted(inner, Sort::Formula, depth);
-                self.forest.denied(formula, span)
+                self.forest.negated(formula, span)
             }
             ExpressionKind::Keeps(inner) => {
                 let formula = self.sorted(inner, Sort::Formula, depth);
-                self.kept(formula, span)
+                self.keeps(formula, span)
             }
             ExpressionKind::Inverse(inner) => {
                 let value = self.sorted(inner, Sort::Value, depth);
@@ -151,7 +151,7 @@ impl Scope<'_> {
             ExpressionKind::Choice { test, yes, no } => {
                 let test = self.sorted(test, Sort::Formula, depth);
                 let first = self.under(test, yes, Sort::Value, depth);
-                let made = self.forest.denied(test, span);
+                let made = self.forest.negated(test, span);
                 let fails = self.made(made);
                 let second = self.under(fails, no, Sort::Value, depth);
                 self.forest.chosen(test, first, second, span)
@@ -177,7 +177,7 @@ impl Scope<'_> {
         if junction == Junction::And {
             return left;
         }
-        let made = self.forest.denied(left, span);
+        let made = self.forest.negated(left, span);
         self.made(made)
     }
 
@@ -220,7 +220,7 @@ impl Scope<'_> {
         first: usize,
         second: usize,
         span: Span,
-    ) -> Made {
+    ) -> NewTree {
         if let Some(left) = self.forest.number(first)
             && let Some(right) = self.forest.number(second)
         {
@@ -233,7 +233,7 @@ impl Scope<'_> {
     }
 
     /// `keeps` before a formula.
-    fn kept(&mut self, formula: usize, span: Span) -> Made {
+    fn keeps(&mut self, formula: usize, span: Span) -> NewTree {
         if matches!(self.forest.root(formula), Root::Truth(_)) {
             return self.forest.leaf(Root::Truth(true), span);
         }

@@ -1,6 +1,6 @@
 //! Trees that are made of trees: truths and numbers are worked out at once, and nothing else is simplified.
 
-use crate::forest::{Forest, Made, Root};
+use crate::forest::{Forest, NewTree, Root};
 use rg_outline_syntax::{Comparison, Conditional, Fault, Junction, MeaningFault, Operator, Span};
 
 /// The numbers that may be worked out lie between this and its negative.
@@ -53,7 +53,7 @@ fn worked_out(
 
 impl Forest {
     /// A number; `MeaningFault::OutOfBounds` where there is none or it is beyond all words.
-    pub(crate) fn numeral(&mut self, number: Option<i128>, span: Span) -> Made {
+    pub(crate) fn numeral(&mut self, number: Option<i128>, span: Span) -> NewTree {
         match number {
             Some(number) if -BOUND < number && number < BOUND => {
                 self.leaf(Root::Number(number), span)
@@ -64,7 +64,7 @@ impl Forest {
 
     /// An operation on two values: `MeaningFault::Modulus`, `ShiftCount` and `OutOfBounds` where both are numbers, and
     /// `MeaningFault::ModulusOfWords`, `ShiftByWords` and `ShiftCount` where one isn't.
-    pub(crate) fn operated(&mut self, operator: Operator, pair: [usize; 2], span: Span) -> Made {
+    pub(crate) fn operated(&mut self, operator: Operator, pair: [usize; 2], span: Span) -> NewTree {
         let [first, second] = pair;
         let count = self.number(second);
         if let (Some(left), Some(right)) = (self.number(first), count) {
@@ -85,7 +85,7 @@ impl Forest {
     }
 
     /// `not` before a formula, where truths are worked out.
-    pub(crate) fn denied(&mut self, formula: usize, span: Span) -> Made {
+    pub(crate) fn negated(&mut self, formula: usize, span: Span) -> NewTree {
         match self.root(formula) {
             Root::Truth(truth) => self.leaf(Root::Truth(!truth), span),
             _ => self.unary(Root::Not, formula, span),
@@ -93,7 +93,7 @@ impl Forest {
     }
 
     /// Two formulas with `and` or `or` between them.
-    pub(crate) fn joined(&mut self, junction: Junction, pair: [usize; 2], span: Span) -> Made {
+    pub(crate) fn joined(&mut self, junction: Junction, pair: [usize; 2], span: Span) -> NewTree {
         let [first, second] = pair;
         let unit = junction == Junction::And;
         if self.is_truth(first, unit) {
@@ -109,7 +109,7 @@ impl Forest {
     }
 
     /// Two formulas with `implies` or `iff` between them.
-    pub(crate) fn implied(&mut self, kind: Conditional, pair: [usize; 2], span: Span) -> Made {
+    pub(crate) fn implied(&mut self, kind: Conditional, pair: [usize; 2], span: Span) -> NewTree {
         let [first, second] = pair;
         if self.is_truth(first, true) {
             return Ok(second);
@@ -127,12 +127,12 @@ impl Forest {
     }
 
     /// That a formula is kept: it implies itself in the next state.
-    pub fn keeping(&mut self, formula: usize, next: usize, span: Span) -> Made {
+    pub fn keeping(&mut self, formula: usize, next: usize, span: Span) -> NewTree {
         self.binary(Root::Imply(Conditional::Implies), formula, next, span)
     }
 
     /// A choice between two values, where a known test decides at once.
-    pub(crate) fn chosen(&mut self, test: usize, yes: usize, no: usize, span: Span) -> Made {
+    pub(crate) fn chosen(&mut self, test: usize, yes: usize, no: usize, span: Span) -> NewTree {
         match self.root(test) {
             Root::Truth(true) => Ok(yes),
             Root::Truth(false) => Ok(no),
@@ -141,12 +141,12 @@ impl Forest {
     }
 
     /// `false`.
-    pub fn falsity(&mut self, span: Span) -> Made {
+    pub fn falsity(&mut self, span: Span) -> NewTree {
         self.leaf(Root::Truth(false), span)
     }
 
     /// The conjunction of formulas, nested to the left: without those that are `true` or equal to an earlier one.
-    pub fn conjoined(&mut self, formulas: &[usize], span: Span) -> Made {
+    pub fn conjoined(&mut self, formulas: &[usize], span: Span) -> NewTree {
         let mut made = None;
         for (place, formula) in formulas.iter().enumerate() {
             let earlier = formulas.get(..place).unwrap_or(&[]);

@@ -49,7 +49,7 @@ pub struct Tree {
 }
 
 /// A tree that was made: its index, or why there is none.
-pub type Made = Result<usize, Fault>;
+pub type NewTree = Result<usize, Fault>;
 
 /// The words that a term reads, as bits by their numbers: those of the first state, and the primed ones.
 #[derive(Clone, Copy)]
@@ -217,7 +217,7 @@ impl Forest {
     }
 
     /// Adds a tree whose term is kept.
-    pub(crate) fn push(&mut self, tree: Tree) -> Made {
+    pub(crate) fn push(&mut self, tree: Tree) -> NewTree {
         let index = self.trees.len();
         if index >= MOST_TREES {
             return Err(Fault::meaning(MeaningFault::TooLarge, tree.span));
@@ -228,7 +228,7 @@ impl Forest {
     }
 
     /// Adds a tree with these operands, of which the root has as many as it needs.
-    pub(crate) fn add(&mut self, root: Root, operands: [usize; 3], span: Span) -> Made {
+    pub(crate) fn add(&mut self, root: Root, operands: [usize; 3], span: Span) -> NewTree {
         let mut terms = [0; 3];
         for (slot, operand) in terms.iter_mut().zip(&operands).take(root.arity()) {
             *slot = self.tree(*operand).term;
@@ -253,33 +253,33 @@ impl Forest {
     }
 
     /// Adds a tree without operands.
-    pub fn leaf(&mut self, root: Root, span: Span) -> Made {
+    pub fn leaf(&mut self, root: Root, span: Span) -> NewTree {
         self.add(root, [0, 0, 0], span)
     }
 
     /// Adds a tree with one operand.
-    pub fn unary(&mut self, root: Root, operand: usize, span: Span) -> Made {
+    pub fn unary(&mut self, root: Root, operand: usize, span: Span) -> NewTree {
         self.add(root, [operand, 0, 0], span)
     }
 
     /// Adds a tree with two operands.
-    pub fn binary(&mut self, root: Root, first: usize, second: usize, span: Span) -> Made {
+    pub fn binary(&mut self, root: Root, first: usize, second: usize, span: Span) -> NewTree {
         self.add(root, [first, second, 0], span)
     }
 
     /// The tree at another place, with the name for which it stands.
-    pub(crate) fn placed(&mut self, tree: usize, span: Span) -> Made {
-        let kept = self.tree(tree);
-        self.push(Tree { span, ..kept })
+    pub(crate) fn at_span(&mut self, tree: usize, span: Span) -> NewTree {
+        let tree = self.tree(tree);
+        self.push(Tree { span, ..tree })
     }
 
     /// The tree with a name for which it stands, as it is used with these arguments.
-    pub(crate) fn named(&mut self, tree: usize, name: Option<Span>, arguments: List) -> Made {
-        let kept = self.tree(tree);
+    pub(crate) fn named(&mut self, tree: usize, name: Option<Span>, arguments: List) -> NewTree {
+        let tree = self.tree(tree);
         self.push(Tree {
             name,
             arguments,
-            ..kept
+            ..tree
         })
     }
 }

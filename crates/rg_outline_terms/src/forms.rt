@@ -1,6 +1,6 @@
 //! How trees are written whose roots don't show it, so that reports can.
 
-use crate::forest::{Forest, Made, Root, Tree};
+use crate::forest::{Forest, NewTree, Root, Tree};
 use crate::names::Meaning;
 use crate::scope::Scope;
 use rg_outline_syntax::{Binder, Expression, ExpressionKind, Junction, List, Operator, Span};
@@ -55,13 +55,13 @@ impl Forest {
     }
 
     /// The tree with the note how it is written.
-    fn formed(&mut self, tree: usize, form: Form) -> Made {
-        let kept = self.tree(tree);
+    fn formed(&mut self, tree: usize, form: Form) -> NewTree {
+        let tree = self.tree(tree);
         let index = self.forms.len();
         self.forms.push(form)?;
         self.push(Tree {
             form: Some(index),
-            ..kept
+            ..tree
         })
     }
 }

@@ -17,7 +17,7 @@ mod widths;
 mod words;
 
 pub use chosen::{Chosen, Target};
-pub use forest::{Forest, Made, Reads, Root, Term, Tree, bit_of};
+pub use forest::{Forest, NewTree, Reads, Root, Term, Tree, bit_of};
 pub use forms::{Filled, Form, FormKind};
 pub use names::{Meaning, Named};
 pub use scope::Scope;

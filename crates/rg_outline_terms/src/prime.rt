@@ -1,6 +1,6 @@
 //! Trees in the next state.
 
-use crate::forest::{Forest, Made, Root, bit_of};
+use crate::forest::{Forest, NewTree, Root, bit_of};
 use rg_outline_syntax::{Fault, MeaningFault, Span};
 use std::alloc::Global;
 
@@ -30,14 +30,14 @@ impl Forest {
     }
 
     /// A tree with its root primed, whose operands were primed.
-    fn primed_root(&mut self, tree: usize) -> Made {
-        let kept = self.tree(tree);
+    fn primed_root(&mut self, tree: usize) -> NewTree {
+        let whole = self.tree(tree);
         let root = match self.root(tree) {
             Root::Word {
                 is_primed: true,
                 ..
             } => {
-                return Err(Fault::meaning(MeaningFault::PrimedAlready, kept.span));
+                return Err(Fault::meaning(MeaningFault::PrimedAlready, whole.span));
             }
             Root::Word { word, .. } => Root::Word {
                 word,
@@ -46,11 +46,11 @@ impl Forest {
             root => root,
         };
         let mut operands = [0; 3];
-        for (slot, operand) in operands.iter_mut().zip(&kept.operands) {
+        for (slot, operand) in operands.iter_mut().zip(&whole.operands) {
             *slot = self.primed_of(*operand).unwrap_or(*operand);
         }
-        let plain = self.add(root, operands, kept.span)?;
-        self.named(plain, kept.name, kept.arguments)
+        let plain = self.add(root, operands, whole.span)?;
+        self.named(plain, whole.name, whole.arguments)
     }
 
     /// Primes a tree whose operands were primed. One that reads no word is its own next state.
@@ -67,7 +67,7 @@ impl Forest {
     }
 
     /// The tree with all its words primed; `MeaningFault::PrimedAlready` at the first word that is primed already. Of no tree, as after a fault, it is none.
-    pub(crate) fn in_next_state(&mut self, alloc: Global, tree: usize) -> Made {
+    pub(crate) fn in_next_state(&mut self, alloc: Global, tree: usize) -> NewTree {
         if tree >= self.primed.len() {
             return Ok(tree);
         }
@@ -114,7 +114,7 @@ impl Forest {
         word: usize,
         value: usize,
         replaced: &[usize],
-    ) -> Made {
+    ) -> NewTree {
         let root = self.root(tree);
         if root
             == (Root::Word {
@@ -127,16 +127,16 @@ impl Forest {
         if self.reads(tree).plain & bit_of(word) == 0 {
             return Ok(tree);
         }
-        let kept = self.tree(tree);
+        let tree = self.tree(tree);
         let mut operands = [0; 3];
-        for (slot, operand) in operands.iter_mut().zip(&kept.operands) {
+        for (slot, operand) in operands.iter_mut().zip(&tree.operands) {
             *slot = replaced.get(*operand).copied().unwrap_or(*operand);
         }
-        self.add(root, operands, kept.span)
+        self.add(root, operands, tree.span)
     }
 
     /// The tree with a value in place of a word of the first state.
-    pub fn replaced(&mut self, alloc: Global, tree: usize, word: usize, value: usize) -> Made {
+    pub fn replaced(&mut self, alloc: Global, tree: usize, word: usize, value: usize) -> NewTree {
         let is_inner = self.inner_trees(alloc, tree)?;
         let mut replaced = Vec::new(alloc);
         for index in 0..is_inner.len() {

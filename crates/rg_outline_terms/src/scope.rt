@@ -1,7 +1,7 @@
 //! What is known of an outline while it is worked out; and the first fault, which no call gives back.
 
 use crate::chosen::Chosen;
-use crate::forest::Made;
+use crate::forest::NewTree;
 use crate::ranges::Filling;
 use crate::{Forest, Named, Root, Word};
 use rg_outline_syntax::{Fault, MeaningFault, Span, Standing, Texts, Written};
@@ -92,7 +92,7 @@ impl<'a> Scope<'a> {
     }
 
     /// What was made. Where that failed, its fault is kept, and any tree stands for it.
-    pub fn made(&mut self, made: Made) -> usize {
+    pub fn made(&mut self, made: NewTree) -> usize {
         match made {
             Ok(tree) => tree,
             Err(fault) => {

@@ -67,14 +67,14 @@ impl Scope<'_> {
             return self.in_next_state(tree);
         }
         if self.forest.root(tree).arity() == 0 {
-            return self.placed(tree, used.span);
+            return self.at_span(tree, used.span);
         }
         tree
     }
 
     /// The tree at another place.
-    fn placed(&mut self, tree: usize, span: Span) -> usize {
-        let made = self.forest.placed(tree, span);
+    fn at_span(&mut self, tree: usize, span: Span) -> usize {
+        let made = self.forest.at_span(tree, span);
         self.made(made)
     }
 
@@ -125,7 +125,7 @@ impl Scope<'_> {
             self.uses.pop();
         }
         self.forget(mark);
-        self.placed_use(used, tree, arguments)
+        self.named_use(used, tree, arguments)
     }
 
     /// Works out arguments, and adds them to those that are passed.
@@ -215,13 +215,13 @@ impl Scope<'_> {
     }
 
     /// The tree of a use, with the use's name. A value that is no operation has the use's place, all else its own.
-    fn placed_use(&mut self, used: Use, tree: usize, arguments: List) -> usize {
+    fn named_use(&mut self, used: Use, tree: usize, arguments: List) -> usize {
         let root = self.forest.root(tree);
-        let mut placed = tree;
+        let mut moved = tree;
         if root.arity() == 0 && !root.is_formula() {
-            placed = self.placed(tree, used.span);
+            moved = self.at_span(tree, used.span);
         }
-        let made = self.forest.named(placed, Some(used.span), arguments);
+        let made = self.forest.named(moved, Some(used.span), arguments);
         self.made(made)
     }
 }

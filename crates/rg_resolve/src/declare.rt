@@ -46,8 +46,12 @@ fn declare_word(
     requires name { IsName (text_of source.now declaration.now.name) }
     requires room { length layout.old < MOST_WORDS }
     ensures word { OnOk result (layout.new ≡ layout.old ++ word_of (declared_word source.now declaration.now) ∷ []) }
-    ensures faultless { OnOk result (name_faults layout.old (leaf_of source.now declaration.now.name) ++ width_faults (leaf_of source.now declaration.now.width) ≡ []) }
-    ensures fault { IfErr result (λ refusal. IsRefusal file (name_faults layout.old (leaf_of source.now declaration.now.name) ++ width_faults (leaf_of source.now declaration.now.width)) refusal) }
+    ensures faultless { OnOk result (name_faults layout.old (leaf_of source.now declaration.now.name)
+        ++ width_faults (leaf_of source.now declaration.now.width)
+        ≡ []) }
+    ensures fault { IfErr result (λ refusal. IsRefusal file
+        (name_faults layout.old (leaf_of source.now declaration.now.name) ++ width_faults (leaf_of source.now declaration.now.width))
+        refusal) }
 {
     let name = text(source, &declaration.name);
     if find(layout, name).is_some() {

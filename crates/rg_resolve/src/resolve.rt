@@ -108,7 +108,9 @@ pub fn resolve_shown(
         → ClaimStandsFor (words_of (map (declared_word source.now) declarations.now)) false (claim source.now written.now) p
         → ⊥)) }
     ensures faultless { IfOk result (λ _. shown_faults (map (declared_word source.now) declarations.now) (claim source.now written.now) ≡ []) }
-    ensures fault { IfErr result (λ refusal. IsRefusal file (shown_faults (map (declared_word source.now) declarations.now) (claim source.now written.now)) refusal) }
+    ensures fault { IfErr result (λ refusal.
+        IsRefusal file (shown_faults (map (declared_word source.now) declarations.now) (claim source.now written.now))
+        refusal) }
     ensures typed { IfOk result (λ r. IsTyped (widths_of r.0) (view r.1)) }
     ensures fits { IfOk result (λ r. FormulaFits (view r.1) (length r.0)) }
 {

@@ -34,7 +34,8 @@ pub fn assignments_of(scope: &Scope, written: &[AssignmentText]) -> Result<Vec<A
     requires { IsTrue scope.now.one_state }
     ensures trees { IfOk result (λ ts. map assignment ts.items ≡ map (assignment_tree scope.now.layout.now) (map (assigned scope.now.source.now) written.now)) }
     ensures faultless { IfOk result (λ _. flat_map (assigned_faults scope.now.layout.now) (map (assigned scope.now.source.now) written.now) ≡ []) }
-    ensures fault { IfErr result (λ refusal. IsRefusal scope.now.file (flat_map (assigned_faults scope.now.layout.now) (map (assigned scope.now.source.now) written.now)) refusal) }
+    ensures fault { IfErr result (λ refusal. IsRefusal scope.now.file
+        (flat_map (assigned_faults scope.now.layout.now) (map (assigned scope.now.source.now) written.now)) refusal) }
 {
     let mut assignments = Vec::new(scope.alloc);
     for one in written {

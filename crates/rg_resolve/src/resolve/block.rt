@@ -91,7 +91,8 @@ fn statements_of(scope: &Scope, items: &[StatementText]) -> Result<Vec<Stmt>, Re
     requires { IsTrue scope.now.one_state }
     ensures trees { IfOk result (λ ts. map statement ts.items ≡ statement_trees scope.now.layout.now (listed (map (written scope.now.source.now) items.now))) }
     ensures faultless { IfOk result (λ _. block_faults scope.now.layout.now (listed (map (written scope.now.source.now) items.now)) ≡ []) }
-    ensures fault { IfErr result (λ refusal. IsRefusal scope.now.file (block_faults scope.now.layout.now (listed (map (written scope.now.source.now) items.now))) refusal) }
+    ensures fault { IfErr result (λ refusal. IsRefusal scope.now.file
+        (block_faults scope.now.layout.now (listed (map (written scope.now.source.now) items.now))) refusal) }
 {
     let mut statements = Vec::new(scope.alloc);
     for one in items {
@@ -105,7 +106,8 @@ pub fn block_of(scope: &Scope, items: &[StatementText]) -> Result<Stmt, Refusal>
     requires { IsTrue scope.now.one_state }
     ensures tree { IfOk result (λ t. statement t ≡ block_tree scope.now.layout.now (listed (map (written scope.now.source.now) items.now))) }
     ensures faultless { IfOk result (λ _. block_faults scope.now.layout.now (listed (map (written scope.now.source.now) items.now)) ≡ []) }
-    ensures fault { IfErr result (λ refusal. IsRefusal scope.now.file (block_faults scope.now.layout.now (listed (map (written scope.now.source.now) items.now))) refusal) }
+    ensures fault { IfErr result (λ refusal. IsRefusal scope.now.file
+        (block_faults scope.now.layout.now (listed (map (written scope.now.source.now) items.now))) refusal) }
 {
     let statements = statements_of(scope, items)?;
     let block = joined(scope.alloc, statements)?;

@@ -41,7 +41,9 @@ fn conditional(conditional: Conditional) -> Connective
 #[tactic(auto, using(rg_leaves::proofs::Refusals::refusals, crate::proofs::Parts::parts))]
 fn number_tree(scope: &Scope, group: Group, token: &Token) -> Result<Expr, Refusal>
     requires { width_of group ≤ MOST_WIDTH }
-    ensures tree { IfOk result (λ e. IsTermTree scope.now.layout.now scope.now.one_state group (number_leaf (leaf_of scope.now.source.now token.now)) (expression e)) }
+    ensures tree { IfOk result (λ e.
+        IsTermTree scope.now.layout.now scope.now.one_state group (number_leaf (leaf_of scope.now.source.now token.now))
+        (expression e)) }
     ensures fault { IfErr result (λ e. IsRefusal scope.now.file (number_faults group token.now.line (number_of (text_of scope.now.source.now token.now))) e) }
 {
     match group {
@@ -60,7 +62,8 @@ fn number_tree(scope: &Scope, group: Group, token: &Token) -> Result<Expr, Refus
 pub fn expression_tree(scope: &Scope, group: Group, e: &ExpressionText) -> Result<Expr, Refusal>
     requires { width_of group ≤ MOST_WIDTH }
     ensures tree { IfOk result (λ tree. IsTermTree scope.now.layout.now scope.now.one_state group (term scope.now.source.now e.now) (expression tree)) }
-    ensures fault { IfErr result (λ refusal. IsRefusal scope.now.file (term_faults scope.now.layout.now scope.now.one_state group (term scope.now.source.now e.now)) refusal) }
+    ensures fault { IfErr result (λ refusal. IsRefusal scope.now.file
+        (term_faults scope.now.layout.now scope.now.one_state group (term scope.now.source.now e.now)) refusal) }
 {
     match e {
         ExpressionText::Number(token) => number_tree(scope, group, token),
@@ -104,7 +107,8 @@ pub fn expression_tree(scope: &Scope, group: Group, e: &ExpressionText) -> Resul
 #[tactic(auto, using(rg_leaves::proofs::Refusals::refusals, crate::proofs::Parts::parts))]
 pub fn formula_tree(scope: &Scope, f: &FormulaText) -> Result<Formula, Refusal>
     ensures tree { IfOk result (λ tree. IsClaimTree scope.now.layout.now scope.now.one_state (claim scope.now.source.now f.now) (formula tree)) }
-    ensures fault { IfErr result (λ refusal. IsRefusal scope.now.file (claim_faults scope.now.layout.now scope.now.one_state (claim scope.now.source.now f.now)) refusal) }
+    ensures fault { IfErr result (λ refusal. IsRefusal scope.now.file
+        (claim_faults scope.now.layout.now scope.now.one_state (claim scope.now.source.now f.now)) refusal) }
 {
     match f {
         FormulaText::Truth(b) => Ok(Formula::Truth(*b)),
@@ -144,8 +148,11 @@ fn chain_tree(
     f: &FormulaText,
     g: &FormulaText,
 ) -> Result<Formula, Refusal>
-    ensures tree { IfOk result (λ tree. IsClaimTree scope.now.layout.now scope.now.one_state (joined junction (claim scope.now.source.now f.now) (claim scope.now.source.now g.now)) (formula tree)) }
-    ensures fault { IfErr result (λ refusal. IsRefusal scope.now.file (claim_faults scope.now.layout.now scope.now.one_state (joined junction (claim scope.now.source.now f.now) (claim scope.now.source.now g.now))) refusal) }
+    ensures tree { IfOk result (λ tree. IsClaimTree scope.now.layout.now scope.now.one_state
+        (joined junction (claim scope.now.source.now f.now) (claim scope.now.source.now g.now)) (formula tree)) }
+    ensures fault { IfErr result (λ refusal. IsRefusal scope.now.file
+        (claim_faults scope.now.layout.now scope.now.one_state (joined junction (claim scope.now.source.now f.now) (claim scope.now.source.now g.now)))
+        refusal) }
 {
     let mut links = Vec::new(scope.alloc);
     links.push(Link {

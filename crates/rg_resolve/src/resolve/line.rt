@@ -54,9 +54,11 @@ fn line_of(scope: &Scope, written: &LineText) -> Result<DerivationLine, Refusal>
 /// The lines, in order.
 pub fn lines_of(scope: &Scope, written: &[LineText]) -> Result<Vec<DerivationLine>, Refusal>
     requires { IsTrue scope.now.one_state }
-    ensures trees { IfOk result (λ lines. map line_tree lines.items ≡ map (resolved_line scope.now.layout.now) (map (line_text scope.now.source.now) written.now)) }
+    ensures trees { IfOk result (λ lines. map line_tree lines.items
+        ≡ map (resolved_line scope.now.layout.now) (map (line_text scope.now.source.now) written.now)) }
     ensures faultless { IfOk result (λ _. derivation_faults scope.now.layout.now (map (line_text scope.now.source.now) written.now) ≡ []) }
-    ensures fault { IfErr result (λ refusal. IsRefusal scope.now.file (derivation_faults scope.now.layout.now (map (line_text scope.now.source.now) written.now)) refusal) }
+    ensures fault { IfErr result (λ refusal. IsRefusal scope.now.file
+        (derivation_faults scope.now.layout.now (map (line_text scope.now.source.now) written.now)) refusal) }
 {
     let mut lines = Vec::new(scope.alloc);
     for one in written {

@@ -50,8 +50,12 @@ fn part_of(scope: &Scope, before: &[PartText], written: &PartText) -> Result<Par
     requires one_state { IsTrue scope.now.one_state }
     requires name { IsName (text_of scope.now.source.now written.now.name) }
     ensures tree { IfOk result (λ p. part p ≡ part_tree scope.now.layout.now (part_text scope.now.source.now written.now)) }
-    ensures faultless { IfOk result (λ _. part_faults scope.now.layout.now (map (part_text scope.now.source.now) before.now) (part_text scope.now.source.now written.now) ≡ []) }
-    ensures fault { IfErr result (λ refusal. IsRefusal scope.now.file (part_faults scope.now.layout.now (map (part_text scope.now.source.now) before.now) (part_text scope.now.source.now written.now)) refusal) }
+    ensures faultless { IfOk result (λ _. part_faults scope.now.layout.now (map (part_text scope.now.source.now) before.now)
+        (part_text scope.now.source.now written.now)
+        ≡ []) }
+    ensures fault { IfErr result (λ refusal. IsRefusal scope.now.file
+        (part_faults scope.now.layout.now (map (part_text scope.now.source.now) before.now) (part_text scope.now.source.now written.now))
+        refusal) }
 {
     let name = text(scope.source, &written.name);
     if has_part(scope.source, before, name) {
@@ -72,7 +76,9 @@ pub fn parts_of(scope: &Scope, written: &[PartText]) -> Result<Vec<Part>, Refusa
     requires names { All (λ p. IsName (text_of scope.now.source.now p.name)) written.now }
     ensures trees { IfOk result (λ ps. map part ps.items ≡ map (part_tree scope.now.layout.now) (map (part_text scope.now.source.now) written.now)) }
     ensures faultless { IfOk result (λ _. parts_faults scope.now.layout.now (map (part_text scope.now.source.now) written.now) ≡ []) }
-    ensures fault { IfErr result (λ refusal. IsRefusal scope.now.file (parts_faults scope.now.layout.now (map (part_text scope.now.source.now) written.now)) refusal) }
+    ensures fault { IfErr result (λ refusal.
+        IsRefusal scope.now.file (parts_faults scope.now.layout.now (map (part_text scope.now.source.now) written.now))
+        refusal) }
 {
     let mut parts = Vec::new(scope.alloc);
     for (i, one) in written.iter().enumerate() {

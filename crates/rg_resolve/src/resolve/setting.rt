@@ -26,8 +26,12 @@ fn is_named(source: &[u8], settings: &[Setting], name: &[u8]) -> bool
 #[tactic(auto, using(rg_leaves::proofs::Refusals::refusals), unfolding(crate::specs::Settings::setting_faults))]
 fn word_value(scope: &Scope, before: &[Setting], setting: &Setting) -> Result<WordValue, Refusal>
     ensures value { IfOk result (λ v. v ≡ word_value scope.now.layout.now (leaves scope.now.source.now setting.now)) }
-    ensures faultless { IfOk result (λ _. setting_faults scope.now.layout.now (map (leaves scope.now.source.now) before.now) (leaves scope.now.source.now setting.now) ≡ []) }
-    ensures fault { IfErr result (λ refusal. IsRefusal scope.now.file (setting_faults scope.now.layout.now (map (leaves scope.now.source.now) before.now) (leaves scope.now.source.now setting.now)) refusal) }
+    ensures faultless { IfOk result (λ _. setting_faults scope.now.layout.now (map (leaves scope.now.source.now) before.now)
+        (leaves scope.now.source.now setting.now)
+        ≡ []) }
+    ensures fault { IfErr result (λ refusal. IsRefusal scope.now.file
+        (setting_faults scope.now.layout.now (map (leaves scope.now.source.now) before.now) (leaves scope.now.source.now setting.now))
+        refusal) }
 {
     let name = text(scope.source, &setting.word);
     let Some(word) = find(scope.layout, name) else {
@@ -47,7 +51,9 @@ fn word_value(scope: &Scope, before: &[Setting], setting: &Setting) -> Result<Wo
 pub fn word_values(scope: &Scope, settings: &[Setting]) -> Result<Vec<WordValue>, Refusal>
     ensures values { IfOk result (λ values. values.items ≡ word_values scope.now.layout.now (map (leaves scope.now.source.now) settings.now)) }
     ensures faultless { IfOk result (λ _. settings_faults scope.now.layout.now (map (leaves scope.now.source.now) settings.now) ≡ []) }
-    ensures fault { IfErr result (λ refusal. IsRefusal scope.now.file (settings_faults scope.now.layout.now (map (leaves scope.now.source.now) settings.now)) refusal) }
+    ensures fault { IfErr result (λ refusal.
+        IsRefusal scope.now.file (settings_faults scope.now.layout.now (map (leaves scope.now.source.now) settings.now))
+        refusal) }
 {
     let mut values = Vec::new(scope.alloc);
     for (i, setting) in settings.iter().enumerate() {
@@ -72,7 +78,9 @@ fn move_of(scope: &Scope, written: &MoveText) -> Result<Move, Refusal>
 pub fn moves_of(scope: &Scope, written: &[MoveText]) -> Result<Vec<Move>, Refusal>
     ensures trees { IfOk result (λ moves. map move moves.items ≡ move_trees scope.now.layout.now (map (move_text scope.now.source.now) written.now)) }
     ensures faultless { IfOk result (λ _. moves_faults scope.now.layout.now (map (move_text scope.now.source.now) written.now) ≡ []) }
-    ensures fault { IfErr result (λ refusal. IsRefusal scope.now.file (moves_faults scope.now.layout.now (map (move_text scope.now.source.now) written.now)) refusal) }
+    ensures fault { IfErr result (λ refusal.
+        IsRefusal scope.now.file (moves_faults scope.now.layout.now (map (move_text scope.now.source.now) written.now))
+        refusal) }
 {
     let mut moves = Vec::new(scope.alloc);
     for one in written {
