@@ -66,7 +66,9 @@ impl<'e> Closed<'e> {
         requires start { start.widths ≡ widths_of program.now.layout }
         requires changes { AreChangesOf (widths_of program.now.layout) changes.items }
         requires exact { changes.items ≡ map change_in (rebuilt (program_tree program.now) 0 start.values changes.items) }
-        ensures { result ≡ record { why = why; changes = changes.items; history = rebuilt (program_tree program.now) 0 start.values changes.items; refused = refused.items } }
+        ensures { result
+            ≡ record
+            { why = why; changes = changes.items; history = rebuilt (program_tree program.now) 0 start.values changes.items; refused = refused.items } }
     {
         Closed {
             program,

@@ -418,7 +418,9 @@ fn standing<'e>(
 ) -> Result<(Config<'e>, Config<'e>, State), AllocError>
     requires law { ∥ IsLawful program.now code.now ∥₁ }
     requires widths { start.now.widths ≡ widths_of program.now.layout }
-    ensures config { IfOk result (λ r. r.0 ≡ record { words = program.now.layout; codes = code_blocks code.now; state = start.now.values; places = zeros (code_blocks code.now) }) }
+    ensures config { IfOk result (λ r. r.0
+        ≡ record
+        { words = program.now.layout; codes = code_blocks code.now; state = start.now.values; places = zeros (code_blocks code.now) }) }
     ensures ahead { IfOk result (λ r. r.1 ≡ r.0) }
     ensures scratch { IfOk result (λ r. r.2.widths ≡ start.now.widths) }
 {

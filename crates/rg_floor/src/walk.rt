@@ -120,7 +120,9 @@ fn is_passed(
 ) -> Result<bool, AllocError>
     requires words { walk.old.config.words ≡ program.now.layout }
     requires moves { IsChange program.now.layout each.now.values.items }
-    ensures reported { IfOk result (λ b. IsTrue b → IsRefusedAt (formula program.now.spec.rely) limit (place_of walk.old) (walk.old.moves + 1) (move_tree each.now) entry) }
+    ensures reported { IfOk result (λ b. IsTrue b →
+        IsRefusedAt (formula program.now.spec.rely) limit (place_of walk.old) (walk.old.moves + 1)
+        (move_tree each.now) entry) }
     ensures same { walk.new ≡ walk.old }
 {
     if entry.number == 0 || entry.number - 1 != walk.moves as u64 || entry.records != walk.records {
@@ -248,7 +250,10 @@ pub fn moves_stand(
 ) -> Result<bool, AllocError>
     requires start { origin.now.start.now.widths ≡ widths_of (program_tree origin.now.program.now).words }
     requires moves { AreMoves (program_tree origin.now.program.now).words (map move_tree moves.now) }
-    ensures { IfOk result (λ b. IsTrue b → MovesStand (program_tree origin.now.program.now).spec.rely origin.now.limit (first_place (program_tree origin.now.program.now).words (code_blocks origin.now.code.now) origin.now.start.now.values) 1 (map move_tree moves.now) passed.now steps.now) }
+    ensures { IfOk result (λ b. IsTrue b →
+        MovesStand (program_tree origin.now.program.now).spec.rely origin.now.limit
+        (first_place (program_tree origin.now.program.now).words (code_blocks origin.now.code.now) origin.now.start.now.values)
+        1 (map move_tree moves.now) passed.now steps.now) }
 {
     if !origin.code.layout.same(&origin.program.layout) {
         return Ok(false);

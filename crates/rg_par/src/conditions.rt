@@ -33,7 +33,9 @@ fn add_pres(
 ) -> Result<(), AllocError>
     requires pre { IsTyped (widths_of layout.now) (formula pre.now) }
     requires parts { AreTypedParts layout.now (map part parts.now) }
-    ensures { OnOk result (map condition_tree all.new.items ≡ map condition_tree all.old.items ++ map (as_condition layout.now) (pre_conditions (formula pre.now) (map part parts.now))) }
+    ensures { OnOk result (map condition_tree all.new.items
+        ≡ map condition_tree all.old.items
+        ++ map (as_condition layout.now) (pre_conditions (formula pre.now) (map part parts.now))) }
 {
     for part in parts {
         all.push(implies(alloc, layout.copy()?, pre, &part.spec.pre)?)?;
@@ -51,7 +53,9 @@ fn add_relies(
 ) -> Result<(), AllocError>
     requires rely { IsTyped (widths_of layout.now) (formula rely.now) }
     requires parts { AreTypedParts layout.now (map part parts.now) }
-    ensures { OnOk result (map condition_tree all.new.items ≡ map condition_tree all.old.items ++ map (as_condition layout.now) (rely_conditions (formula rely.now) (map part parts.now))) }
+    ensures { OnOk result (map condition_tree all.new.items
+        ≡ map condition_tree all.old.items
+        ++ map (as_condition layout.now) (rely_conditions (formula rely.now) (map part parts.now))) }
 {
     for part in parts {
         all.push(allows(alloc, layout.copy()?, rely, &part.spec.rely)?)?;
@@ -69,7 +73,9 @@ fn add_guars(
 ) -> Result<(), AllocError>
     requires guar { IsTyped (widths_of layout.now) (formula guar.now) }
     requires parts { AreTypedParts layout.now (map part parts.now) }
-    ensures { OnOk result (map condition_tree all.new.items ≡ map condition_tree all.old.items ++ map (as_condition layout.now) (guar_conditions (formula guar.now) (map part parts.now))) }
+    ensures { OnOk result (map condition_tree all.new.items
+        ≡ map condition_tree all.old.items
+        ++ map (as_condition layout.now) (guar_conditions (formula guar.now) (map part parts.now))) }
 {
     for part in parts {
         all.push(allows(alloc, layout.copy()?, &part.spec.guar, guar)?)?;
@@ -88,7 +94,10 @@ fn add_other(
 ) -> Result<(), AllocError>
     requires rely { IsTyped (widths_of layout.now) (formula rely.now) }
     requires part { IsTypedSpecification layout.now (specification part.now.spec) }
-    ensures { OnOk result (map condition_tree all.new.items ≡ map condition_tree all.old.items ++ map (as_condition layout.now) (if is_own then [] else allows_of (formula part.now.spec.guar) (formula rely.now) ∷ [])) }
+    ensures { OnOk result (map condition_tree all.new.items
+        ≡ map condition_tree all.old.items
+        ++ map (as_condition layout.now)
+        (if is_own then [] else allows_of (formula part.now.spec.guar) (formula rely.now) ∷ [])) }
 {
     if !is_own {
         all.push(allows(alloc, layout.copy()?, &part.spec.guar, rely)?)?;
@@ -108,7 +117,9 @@ fn add_others(
     requires rely { IsTyped (widths_of layout.now) (formula rely.now) }
     requires parts { AreTypedParts layout.now (map part parts.now) }
     requires most { length parts.now ≤ MOST_PARTS }
-    ensures { OnOk result (map condition_tree all.new.items ≡ map condition_tree all.old.items ++ map (as_condition layout.now) (other_conditions i (formula rely.now) 1 (map part parts.now))) }
+    ensures { OnOk result (map condition_tree all.new.items
+        ≡ map condition_tree all.old.items
+        ++ map (as_condition layout.now) (other_conditions i (formula rely.now) 1 (map part parts.now))) }
 {
     for (j, part) in parts.iter().enumerate() {
         add_other(alloc, all, layout, rely, part, i == j + 1)?;
@@ -125,7 +136,9 @@ fn add_crosses(
 ) -> Result<(), AllocError>
     requires parts { AreTypedParts layout.now (map part parts.now) }
     requires most { length parts.now ≤ MOST_PARTS }
-    ensures { OnOk result (map condition_tree all.new.items ≡ map condition_tree all.old.items ++ map (as_condition layout.now) (cross_conditions (map part parts.now) 1 (map part parts.now))) }
+    ensures { OnOk result (map condition_tree all.new.items
+        ≡ map condition_tree all.old.items
+        ++ map (as_condition layout.now) (cross_conditions (map part parts.now) 1 (map part parts.now))) }
 {
     for (i, part) in parts.iter().enumerate() {
         add_others(alloc, all, layout, i + 1, &part.spec.rely, parts)?;
@@ -155,7 +168,10 @@ fn add_post(
 ) -> Result<(), AllocError>
     requires post { IsTyped (widths_of layout.now) (formula post.now) }
     requires parts { AreTypedParts layout.now (map part parts.now) }
-    ensures { OnOk result (map condition_tree all.new.items ≡ map condition_tree all.old.items ++ map (as_condition layout.now) (reaches_of (map (λ p. p.spec.post) (map part parts.now)) [] (formula post.now) ∷ [])) }
+    ensures { OnOk result (map condition_tree all.new.items
+        ≡ map condition_tree all.old.items
+        ++ map (as_condition layout.now)
+        (reaches_of (map (λ p. p.spec.post) (map part parts.now)) [] (formula post.now) ∷ [])) }
 {
     let posts = posts(alloc, parts)?;
     let post = copy_formula(alloc, post)?;
@@ -166,7 +182,10 @@ fn add_post(
 /// Adds the conditions in their order. Where memory is refused, some may have been added.
 fn add_all(alloc: Global, all: &mut Vec<Condition>, program: &Program) -> Result<(), AllocError>
     // Exactly the rule's list, after what was there.
-    ensures { OnOk result (map condition_tree all.new.items ≡ map condition_tree all.old.items ++ map (as_condition program.now.layout) (parallel_conditions (specification program.now.spec) (map part program.now.parts.items))) }
+    ensures { OnOk result (map condition_tree all.new.items
+        ≡ map condition_tree all.old.items
+        ++ map (as_condition program.now.layout)
+        (parallel_conditions (specification program.now.spec) (map part program.now.parts.items))) }
 {
     let layout = &program.layout;
     let parts = program.parts.as_slice();
@@ -185,9 +204,13 @@ fn add_all(alloc: Global, all: &mut Vec<Condition>, program: &Program) -> Result
 /// Refused only where memory was refused.
 pub fn conditions(alloc: Global, program: &Program) -> Result<Vec<Condition>, AllocError>
     // Exactly the rule's list.
-    ensures list { IfOk result (λ all. map condition_tree all.items ≡ map (as_condition program.now.layout) (parallel_conditions (specification program.now.spec) (map part program.now.parts.items))) }
+    ensures list { IfOk result (λ all. map condition_tree all.items
+        ≡ map (as_condition program.now.layout)
+        (parallel_conditions (specification program.now.spec) (map part program.now.parts.items))) }
     // Where they are true and each part satisfies its own specification, the program satisfies its specification.
-    ensures sound { IfOk result (λ all. AllConditionsHold (map condition_tree all.items) → PartsSatisfy (program_tree program.now) → IsSatisfied (program_tree program.now)) }
+    ensures sound { IfOk result (λ all. AllConditionsHold (map condition_tree all.items) →
+        PartsSatisfy (program_tree program.now) →
+        IsSatisfied (program_tree program.now)) }
 {
     let mut all = Vec::new(alloc);
     add_all(alloc, &mut all, program)?;
@@ -203,7 +226,10 @@ pub fn add_conditions(
     program: &Program,
 ) -> Result<(), AllocError>
     // Exactly the rule's list, after what was there.
-    ensures list { OnOk result (map condition_tree all.new.items ≡ map condition_tree all.old.items ++ map (as_condition program.now.layout) (parallel_conditions (specification program.now.spec) (map part program.now.parts.items))) }
+    ensures list { OnOk result (map condition_tree all.new.items
+        ≡ map condition_tree all.old.items
+        ++ map (as_condition program.now.layout)
+        (parallel_conditions (specification program.now.spec) (map part program.now.parts.items))) }
     ensures unchanged { OnErr result (all.new.items ≡ all.old.items) }
 {
     let mut own = conditions(alloc, program)?;

@@ -36,7 +36,8 @@ fn add_other(
     j: usize,
     other: &Part,
 ) -> Result<(), AllocError>
-    ensures { OnOk result (map string_bytes all.new.items ≡ map string_bytes all.old.items ++ (if i == j then [] else of_two (part other.now) (part own.now) ∷ [])) }
+    ensures { OnOk result (map string_bytes all.new.items
+        ≡ map string_bytes all.old.items ++ (if i == j then [] else of_two (part other.now) (part own.now) ∷ [])) }
 {
     if i != j {
         let mut text = String::from_str(alloc, "all guar ")?;

@@ -117,7 +117,8 @@ pub fn prove_pieces<R: Threads + Wait + Sync>(
     ensures proved { OnOk result (ArePartProvedBy count before (map condition_tree conditions.now) (map (λ piece. piece.now) pieces.now)) }
     ensures holds { OnOk result (AllConditionsHold (map condition_tree conditions.now)) }
     ensures refused { IfErr result (ArePartRefused count before (map condition_tree conditions.now) (map (λ piece. piece.now) pieces.now)) }
-    ensures accepts { ArePartProvedBy count before (map condition_tree conditions.now) (map (λ piece. piece.now) pieces.now) → IfErr result (λ e. e ≡ no_memory) }
+    ensures accepts { ArePartProvedBy count before (map condition_tree conditions.now) (map (λ piece. piece.now) pieces.now) →
+        IfErr result (λ e. e ≡ no_memory) }
 {
     let sections = match sections_of(alloc, count, pieces) {
         Ok(sections) => sections,

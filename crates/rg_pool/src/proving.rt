@@ -109,8 +109,11 @@ fn settle<R: Threads + Wait + Sync>(
     requires known { AreVerdicts (map text_of part.now.sections.now) part.now.before (map condition_tree part.now.conditions.now) known.now }
     ensures proved { OnOk result (AllProvedFrom (map text_of part.now.sections.now) (part.now.before + 1) (map condition_tree part.now.conditions.now)) }
     ensures holds { OnOk result (AllConditionsHold (map condition_tree part.now.conditions.now)) }
-    ensures refused { IfErr result (λ e. (e ≡ no_memory) ⊎ IsFirstRefusal (map text_of part.now.sections.now) (part.now.before + 1) (map condition_tree part.now.conditions.now) e) }
-    ensures accepts { AllProvedFrom (map text_of part.now.sections.now) (part.now.before + 1) (map condition_tree part.now.conditions.now) → IfErr result (λ e. e ≡ no_memory) }
+    ensures refused { IfErr result (λ e. (e ≡ no_memory)
+        ⊎ IsFirstRefusal (map text_of part.now.sections.now) (part.now.before + 1)
+        (map condition_tree part.now.conditions.now) e) }
+    ensures accepts { AllProvedFrom (map text_of part.now.sections.now) (part.now.before + 1) (map condition_tree part.now.conditions.now) →
+        IfErr result (λ e. e ≡ no_memory) }
 {
     for index in 0..part.conditions.len() {
         if let Err(refusal) = verdict_at(checker, alloc, part, known, index) {
@@ -129,7 +132,9 @@ fn prove_some<R: Threads + Wait + Sync>(
     requires len { part.now.before + length part.now.conditions.now ≤ length part.now.placed.now }
     requires placed { ArePlaced part.now.sections.now part.now.placed.now }
     ensures count { IfOk result (λ known. length known.items ≡ length part.now.conditions.now) }
-    ensures known { IfOk result (λ known. AreVerdicts (map text_of part.now.sections.now) part.now.before (map condition_tree part.now.conditions.now) known.items) }
+    ensures known { IfOk result (λ known.
+        AreVerdicts (map text_of part.now.sections.now) part.now.before (map condition_tree part.now.conditions.now)
+        known.items) }
 {
     let refused = AtomicBool::new(false);
     let reported = &refused;

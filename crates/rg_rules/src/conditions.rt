@@ -35,7 +35,10 @@ fn add_lines(
 ) -> Result<(), AllocError>
     requires lines { AreTypedLines layout.now (map line_tree lines.now) }
     requires statements { (n : ℕ) (s : Statement) → nth (map referred list.now) n ≡ Some s → IsTypedStatement layout.now s }
-    ensures { OnOk result (map condition_tree all.new.items ≡ map condition_tree all.old.items ++ map (as_condition layout.now) (conditions_asked (map referred list.now) (map line_tree lines.now) (map line_tree lines.now))) }
+    ensures { OnOk result (map condition_tree all.new.items
+        ≡ map condition_tree all.old.items
+        ++ map (as_condition layout.now)
+        (conditions_asked (map referred list.now) (map line_tree lines.now) (map line_tree lines.now))) }
 {
     for line in lines {
         if let Some(s) = statement_at(list, line.number) {
@@ -58,11 +61,14 @@ impl Derivation {
         // The lines were read for this program: that there is a proof of it, as a type can keep.
         requires derives { ∥ Derives (map part program.now.parts.items) (map line_tree self.now.lines.items) ∥₁ }
         // Exactly the rules' list.
-        ensures list { IfOk result (λ all. map condition_tree all.items ≡ map (as_condition program.now.layout) (conditions_asked (statements_of_parts (map part program.now.parts.items)) (map line_tree self.now.lines.items) (map line_tree self.now.lines.items))) }
+        ensures list { IfOk result (λ all. map condition_tree all.items
+            ≡ map (as_condition program.now.layout) (conditions_asked (statements_of_parts (map part program.now.parts.items))
+            (map line_tree self.now.lines.items) (map line_tree self.now.lines.items))) }
         // One for each name.
         ensures count { IfOk result (λ all. length all.items ≡ length (line_names 1 (map line_tree self.now.lines.items))) }
         // Where they are true, each line's statement satisfies the line's four formulas.
-        ensures sound { IfOk result (λ all. AllConditionsHold (map condition_tree all.items) → LinesHold program.now.layout (map part program.now.parts.items) (map line_tree self.now.lines.items)) }
+        ensures sound { IfOk result (λ all. AllConditionsHold (map condition_tree all.items) →
+            LinesHold program.now.layout (map part program.now.parts.items) (map line_tree self.now.lines.items)) }
         // And so each part's body satisfies the part's own specification.
         ensures parts { IfOk result (λ all. AllConditionsHold (map condition_tree all.items) → PartsSatisfy (program_tree program.now)) }
     {

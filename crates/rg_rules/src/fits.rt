@@ -141,7 +141,8 @@ fn are_of_sequence(
     requires earlier { AreEarlier (length lines.now + 1) premises.now }
     requires sizes { AreSized sizes.now number (more (statement s.now) (items rest.now)) }
     requires room { number + (length (statements (statement s.now)) + length (statements_of_items (items rest.now))) < 2 ^ 64 }
-    ensures { IsTrue result ↔ (map (λ l. l.number) (lines_at (map line_tree lines.now) premises.now) ≡ item_numbers number (more (statement s.now) (items rest.now))) }
+    ensures { IsTrue result ↔ (map (λ l. l.number) (lines_at (map line_tree lines.now) premises.now)
+        ≡ item_numbers number (more (statement s.now) (items rest.now))) }
 {
     let Some((first, others)) = premises.split_first() else {
         return false;
@@ -158,7 +159,8 @@ fn are_asked(lines: &[DerivationLine], sizes: &[u64], line: &DerivationLine, s: 
     requires number { line.now.number ≤ MOST_STATEMENTS }
     requires sizes { IsSizedInside sizes.now line.now.number (statement s.now) }
     requires most { length (statements (statement s.now)) ≤ MOST_STATEMENTS }
-    ensures { IsTrue result ↔ (map (λ l. l.number) (lines_at (map line_tree lines.now) line.now.premises.items) ≡ premise_numbers line.now.number line.now.rule (statement s.now)) }
+    ensures { IsTrue result ↔ (map (λ l. l.number) (lines_at (map line_tree lines.now) line.now.premises.items)
+        ≡ premise_numbers line.now.number line.now.rule (statement s.now)) }
 {
     let premises = line.premises.as_slice();
     let inner = line.number + 1;
@@ -177,7 +179,8 @@ fn are_asked(lines: &[DerivationLine], sizes: &[u64], line: &DerivationLine, s: 
 
 /// Whether the rely, the guarantee and the post are these.
 fn is_framed(a: &Spec, spec: &Spec, post: &Formula) -> bool
-    ensures { IsTrue result ↔ ((formula a.now.rely ≡ formula spec.now.rely) × (formula a.now.guar ≡ formula spec.now.guar) × (formula a.now.post ≡ formula post.now)) }
+    ensures { IsTrue result ↔ ((formula a.now.rely ≡ formula spec.now.rely) × (formula a.now.guar ≡ formula spec.now.guar)
+        × (formula a.now.post ≡ formula post.now)) }
 {
     same_formula(&a.rely, &spec.rely)
         && same_formula(&a.guar, &spec.guar)
@@ -224,7 +227,8 @@ fn is_spec(a: &Spec, pre: &Formula, spec: &Spec, post: &Formula) -> bool
 /// Whether the premises lead from this pre to the post, each post the next pre.
 fn are_chained(lines: &[DerivationLine], pre: &Formula, spec: &Spec, premises: &[u64]) -> bool
     requires earlier { AreEarlier (length lines.now + 1) premises.now }
-    ensures { IsTrue result ↔ AreChained (record (specification spec.now) { pre = formula pre.now }) (map (λ l. l.spec) (lines_at (map line_tree lines.now) premises.now)) }
+    ensures { IsTrue result ↔ AreChained (record (specification spec.now) { pre = formula pre.now })
+        (map (λ l. l.spec) (lines_at (map line_tree lines.now) premises.now)) }
 {
     let Some((first, others)) = premises.split_first() else {
         return false;
@@ -275,7 +279,8 @@ fn is_turn(lines: &[DerivationLine], spec: &Spec, test: &Formula, premises: &[u6
 fn trees_fit(lines: &[DerivationLine], line: &DerivationLine, s: &Stmt) -> bool
     requires earlier { AreEarlier (length lines.now + 1) line.now.premises.items }
     requires count { premise_count line.now.rule (statement s.now) ≡ Some (length line.now.premises.items) }
-    ensures { IsTrue result ↔ TreesFit (specification line.now.spec) line.now.rule (statement s.now) (map (λ l. l.spec) (lines_at (map line_tree lines.now) line.now.premises.items)) }
+    ensures { IsTrue result ↔ TreesFit (specification line.now.spec) line.now.rule (statement s.now)
+        (map (λ l. l.spec) (lines_at (map line_tree lines.now) line.now.premises.items)) }
 {
     let premises = line.premises.as_slice();
     let spec = &line.spec;

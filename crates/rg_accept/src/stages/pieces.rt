@@ -32,7 +32,9 @@ impl Parsed {
         ensures program { IfOk result (λ d. derived_program d ≡ parsed_program self) }
         ensures fits { IfOk result (λ d. FitsInPieces (parsed_program self) (map (λ piece. piece.now) pieces.now) (derived_lines d)) }
         ensures refused { IfErr result (IsPiecesRefusal (parsed_program self) (map (λ piece. piece.now) pieces.now)) }
-        ensures accepts { (ls : List LineTree) → FitsInPieces (parsed_program self) (map (λ piece. piece.now) pieces.now) ls → IfErr result (λ e. e ≡ no_memory) }
+        ensures accepts { (ls : List LineTree) →
+            FitsInPieces (parsed_program self) (map (λ piece. piece.now) pieces.now) ls →
+            IfErr result (λ e. e ≡ no_memory) }
     {
         let Parsed { program } = self;
         match Derived::of_pieces(alloc, program, pieces) {
@@ -56,7 +58,9 @@ impl Derived {
         ensures fits { IfOk result (λ d. FitsInPieces (program_tree program) (map (λ piece. piece.now) pieces.now) (derived_lines d)) }
         ensures refused { IfErr result (IsPiecesRefusal (program_tree program) (map (λ piece. piece.now) pieces.now)) }
         // Pieces of lines that derive the parts are taken, unless memory runs out.
-        ensures accepts { (ls : List LineTree) → FitsInPieces (program_tree program) (map (λ piece. piece.now) pieces.now) ls → IfErr result (λ e. e ≡ no_memory) }
+        ensures accepts { (ls : List LineTree) →
+            FitsInPieces (program_tree program) (map (λ piece. piece.now) pieces.now) ls →
+            IfErr result (λ e. e ≡ no_memory) }
     {
         // A piece spells one list of lines, and lines that derive the parts have no fault.
         one_derivation();
@@ -90,7 +94,8 @@ impl Derived {
         ensures proved { OnOk result (AreProvedBy (conditions_of (derived_program self) (derived_lines self)) (map (λ piece. piece.now) proofs.now)) }
         ensures satisfied { IfOk result (λ a. IsSatisfied (accepted_program a)) }
         ensures refused { IfErr result (AreProofsRefused (conditions_of (derived_program self) (derived_lines self)) (map (λ piece. piece.now) proofs.now)) }
-        ensures accepts { AreProvedBy (conditions_of (derived_program self) (derived_lines self)) (map (λ piece. piece.now) proofs.now) → IfErr result (λ e. e ≡ no_memory) }
+        ensures accepts { AreProvedBy (conditions_of (derived_program self) (derived_lines self)) (map (λ piece. piece.now) proofs.now) →
+            IfErr result (λ e. e ≡ no_memory) }
     {
         let conditions = self.conditions(alloc)?;
         let all = conditions.as_slice();
@@ -119,7 +124,9 @@ fn lines_of(
     ensures spelled { IfOk result (λ r. AreSpelledInPieces layout.now 1 (map (λ piece. piece.now) pieces.now) (map line_tree r.0.items) r.1) }
     ensures typed { IfOk result (λ r. AreTypedLines layout.now (map line_tree r.0.items)) }
     ensures refused { IfErr result (IsPieceRefusal layout.now (map (λ piece. piece.now) pieces.now)) }
-    ensures accepts { (ls : List LineTree) (last : ℕ) → AreSpelledInPieces layout.now 1 (map (λ piece. piece.now) pieces.now) ls last → IfErr result (λ e. e ≡ no_memory) }
+    ensures accepts { (ls : List LineTree) (last : ℕ) →
+        AreSpelledInPieces layout.now 1 (map (λ piece. piece.now) pieces.now) ls last →
+        IfErr result (λ e. e ≡ no_memory) }
 {
     let mut all = Vec::new(alloc);
     let mut last = 1;
@@ -139,7 +146,8 @@ fn add_lines(
     piece: &[u8],
     all: &mut Vec<DerivationLine>,
 ) -> Result<u32, Refusal>
-    ensures spelled { IfOk result (λ last. (ls : List LineTree) × SpellsDerivation layout.now piece.now ls last × (map line_tree all.new.items ≡ map line_tree all.old.items ++ ls)) }
+    ensures spelled { IfOk result (λ last. (ls : List LineTree) × SpellsDerivation layout.now piece.now ls last
+        × (map line_tree all.new.items ≡ map line_tree all.old.items ++ ls)) }
     ensures typed { AreTypedLines layout.now (map line_tree all.old.items) → IfOk result (λ _. AreTypedLines layout.now (map line_tree all.new.items)) }
     ensures refused { IfErr result (IsDerivationTextRefusal layout.now piece.now) }
     ensures accepts { (ls : List LineTree) (last : ℕ) → SpellsDerivation layout.now piece.now ls last → IfErr result (λ e. e ≡ no_memory) }
