@@ -47,7 +47,8 @@ fn add_pair(
 ) -> Result<(), AllocError>
     requires first { IsTypedVisit (widths_of layout.now) (visit u.now) }
     requires second { IsTypedVisit (widths_of layout.now) (visit v.now) }
-    ensures { OnOk result (map condition_tree all.new.items ≡ map condition_tree all.old.items ++ map (as_condition layout.now) (kept_apart (visit u.now) (visit v.now))) }
+    ensures { OnOk result (map condition_tree all.new.items
+        ≡ map condition_tree all.old.items ++ map (as_condition layout.now) (kept_apart (visit u.now) (visit v.now))) }
 {
     if u.part != v.part && (u.writes || v.writes) {
         let given = both(alloc, u, v)?;
@@ -71,7 +72,9 @@ fn add_pairs(
 ) -> Result<(), AllocError>
     requires first { IsTypedVisit (widths_of layout.now) (visit u.now) }
     requires list { AreTypedVisits (widths_of layout.now) (map visit list.now) }
-    ensures { OnOk result (map condition_tree all.new.items ≡ map condition_tree all.old.items ++ map (as_condition layout.now) (flat_map (kept_apart (visit u.now)) (map visit list.now))) }
+    ensures { OnOk result (map condition_tree all.new.items
+        ≡ map condition_tree all.old.items
+        ++ map (as_condition layout.now) (flat_map (kept_apart (visit u.now)) (map visit list.now))) }
 {
     for v in list {
         add_pair(alloc, all, layout, u, v)?;
@@ -106,7 +109,9 @@ pub fn apart_conditions(
     requires lines { AreTypedLines program.now.layout (map line_tree lines.now) }
     requires words { left.now.layout ≡ staying erased.now program.now.layout }
     // Exactly these.
-    ensures { IfOk result (λ all. map condition_tree all.items ≡ map (as_condition program.now.layout) (apart_asked (program_tree program.now) (program_tree left.now) (old_places erased.now program.now.layout) (map line_tree lines.now) word)) }
+    ensures { IfOk result (λ all. map condition_tree all.items
+        ≡ map (as_condition program.now.layout) (apart_asked (program_tree program.now) (program_tree left.now) (old_places erased.now program.now.layout)
+        (map line_tree lines.now) word)) }
 {
     let old = old_places(alloc, erased, &program.layout)?;
     let numbers = stepping(alloc, program)?;

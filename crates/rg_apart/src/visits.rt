@@ -79,7 +79,9 @@ fn push_visits<'a>(
     writes: bool,
     list: &mut Vec<Visit<'a>>,
 ) -> Result<(), AllocError>
-    ensures { OnOk result (map visit list.new.items ≡ map visit list.old.items ++ map (visit_of n.part (formula site.now) writes) (filter (is_line_of n.number) (map line_tree lines.now))) }
+    ensures { OnOk result (map visit list.new.items
+        ≡ map visit list.old.items
+        ++ map (visit_of n.part (formula site.now) writes) (filter (is_line_of n.number) (map line_tree lines.now))) }
 {
     for line in lines {
         if is_line_of(n.number, line) {

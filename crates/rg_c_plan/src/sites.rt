@@ -126,7 +126,9 @@ fn sides_where(
     yes: Option<Formula>,
     no: Option<Formula>,
 ) -> Result<Option<Formula>, AllocError>
-    ensures { IfOk result (λ o. option_map formula o ≡ either (under (formula test.now) (option_map formula yes)) (under (negation (formula test.now)) (option_map formula no))) }
+    ensures { IfOk result (λ o. option_map formula o
+        ≡ either (under (formula test.now) (option_map formula yes))
+        (under (negation (formula test.now)) (option_map formula no))) }
 {
     let yes = under(alloc, test, yes)?;
     let no = unless(alloc, test, no)?;

@@ -32,7 +32,9 @@ fn push_step<'a>(
     act: &'a [Assign],
     list: &mut Vec<Step<'a>>,
 ) -> Result<(), AllocError>
-    ensures { OnOk result (map step list.new.items ≡ map step list.old.items ++ record { line = line; guard = guard_tree guard.entry; act = moving (map assignment act.now) } ∷ []) }
+    ensures { OnOk result (map step list.new.items
+        ≡ map step list.old.items
+        ++ record { line = line; guard = guard_tree guard.entry; act = moving (map assignment act.now) } ∷ []) }
 {
     list.push(Step { line, guard, act })?;
     Ok(())

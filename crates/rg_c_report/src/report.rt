@@ -179,7 +179,8 @@ fn push_reason(
     word: usize,
     views: &[PartView<'_>],
 ) -> Result<(), AllocError>
-    ensures { OnOk result (string_bytes text.new ≡ string_bytes text.old ++ reason_text page.now.program.now.layout page.now.lines.now (map view views.now) word) }
+    ensures { OnOk result (string_bytes text.new
+        ≡ string_bytes text.old ++ reason_text page.now.program.now.layout page.now.lines.now (map view views.now) word) }
 {
     match first_reason(page.alloc, views, word)? {
         Some(found) => {
@@ -222,7 +223,10 @@ fn push_word(
     views: &[PartView<'_>],
 ) -> Result<(), AllocError>
     requires { word < length page.now.program.now.layout }
-    ensures { OnOk result (string_bytes text.new ≡ string_bytes text.old ++ word_text (program_tree page.now.program.now) page.now.kinds.now page.now.lines.now (map view views.now) word) }
+    ensures { OnOk result (string_bytes text.new
+        ≡ string_bytes text.old
+        ++ word_text (program_tree page.now.program.now) page.now.kinds.now page.now.lines.now (map view views.now)
+        word) }
 {
     let kind = kind_at(page.kinds, word);
     push_word_line(page, text, kind, word)?;
@@ -234,7 +238,10 @@ fn push_word(
 
 /// Adds all words; these are the program's parts.
 fn push_words(page: &Page<'_>, text: &mut String, views: &[PartView<'_>]) -> Result<(), AllocError>
-    ensures { OnOk result (string_bytes text.new ≡ string_bytes text.old ++ words_text (program_tree page.now.program.now) page.now.kinds.now page.now.lines.now (map view views.now) 0 (length page.now.program.now.layout)) }
+    ensures { OnOk result (string_bytes text.new
+        ≡ string_bytes text.old
+        ++ words_text (program_tree page.now.program.now) page.now.kinds.now page.now.lines.now (map view views.now)
+        0 (length page.now.program.now.layout)) }
 {
     for word in 0..page.program.layout.len() {
         push_word(page, text, word, views)?;
@@ -265,7 +272,10 @@ fn push_met(
     guard: Option<&Formula>,
     act: &[Assign],
 ) -> Result<(), AllocError>
-    ensures { OnOk result (string_bytes text.new ≡ string_bytes text.old ++ met_text page.now.program.now.layout page.now.kinds.now before.now (guard_tree guard.entry) (moving (map assignment act.now))) }
+    ensures { OnOk result (string_bytes text.new
+        ≡ string_bytes text.old
+        ++ met_text page.now.program.now.layout page.now.kinds.now before.now (guard_tree guard.entry)
+        (moving (map assignment act.now))) }
 {
     let met = met_words(page.alloc, page.kinds, guard, act)?;
     let names = names_of(page.alloc, &page.program.layout, &met)?;
@@ -280,7 +290,10 @@ fn push_way(
     guard: Option<&Formula>,
     act: &[Assign],
 ) -> Result<(), AllocError>
-    ensures { OnOk result (string_bytes text.new ≡ string_bytes text.old ++ way_text page.now.program.now.layout page.now.kinds.now (guard_tree guard.entry) (moving (map assignment act.now)) way) }
+    ensures { OnOk result (string_bytes text.new
+        ≡ string_bytes text.old
+        ++ way_text page.now.program.now.layout page.now.kinds.now (guard_tree guard.entry)
+        (moving (map assignment act.now)) way) }
 {
     let layout = &page.program.layout;
     match way {
@@ -341,7 +354,9 @@ fn push_spared(page: &Page<'_>, text: &mut String, words: &[usize]) -> Result<()
 /// Adds a step with its line.
 #[tactic(auto, unfolding(crate::specs::Reports::step_text))]
 fn push_step(page: &Page<'_>, text: &mut String, s: &Step<'_>) -> Result<(), AllocError>
-    ensures { OnOk result (string_bytes text.new ≡ string_bytes text.old ++ step_text page.now.program.now.layout page.now.lines.now page.now.bare.now page.now.kinds.now (step s.now)) }
+    ensures { OnOk result (string_bytes text.new
+        ≡ string_bytes text.old
+        ++ step_text page.now.program.now.layout page.now.lines.now page.now.bare.now page.now.kinds.now (step s.now)) }
 {
     let way = way_of(page.kinds, s.guard, s.act);
     text.push_str("  line ")?;
@@ -356,7 +371,10 @@ fn push_step(page: &Page<'_>, text: &mut String, s: &Step<'_>) -> Result<(), All
 
 /// Adds steps.
 fn push_steps(page: &Page<'_>, text: &mut String, steps: &[Step<'_>]) -> Result<(), AllocError>
-    ensures { OnOk result (string_bytes text.new ≡ string_bytes text.old ++ steps_text page.now.program.now.layout page.now.lines.now page.now.bare.now page.now.kinds.now (map step steps.now)) }
+    ensures { OnOk result (string_bytes text.new
+        ≡ string_bytes text.old
+        ++ steps_text page.now.program.now.layout page.now.lines.now page.now.bare.now page.now.kinds.now
+        (map step steps.now)) }
 {
     for s in steps {
         push_step(page, text, s)?;
@@ -366,7 +384,10 @@ fn push_steps(page: &Page<'_>, text: &mut String, steps: &[Step<'_>]) -> Result<
 
 /// Adds the steps of a part.
 fn push_part_steps(page: &Page<'_>, text: &mut String, part: &Part) -> Result<(), AllocError>
-    ensures { OnOk result (string_bytes text.new ≡ string_bytes text.old ++ steps_text page.now.program.now.layout page.now.lines.now page.now.bare.now page.now.kinds.now (steps (part_tree part.now).body)) }
+    ensures { OnOk result (string_bytes text.new
+        ≡ string_bytes text.old
+        ++ steps_text page.now.program.now.layout page.now.lines.now page.now.bare.now page.now.kinds.now
+        (steps (part_tree part.now).body)) }
 {
     let steps = steps_of(page.alloc, &part.body)?;
     push_steps(page, text, &steps)
@@ -379,7 +400,12 @@ fn push_seen_steps(
     place: usize,
     part: &Part,
 ) -> Result<(), AllocError>
-    ensures { OnOk result (string_bytes text.new ≡ string_bytes text.old ++ steps_text page.now.program.now.layout page.now.lines.now (kinds_for (program_tree page.now.program.now) [] page.now.kinds.now place) (kinds_for (program_tree page.now.program.now) page.now.order.now page.now.kinds.now place) (steps (part_tree part.now).body)) }
+    ensures { OnOk result (string_bytes text.new
+        ≡ string_bytes text.old
+        ++ steps_text page.now.program.now.layout page.now.lines.now
+        (kinds_for (program_tree page.now.program.now) [] page.now.kinds.now place)
+        (kinds_for (program_tree page.now.program.now) page.now.order.now page.now.kinds.now place)
+        (steps (part_tree part.now).body)) }
 {
     let bare = kinds_for(page.alloc, page.program, &[], page.kinds, place)?;
     let kinds = kinds_for(page.alloc, page.program, page.order, page.kinds, place)?;
@@ -413,7 +439,10 @@ fn push_part(
     place: usize,
     part: &Part,
 ) -> Result<(), AllocError>
-    ensures { OnOk result (string_bytes text.new ≡ string_bytes text.old ++ part_text (program_tree page.now.program.now) page.now.order.now page.now.kinds.now page.now.lines.now place (part_tree part.now)) }
+    ensures { OnOk result (string_bytes text.new
+        ≡ string_bytes text.old
+        ++ part_text (program_tree page.now.program.now) page.now.order.now page.now.kinds.now page.now.lines.now
+        place (part_tree part.now)) }
 {
     let names = interrupted(page.alloc, page.program, page.order, place)?;
     text.push_str("part ")?;
@@ -425,7 +454,10 @@ fn push_part(
 
 /// Adds parts.
 fn push_parts(page: &Page<'_>, text: &mut String, parts: &[Part]) -> Result<(), AllocError>
-    ensures { OnOk result (string_bytes text.new ≡ string_bytes text.old ++ parts_text (program_tree page.now.program.now) page.now.order.now page.now.kinds.now page.now.lines.now 0 (map part_tree parts.now)) }
+    ensures { OnOk result (string_bytes text.new
+        ≡ string_bytes text.old
+        ++ parts_text (program_tree page.now.program.now) page.now.order.now page.now.kinds.now page.now.lines.now 0
+        (map part_tree parts.now)) }
 {
     for (place, part) in parts.iter().enumerate() {
         push_part(page, text, place, part)?;

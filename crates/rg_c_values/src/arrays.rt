@@ -21,7 +21,7 @@ fn base_of(name: &str) -> &str
     base
 }
 
-/// Whether a name is this one with `_` and a number behind it.
+/// Whether a name is this one with `_` and a number after it.
 fn is_numbered(base: &str, number: usize, name: &str) -> bool
     ensures { result ≡ is_numbered base.now number name.now }
 {
@@ -40,7 +40,7 @@ fn is_numbered(base: &str, number: usize, name: &str) -> bool
     }
 }
 
-/// Whether the word so many places behind this one is an item of an array that begins here.
+/// Whether the word so many places after this one is an item of an array that begins here.
 fn is_item(layout: &Layout, first: usize, item: usize) -> bool
     requires first { first < length layout.now }
     requires item { item ≤ length layout.now }

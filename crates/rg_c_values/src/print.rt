@@ -161,7 +161,7 @@ pub fn print_test(
     }
 }
 
-/// Adds a parenthesis that opens, unless the text behind it stands bare.
+/// Adds a parenthesis that opens, unless the text after it stands bare.
 fn push_opening(text: &mut String, bare: bool) -> Result<(), AllocError>
     ensures { OnOk result (string_bytes text.new ≡ string_bytes text.old ++ opening bare) }
 {
@@ -265,7 +265,7 @@ fn read_before(read: Read) -> &'static str
     }
 }
 
-/// What stands behind it.
+/// What stands after it.
 fn read_after(read: Read) -> &'static str
     ensures { result.now ≡ read_after read }
 {
@@ -293,7 +293,7 @@ fn push_item_before(
     Ok(())
 }
 
-/// Adds what stands behind it.
+/// Adds what stands after it.
 fn push_item_after(text: &mut String, reads: &[Read], first: usize) -> Result<(), AllocError>
     ensures { OnOk result (string_bytes text.new ≡ string_bytes text.old ++ item_after reads.now first) }
 {
@@ -302,7 +302,7 @@ fn push_item_after(text: &mut String, reads: &[Read], first: usize) -> Result<()
     Ok(())
 }
 
-/// Whether a value stands without parentheses behind `~` and a cast, and before `%`.
+/// Whether a value stands without parentheses after `~` and a cast, and before `%`.
 fn is_tight(v: &Value) -> bool
     ensures { result ≡ is_tight (value v.now) }
 {

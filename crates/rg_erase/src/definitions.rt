@@ -79,7 +79,9 @@ fn fault_of(
     f: &Formula,
     before: &mut Vec<usize>,
 ) -> Result<Option<usize>, AllocError>
-    ensures fault { IfOk result (λ r. r ≡ option_and_then (λ k. definition_fault (target_of (defining d.now) (formula f.now)) before.old.items k) (speaks_of erased.now erased.now (formula f.now))) }
+    ensures fault { IfOk result (λ r. r
+        ≡ option_and_then (λ k. definition_fault (target_of (defining d.now) (formula f.now)) before.old.items k)
+        (speaks_of erased.now erased.now (formula f.now))) }
     ensures before { OnOk result (before.new.items ≡ defined_after (target_of (defining d.now) (formula f.now)) before.old.items) }
 {
     let spoken = speaks_of(erased, erased, f);

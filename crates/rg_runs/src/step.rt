@@ -104,7 +104,8 @@ fn step<'a>(
     requires before { IsState layout.now before.now.values }
     requires typed { IsTypedStatement layout.now (statement s.now) }
     requires rest { AreTyped layout.now (todo_of todo.old.items) }
-    ensures step { IfOk result (λ yes. step_of (statement s.now) (todo_of todo.old.items) before.now.values after.now.values ≡ (if yes then Some (todo_of todo.new.items) else None)) }
+    ensures step { IfOk result (λ yes. step_of (statement s.now) (todo_of todo.old.items) before.now.values after.now.values
+        ≡ (if yes then Some (todo_of todo.new.items) else None)) }
     ensures typed { OnOk result (AreTyped layout.now (todo_of todo.new.items)) }
 {
     loop {
@@ -154,7 +155,8 @@ pub(crate) fn step_first(
 ) -> Result<bool, AllocError>
     requires before { IsState layout.now before.now.values }
     requires typed { AreTyped layout.now (todo_of todo.old.items) }
-    ensures step { IfOk result (λ yes. step_of_all (todo_of todo.old.items) before.now.values after.now.values ≡ (if yes then Some (todo_of todo.new.items) else None)) }
+    ensures step { IfOk result (λ yes. step_of_all (todo_of todo.old.items) before.now.values after.now.values
+        ≡ (if yes then Some (todo_of todo.new.items) else None)) }
     ensures typed { OnOk result (AreTyped layout.now (todo_of todo.new.items)) }
 {
     let Some(next) = todo.pop_front() else {

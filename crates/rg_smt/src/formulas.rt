@@ -38,7 +38,9 @@ pub(crate) fn push_value(
     pair: Pair<'_>,
     e: &Expr,
 ) -> Result<(), AllocError>
-    ensures { OnOk result (string_bytes text.new ≡ string_bytes text.old ++ value_text layout.now (reading pair.entry.plain) (reading pair.entry.primed) (expression e.now)) }
+    ensures { OnOk result (string_bytes text.new
+        ≡ string_bytes text.old
+        ++ value_text layout.now (reading pair.entry.plain) (reading pair.entry.primed) (expression e.now)) }
 {
     match e {
         Expr::Number(width, n) => push_number(text, *width, *n),
@@ -90,7 +92,9 @@ pub(crate) fn push_formula(
     pair: Pair<'_>,
     f: &Formula,
 ) -> Result<(), AllocError>
-    ensures { OnOk result (string_bytes text.new ≡ string_bytes text.old ++ formula_text layout.now (reading pair.entry.plain) (reading pair.entry.primed) (formula f.now)) }
+    ensures { OnOk result (string_bytes text.new
+        ≡ string_bytes text.old
+        ++ formula_text layout.now (reading pair.entry.plain) (reading pair.entry.primed) (formula f.now)) }
 {
     match f {
         Formula::Truth(b) => {

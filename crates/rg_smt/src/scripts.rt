@@ -110,7 +110,9 @@ fn push_assertion(
     pair: Pair<'_>,
     f: &Formula,
 ) -> Result<(), AllocError>
-    ensures { OnOk result (string_bytes text.new ≡ string_bytes text.old ++ assertion (formula_text layout.now (reading pair.entry.plain) (reading pair.entry.primed) (formula f.now))) }
+    ensures { OnOk result (string_bytes text.new
+        ≡ string_bytes text.old
+        ++ assertion (formula_text layout.now (reading pair.entry.plain) (reading pair.entry.primed) (formula f.now))) }
 {
     text.push_str("(assert ")?;
     push_formula(text, layout, pair, f)?;

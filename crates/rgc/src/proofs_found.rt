@@ -430,7 +430,8 @@ pub fn find_part<R: Threads + Wait + Sync, P: Watcher + Copy + Sync>(
 ) -> Result<ProofsFound, Refusal>
     // What is given proves these conditions: it is checked before it is given. Else what is reported of those without a proof is true, and all others hold.
     ensures found { IfOk result (ArePartFoundFor (derived_program derived.now) (derived_lines derived.now) first last) }
-    ensures refused { IfErr result (IsPartSearchRefusal (conditions_of (derived_program derived.now) (derived_lines derived.now)) first last settings.now.steps) }
+    ensures refused { IfErr result (IsPartSearchRefusal (conditions_of (derived_program derived.now) (derived_lines derived.now)) first last
+        settings.now.steps) }
 {
     let conditions = derived.conditions(alloc)?;
     let count = conditions.len();
@@ -537,7 +538,9 @@ pub fn failures_text(
     derived: &Derived,
     unproved: &[Unproved],
 ) -> Result<String, AllocError>
-    ensures { IfOk result (λ t. string_bytes t ≡ failures_text (derived_program derived.now).words (names_of_conditions (derived_program derived.now) (derived_lines derived.now)) unproved.now) }
+    ensures { IfOk result (λ t. string_bytes t
+        ≡ failures_text (derived_program derived.now).words
+        (names_of_conditions (derived_program derived.now) (derived_lines derived.now)) unproved.now) }
 {
     let names = derived.names(alloc)?;
     unproved_texts(alloc, &derived.program().layout, &names, unproved)

@@ -1,0 +1,14 @@
+pub mod Arguments
+pub mod Chains
+pub mod Collections
+pub mod Conjunctions
+pub mod Families
+pub mod Indices
+pub mod Placed
+pub mod ProgramRules
+pub mod Rows
+pub mod Rules
+pub mod StatementRules
+pub mod States
+pub mod Turns
+pub mod Known

@@ -1,0 +1,45 @@
+-- What only proofs need.
+use Rattle.std.specs.Prelude.{◌≡◌, ℕ, ◌<◌, ℤ, Bool, true, List, [], ◌∷◌, length, map, drop, Option, Some, None, slice_set}
+use Rattle.rg_words.specs.Layout.{Word}
+use Rattle.rg_tree.specs.Trees.{Expression}
+use Rattle.rg_outline_meaning.specs.Meanings.{Meaning, whole, value}
+use Rattle.rg_outline_syntax.specs.declared.written.Binder.{Binder}
+use Rattle.rg_outline_syntax.specs.declared.written.Junction.{Junction}
+use Rattle.rg_outline_syntax.specs.declared.written.ExpressionKind.TheVariants.{Join}
+use Rattle.rg_outline_syntax.specs.declared.span.Span.{Span}
+use Rattle.rg_outline_meaning.specs.Names.{Outline, text_of, IsMadeSo, Names, Knows, family, Bound, bound_to}
+use Rattle.rg_outline_meaning.specs.Members.{AreWithin, members, AreMembers}
+use Rattle.rg_outline_meaning.specs.Expressions.{AllStandFor, IsWhole, combined, of_nothing}
+
+-- numbers that are the meanings of indices, but for a value over words at a place
+abbrev pub AreIndices : List Meaning → List ℤ → Option (ℕ × Expression) → Type 0
+AreIndices ms zs None = ms ≡ map (λ z. whole z) zs
+AreIndices ms zs (Some c) = (c.0 < length zs) × (ms ≡ slice_set (map (λ z. whole z) zs) c.0 (value c.1))
+
+-- what expressions stand for, under the names of parameters, of which there are as many
+abbrev pub AreArguments : Outline → List Word → Names → List ℕ → List (List ℕ) → List Bound → Type 0
+AreArguments o words names is parameters bs = (ms : List Meaning) × AllStandFor o words names is ms × (length ms ≡ length parameters) × (bs ≡ bound_to parameters ms)
+
+-- a chain of `and` and `or`: an expression has these links, the last of them innermost, and this first operand
+abbrev pub Descends : Outline → ℕ → List (Junction × ℕ) → ℕ → Type 0
+Descends o i [] first = i ≡ first
+Descends o i (l ∷ links) first = (left : ℕ) × IsMadeSo o i (Join l.0 left l.1) × Descends o left links first
+
+-- what is made of the instances so far, if there are any, and of the next one
+abbrev pub IsCollectedWith : Binder → Option Meaning → Meaning → Meaning → Type 0
+IsCollectedWith b None next m = m ≡ next
+IsCollectedWith b (Some before) next m = combined b before next ≡ Some m
+
+-- what is made of all instances
+abbrev pub of_all : Binder → Option Meaning → Meaning
+of_all b None = of_nothing b
+of_all b (Some m) = m
+
+-- the words of a family with these first indices
+abbrev pub AreWordsOf : Outline → List Word → Names → Span → List ℤ → List ℕ → Type 0
+AreWordsOf o words names name zs ks =
+    (k : ℕ) × (ranges : List (ℤ × ℤ)) × Knows names k (text_of o name) (family ranges) × AreWithin ranges zs × AreMembers words (text_of o name) (members (drop (length zs) ranges) (zs ∷ [])) ks
+
+-- a number has no prime
+abbrev pub MayBePrimed : Bool → Meaning → Type 0
+MayBePrimed is_primed m = is_primed ≡ true → IsWhole m → ⊥

@@ -1,0 +1,9 @@
+pub mod Expressions
+pub mod Inner
+pub mod Meanings
+pub mod Members
+pub mod Names
+pub mod Programs
+pub mod Reading
+pub mod Statements
+pub mod View

@@ -1,0 +1,78 @@
+-- Names of an outline, and what they stand for.
+use Rattle.std.specs.Prelude.{◌≡◌, ◌≢◌, ℕ, ◌-◌, ℤ, List, [], ◌∷◌, ◌++◌, length, take, drop, map, All, Some, slice_get}
+use Rattle.rg_outline_syntax.specs.declared.span.Span.{Span}
+use Rattle.rg_outline_syntax.specs.declared.written.List as written
+use Rattle.rg_outline_syntax.specs.declared.written.Written.{Written}
+use Rattle.rg_outline_syntax.specs.declared.written.ExpressionKind.{ExpressionKind}
+use Rattle.rg_outline_meaning.specs.Meanings.{Meaning, whole}
+
+-- an outline: its bytes, and the trees that they were read as
+pub record Outline : Type 0 where
+  pub source : List ℕ
+  pub written : Written
+
+-- the bytes of a name
+abbrev pub text_of : Outline → Span → List ℕ
+text_of o s = take (s.end - s.start) (drop s.start o.source)
+
+-- the elements of a list that a `List` of the trees is
+abbrev pub piece_of : {A : Type 0} → List A → written.List → List A
+piece_of items l = take (l.end - l.start) (drop l.start items)
+
+abbrev pub listed : Outline → written.List → List ℕ
+listed o l = piece_of o.written.listed.items l
+
+-- the names of the parameters in a list
+abbrev pub parameters_of : Outline → written.List → List (List ℕ)
+parameters_of o l = map (text_of o) (piece_of o.written.names.items l)
+
+-- an expression is made so
+abbrev pub IsMadeSo : Outline → ℕ → ExpressionKind → Type 0
+IsMadeSo o i kind = (span : Span) × (slice_get o.written.expressions.items i ≡ Some (record { kind = kind; span = span }))
+
+-- what a name of the outline or of a part stands for: a word, or words with these first and last numbers of indices; a tree or statements with parameters; the number of a part in its family
+pub data Sense : Type 0 where
+  family : List (ℤ × ℤ) → Sense
+  tree : List (List ℕ) → ℕ → Sense
+  statements : List (List ℕ) → List ℕ → Sense
+  member : ℤ → Sense
+
+pub record Known : Type 0 where
+  pub name : List ℕ
+  pub sense : Sense
+
+-- a parameter or an index
+pub record Bound : Type 0 where
+  pub name : List ℕ
+  pub meaning : Meaning
+
+-- the names that are known at a place: those of the outline and the part in their order, then parameters and indices
+pub record Names : Type 0 where
+  pub known : List Known
+  pub bound : List Bound
+
+-- no name is this one: none hides another
+abbrev pub IsNew : Names → List ℕ → Type 0
+IsNew names name = All (λ k. k.name ≢ name) names.known × All (λ b. b.name ≢ name) names.bound
+
+-- the name at a place of those of the outline and the part
+abbrev pub Knows : Names → ℕ → List ℕ → Sense → Type 0
+Knows names k name sense = slice_get names.known k ≡ Some (record { name = name; sense = sense })
+
+-- the name at a place of the parameters and indices
+abbrev pub Binds : Names → ℕ → List ℕ → Meaning → Type 0
+Binds names k name m = slice_get names.bound k ≡ Some (record { name = name; meaning = m })
+
+-- with an index that is a number
+abbrev pub with_number : Names → List ℕ → ℤ → Names
+with_number names name z = record { known = names.known; bound = names.bound ++ record { name = name; meaning = whole z } ∷ [] }
+
+-- what is known in the tree of a name at a place: the names before it, and its parameters
+abbrev pub inside : Names → ℕ → List Bound → Names
+inside names k bound = record { known = take k names.known; bound = bound }
+
+-- parameters with their arguments, one by one
+abbrev pub bound_to : List (List ℕ) → List Meaning → List Bound
+bound_to [] ms = []
+bound_to (name ∷ rest) [] = []
+bound_to (name ∷ rest) (m ∷ ms) = record { name = name; meaning = m } ∷ bound_to rest ms
