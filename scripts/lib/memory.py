@@ -26,12 +26,14 @@ LISTED = {
         rg_outline_syntax/parser.rt:want_stored rg_outline_terms/scope.rt:want_stored rg_outline_reports/faults.rt:refused
         rg_outline_reports/faults.rt:refused_expansion rg_outline_reports/files.rt:copied rg_outline_reports/input_faults.rt:refused_input
         rg_outline_reports/outlined.rt:map rgc_answers/judged.rt:found_text
-        rgc_system/memory.rt:put rgc_program/names.rt:files_at
+        rgc_system/memory.rt:put rgc_program/names.rt:files_at rgc_commands/meaning.rt:unmeant
     """,
     "an error of the allocator is turned into one that says the same": """
         rg_words/refusal.rt:from rg_words/refusal.rt:from rg_shape/shape.rt:from rg_shape/shape.rt:from rg_gates/lib.rt:from rg_gates/lib.rt:from
         rg_outline_syntax/fault.rt:memory rg_outline_syntax/fault.rt:from rg_outline_syntax/fault.rt:from rg_outline_reports/files.rt:from
-        rg_outline_reports/input_faults.rt:from rg_outline_reports/input_faults.rt:from
+        rg_outline_reports/input_faults.rt:from rg_outline_reports/input_faults.rt:from rg_outline_meaning/meaning.rt:
+        rg_outline_meaning/meaning.rt:from rg_outline_meaning/meaning.rt:from rg_outline_meaning/meaning.rt:from
+        rg_outline_meaning/parts.rt:stands_for
     """,
     "what was called said so, or it was noted": """
         rg_parse/parse.rt:refusal rg_parse/parse_programs.rt:refuse rg_clauses/condition.rt:refusal_of rg_pool/pieces.rt:joined
@@ -41,8 +43,8 @@ LISTED = {
         rg_outline_reports/input_faults.rt:of_tokens rg_outline_reports/input_faults.rt:push_sentence_of rg_outline_reports/json.rt:value
         rg_outline_reports/slots.rt:leading_assertions rgc_outlines/asked.rt:has_proofs rgc_outlines/candidates.rt:unless_refused
         rgc_outlines/claims.rt:is_so rgc_outlines/unproved.rt:lines_if_so rgc_outlines/walk.rt:push_stuck_warning rgc_outlines/warnings.rt:push_found
-        rgc_complete/asked.rt:unknown rgc_complete/conditions.rt:unless_refused rgc_complete/elaborated.rt:formula_of
-        rgc_commands/outlines.rt:outlined_in rgc_program/completed.rt:print_verdict rgc_program/completed.rt:refused rgc_program/contents.rt:bytes_of
+        rgc_inductive/asked.rt:unknown rgc_inductive/conditions.rt:unless_refused rgc_inductive/elaborated.rt:formula_of
+        rgc_commands/outlines.rt:outlined_in rgc_commands/meaning.rt:unmeant rgc_program/completed.rt:print_verdict rgc_program/completed.rt:refused rgc_program/contents.rt:bytes_of
         rgc_program/call.rt:write_memory rgc_program/call.rt:condition_names rgc_program/outline.rt:unless_refused rgc_program/outline.rt:run_over rgc_program/outline.rt:run_from
         rgc_program/words.rt:work rgc_system/place.rt:identity_of
         rgc_system/replace.rt:write_outputs rgc_system/used.rt:follow

@@ -53,7 +53,9 @@ fn push_handler(
     place: usize,
     part: &Part,
 ) -> Result<(), AllocError>
-    ensures { OnOk result (string_bytes text.new ≡ string_bytes text.old ++ handler_line (part_tree part.now).name (interrupted (program_tree program.now) order.now place)) }
+    ensures { OnOk result (string_bytes text.new
+        ≡ string_bytes text.old
+        ++ handler_line (part_tree part.now).name (interrupted (program_tree program.now) order.now place)) }
 {
     let names = interrupted(alloc, program, order, place)?;
     push_handler_line(text, part.name.as_str(), &names)
@@ -66,7 +68,9 @@ fn push_handlers(
     program: &Program,
     order: &[Option<Rank>],
 ) -> Result<(), AllocError>
-    ensures { OnOk result (string_bytes text.new ≡ string_bytes text.old ++ handler_lines (program_tree program.now) order.now 0 (map part_tree program.now.parts.items)) }
+    ensures { OnOk result (string_bytes text.new
+        ≡ string_bytes text.old
+        ++ handler_lines (program_tree program.now) order.now 0 (map part_tree program.now.parts.items)) }
 {
     for (place, part) in program.parts.iter().enumerate() {
         push_handler(alloc, text, program, order, place, part)?;

@@ -161,7 +161,8 @@ pub(crate) fn push_line(
     text: &mut String,
     pieces: &[Piece<'_>],
 ) -> Result<(), AllocError>
-    ensures { OnOk result (string_bytes text.new ≡ string_bytes text.old ++ line_text s.now.indent.now (map (piece s.now.layout.now s.now.reads.now) pieces.now)) }
+    ensures { OnOk result (string_bytes text.new
+        ≡ string_bytes text.old ++ line_text s.now.indent.now (map (piece s.now.layout.now s.now.reads.now) pieces.now)) }
 {
     text.push_str(s.indent)?;
     push_pieces(s, text, pieces)?;
@@ -402,7 +403,8 @@ pub(crate) fn push_code(s: &Sheet<'_>, text: &mut String, c: &Code<'_>) -> Resul
 /// Adds what stands in a block.
 #[cycle(code)]
 fn push_inside(s: &Sheet<'_>, text: &mut String, c: &Code<'_>) -> Result<(), AllocError>
-    ensures { OnOk result (string_bytes text.new ≡ string_bytes text.old ++ printed s.now.layout.now s.now.reads.now (inner s.now.indent.now) (of s.now c.now)) }
+    ensures { OnOk result (string_bytes text.new
+        ≡ string_bytes text.old ++ printed s.now.layout.now s.now.reads.now (inner s.now.indent.now) (of s.now c.now)) }
 {
     let inside = inner(s.alloc, s.indent)?;
     let deeper = Sheet {

@@ -91,7 +91,11 @@ fn skip_hook(s: &Sheet<'_>, line: u32) -> Result<String, AllocError>
 /// Adds an assignment.
 fn push_assign(s: &Sheet<'_>, text: &mut String, at: At, a: &Assign) -> Result<(), AllocError>
     requires { AssignmentsFit (length s.now.layout.now) (assignment a.now ∷ []) }
-    ensures { OnOk result (string_bytes text.new ≡ string_bytes text.old ++ on s.now (sourced (page s.now) at.line (assignment_source s.now.layout.now (assignment a.now)) ⨾ step_of s.now.layout.now s.now.kinds.now (mark_of (page s.now) at.place) None (assignment a.now ∷ []))) }
+    ensures { OnOk result (string_bytes text.new
+        ≡ string_bytes text.old
+        ++ on s.now (sourced (page s.now) at.line (assignment_source s.now.layout.now (assignment a.now))
+        ⨾ step_of s.now.layout.now s.now.kinds.now (mark_of (page s.now) at.place) None
+        (assignment a.now ∷ []))) }
 {
     let mark = mark_of(s, at.place)?;
     let mut comment = row(s, at)?;
@@ -110,7 +114,11 @@ fn push_await(
 ) -> Result<(), AllocError>
     requires guard { FormulaFits (formula f.now) (length s.now.layout.now) }
     requires values { AssignmentsFit (length s.now.layout.now) (map assignment act.now) }
-    ensures { OnOk result (string_bytes text.new ≡ string_bytes text.old ++ on s.now (sourced (page s.now) at.line (await_source s.now.layout.now (formula f.now) (map assignment act.now)) ⨾ step_of s.now.layout.now s.now.kinds.now (mark_of (page s.now) at.place) (Some (formula f.now)) (map assignment act.now))) }
+    ensures { OnOk result (string_bytes text.new
+        ≡ string_bytes text.old
+        ++ on s.now (sourced (page s.now) at.line (await_source s.now.layout.now (formula f.now) (map assignment act.now))
+        ⨾ step_of s.now.layout.now s.now.kinds.now (mark_of (page s.now) at.place) (Some (formula f.now))
+        (map assignment act.now))) }
 {
     let mark = mark_of(s, at.place)?;
     let mut comment = row(s, at)?;
@@ -270,7 +278,10 @@ fn push_repeated(
 ) -> Result<usize, AllocError>
     requires fits { StatementFits (length s.now.layout.now) (statement body.now) }
     requires room { place + count_of (statement body.now) < 2 ^ 64 }
-    ensures text { OnOk result (string_bytes text.new ≡ string_bytes text.old ++ on s.now (option_map_or (λ line. skipped (page s.now) place line waiting) (idle_line (statement body.now)) (in_c (page s.now) place (statement body.now)))) }
+    ensures text { OnOk result (string_bytes text.new
+        ≡ string_bytes text.old
+        ++ on s.now (option_map_or (λ line. skipped (page s.now) place line waiting) (idle_line (statement body.now))
+        (in_c (page s.now) place (statement body.now)))) }
     ensures place { IfOk result (λ next. next ≡ place + count_of (statement body.now)) }
 {
     if let Some(line) = idle_line(body) {

@@ -107,7 +107,10 @@ fn push_free(
     way: Way,
     used: bool,
 ) -> Result<(), AllocError>
-    ensures { OnOk result (string_bytes text.new ≡ string_bytes text.old ++ on s.now (block (of s.now step.now.mark.now ⨾ entered way used ⨾ all_given s.now.layout.now s.now.kinds.now 0 (map given step.now.gs.now) ⨾ left way))) }
+    ensures { OnOk result (string_bytes text.new
+        ≡ string_bytes text.old
+        ++ on s.now (block (of s.now step.now.mark.now ⨾ entered way used
+        ⨾ all_given s.now.layout.now s.now.kinds.now 0 (map given step.now.gs.now) ⨾ left way))) }
 {
     let enter = entered(s, way, used);
     let changes = ToWords(&*step.gs);
@@ -125,7 +128,10 @@ fn push_tried<'x>(
     made: &'x Code<'x>,
     ending: &'x Code<'x>,
 ) -> Result<(), AllocError>
-    ensures { OnOk result (string_bytes text.new ≡ string_bytes text.old ++ on s.now (tried (of s.now step.now.mark.now) (of s.now enter.now) (test step.now.test.now) (of s.now made.now) (of s.now ending.now))) }
+    ensures { OnOk result (string_bytes text.new
+        ≡ string_bytes text.old
+        ++ on s.now (tried (of s.now step.now.mark.now) (of s.now enter.now) (test step.now.test.now) (of s.now made.now)
+        (of s.now ending.now))) }
 {
     let decided = Single(Line::Decides(Flag::Done, step.test));
     let tried = Then(enter, &Then(&decided, &Then(made, ending)));
@@ -144,7 +150,11 @@ fn push_held(
     way: Way,
     used: bool,
 ) -> Result<(), AllocError>
-    ensures { OnOk result (string_bytes text.new ≡ string_bytes text.old ++ on s.now (held (of s.now step.now.mark.now) (entered way used) (left way) (test step.now.test.now) (nat_eq (length step.now.gs.now) 0) (all_given s.now.layout.now s.now.kinds.now 0 (map given step.now.gs.now)))) }
+    ensures { OnOk result (string_bytes text.new
+        ≡ string_bytes text.old
+        ++ on s.now (held (of s.now step.now.mark.now) (entered way used) (left way) (test step.now.test.now)
+        (nat_eq (length step.now.gs.now) 0)
+        (all_given s.now.layout.now s.now.kinds.now 0 (map given step.now.gs.now)))) }
 {
     if is_true(step.test) {
         return push_free(s, text, step, way, used);
@@ -166,7 +176,10 @@ fn push_held_step(
     way: Way,
     used: bool,
 ) -> Result<(), AllocError>
-    ensures { OnOk result (string_bytes text.new ≡ string_bytes text.old ++ on s.now (held_step s.now.layout.now s.now.kinds.now (of s.now step.now.mark.now) way used (test step.now.test.now) (map given step.now.gs.now))) }
+    ensures { OnOk result (string_bytes text.new
+        ≡ string_bytes text.old
+        ++ on s.now (held_step s.now.layout.now s.now.kinds.now (of s.now step.now.mark.now) way used
+        (test step.now.test.now) (map given step.now.gs.now))) }
 {
     let reads = held_reads(s.alloc, s.layout, s.kinds, way, used)?;
     let reading = Sheet {
@@ -183,7 +196,10 @@ fn push_loaded(
     step: &Step<'_>,
     word: usize,
 ) -> Result<(), AllocError>
-    ensures { OnOk result (string_bytes text.new ≡ string_bytes text.old ++ on s.now (loaded s.now.layout.now s.now.kinds.now (of s.now step.now.mark.now) word (test step.now.test.now) (map given step.now.gs.now))) }
+    ensures { OnOk result (string_bytes text.new
+        ≡ string_bytes text.old
+        ++ on s.now (loaded s.now.layout.now s.now.kinds.now (of s.now step.now.mark.now) word (test step.now.test.now)
+        (map given step.now.gs.now))) }
 {
     if step.gs.len() == 0 && is_one_load(word, step.test) {
         let reads = load_reads(s.alloc, s.layout, word)?;
@@ -223,7 +239,10 @@ fn push_exchanged<'x>(
     word: usize,
     others: &'x [usize],
 ) -> Result<(), AllocError>
-    ensures { OnOk result (string_bytes text.new ≡ string_bytes text.old ++ on s.now (attempted (of s.now step.now.mark.now) word others.now (tested (test step.now.test.now) (changed s.now.kinds.now word others.now (map given step.now.gs.now)) waiting))) }
+    ensures { OnOk result (string_bytes text.new
+        ≡ string_bytes text.old
+        ++ on s.now (attempted (of s.now step.now.mark.now) word others.now (tested (test step.now.test.now)
+        (changed s.now.kinds.now word others.now (map given step.now.gs.now)) waiting))) }
 {
     let changes = ToLocals(step.gs);
     let exchange = Single(Line::Exchanges(word));
@@ -243,7 +262,10 @@ fn push_exchanging(
     step: &Step<'_>,
     word: usize,
 ) -> Result<(), AllocError>
-    ensures { OnOk result (string_bytes text.new ≡ string_bytes text.old ++ on s.now (exchanging s.now.layout.now s.now.kinds.now (of s.now step.now.mark.now) word (test step.now.test.now) (map given step.now.gs.now))) }
+    ensures { OnOk result (string_bytes text.new
+        ≡ string_bytes text.old
+        ++ on s.now (exchanging s.now.layout.now s.now.kinds.now (of s.now step.now.mark.now) word (test step.now.test.now)
+        (map given step.now.gs.now))) }
 {
     let others = targets_beside(s.alloc, word, step.gs)?;
     let reads = local_reads(s.alloc, s.layout, s.kinds, word, &others)?;
@@ -256,7 +278,10 @@ fn push_exchanging(
 
 /// Adds a step without locals.
 fn push_bare(s: &Sheet<'_>, text: &mut String, step: &Step<'_>) -> Result<(), AllocError>
-    ensures { OnOk result (string_bytes text.new ≡ string_bytes text.old ++ on s.now (bare s.now.layout.now s.now.kinds.now (of s.now step.now.mark.now) (test step.now.test.now) (map given step.now.gs.now))) }
+    ensures { OnOk result (string_bytes text.new
+        ≡ string_bytes text.old
+        ++ on s.now (bare s.now.layout.now s.now.kinds.now (of s.now step.now.mark.now) (test step.now.test.now)
+        (map given step.now.gs.now))) }
 {
     let reads = kind_reads(s.alloc, s.layout, s.kinds)?;
     let reading = Sheet {
@@ -269,7 +294,10 @@ fn push_bare(s: &Sheet<'_>, text: &mut String, step: &Step<'_>) -> Result<(), Al
 
 /// Adds a step that is done in this way.
 fn push_by(s: &Sheet<'_>, text: &mut String, step: &Step<'_>, way: Way) -> Result<(), AllocError>
-    ensures { OnOk result (string_bytes text.new ≡ string_bytes text.old ++ on s.now (step_by s.now.layout.now s.now.kinds.now (of s.now step.now.mark.now) way (test step.now.test.now) (map given step.now.gs.now))) }
+    ensures { OnOk result (string_bytes text.new
+        ≡ string_bytes text.old
+        ++ on s.now (step_by s.now.layout.now s.now.kinds.now (of s.now step.now.mark.now) way (test step.now.test.now)
+        (map given step.now.gs.now))) }
 {
     match way {
         Way::Load(word) => push_loaded(s, text, step, word),
@@ -326,7 +354,10 @@ fn is_section(way: Way) -> bool
 
 /// At which words a step in a section may meet others.
 fn note_text(s: &Sheet<'_>, guard: Option<&Formula>, act: &[Assign]) -> Result<String, AllocError>
-    ensures { IfOk result (λ text. string_bytes text ≡ codes "a critical section, for " ++ names_text s.now.layout.now (met_words s.now.kinds.now (guard_tree guard.entry) (moving (map assignment act.now)))) }
+    ensures { IfOk result (λ text. string_bytes text
+        ≡ codes "a critical section, for "
+        ++ names_text s.now.layout.now
+        (met_words s.now.kinds.now (guard_tree guard.entry) (moving (map assignment act.now)))) }
 {
     let words = met_words(s.alloc, s.kinds, guard, act)?;
     let mut note = String::from_str(s.alloc, "a critical section, for ")?;
@@ -342,7 +373,10 @@ pub(crate) fn push_note(
     guard: Option<&Formula>,
     act: &[Assign],
 ) -> Result<(), AllocError>
-    ensures { OnOk result (string_bytes text.new ≡ string_bytes text.old ++ on s.now (section_note s.now.layout.now s.now.kinds.now (guard_tree guard.entry) (moving (map assignment act.now)))) }
+    ensures { OnOk result (string_bytes text.new
+        ≡ string_bytes text.old
+        ++ on s.now (section_note s.now.layout.now s.now.kinds.now (guard_tree guard.entry)
+        (moving (map assignment act.now)))) }
 {
     if !is_section(way_of(s.kinds, guard, act)) {
         return Ok(());
@@ -362,7 +396,10 @@ pub(crate) fn push_step(
 ) -> Result<(), AllocError>
     requires guard { GuardFits (length s.now.layout.now) (guard_tree guard) }
     requires values { AssignmentsFit (length s.now.layout.now) (map assignment act.now) }
-    ensures { OnOk result (string_bytes text.new ≡ string_bytes text.old ++ on s.now (step_of s.now.layout.now s.now.kinds.now mark.now (guard_tree guard.entry) (map assignment act.now))) }
+    ensures { OnOk result (string_bytes text.new
+        ≡ string_bytes text.old
+        ++ on s.now
+        (step_of s.now.layout.now s.now.kinds.now mark.now (guard_tree guard.entry) (map assignment act.now))) }
 {
     let moves = moving(s.alloc, act)?;
     let way = way_of(s.kinds, guard, act);

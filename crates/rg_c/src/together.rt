@@ -33,7 +33,10 @@ fn push_put<'a>(
     place: Piece<'a>,
     v: &'a Value,
 ) -> Result<(), AllocError>
-    ensures { OnOk result (string_bytes text.new ≡ string_bytes text.old ++ put_text s.now.layout.now s.now.reads.now s.now.indent.now stored (piece s.now.layout.now s.now.reads.now place.entry) (value v.now)) }
+    ensures { OnOk result (string_bytes text.new
+        ≡ string_bytes text.old
+        ++ put_text s.now.layout.now s.now.reads.now s.now.indent.now stored
+        (piece s.now.layout.now s.now.reads.now place.entry) (value v.now)) }
 {
     let v = Piece::Value(v);
     if stored {
@@ -210,7 +213,9 @@ fn together<'a>(layout: &Layout, kinds: &[Kind], gs: &'a [Given]) -> Option<Item
 /// An item of an array as a member of the struct.
 fn item_member(s: &Sheet<'_>, it: &Item<'_>) -> Result<String, AllocError>
     requires { it.now.first < length s.now.layout.now }
-    ensures { IfOk result (λ text. string_bytes text ≡ indexed (array_name s.now.layout.now it.now.first) (value_text s.now.layout.now s.now.reads.now (value it.now.index.now))) }
+    ensures { IfOk result (λ text. string_bytes text
+        ≡ indexed (array_name s.now.layout.now it.now.first)
+        (value_text s.now.layout.now s.now.reads.now (value it.now.index.now))) }
 {
     let mut text = String::new(s.alloc);
     push_array_name(&mut text, s.layout, it.first)?;
@@ -254,10 +259,12 @@ pub(crate) fn push_to_words(
     Ok(())
 }
 
-/// Adds the first assignment, or the store that it begins. Returns how many of those behind it are part of that.
+/// Adds the first assignment, or the store that it begins. Returns how many of those after it are part of that.
 fn push_next(s: &Sheet<'_>, text: &mut String, gs: &[Given]) -> Result<usize, AllocError>
     requires { 0 < length gs.now }
-    ensures { IfOk result (λ n. string_bytes text.new ++ on s.now (all_given s.now.layout.now s.now.kinds.now n (map given (drop 1 gs.now))) ≡ string_bytes text.old ++ on s.now (all_given s.now.layout.now s.now.kinds.now 0 (map given gs.now))) }
+    ensures { IfOk result (λ n.
+        string_bytes text.new ++ on s.now (all_given s.now.layout.now s.now.kinds.now n (map given (drop 1 gs.now)))
+        ≡ string_bytes text.old ++ on s.now (all_given s.now.layout.now s.now.kinds.now 0 (map given gs.now))) }
 {
     match together(s.layout, s.kinds, gs) {
         Some(it) => {

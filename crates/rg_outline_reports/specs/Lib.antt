@@ -1,2 +1,3 @@
+pub mod Cut
 pub mod WalkReport
 pub mod WorkedOut

@@ -48,10 +48,12 @@ fn play_at<
     requires some { 0 < L.parts }
     requires moves { AreMoves L.program.words (map move_tree stage.now.moves.now) }
     requires writer { CanCount (W.failures writer.old) }
-    ensures run { IfOk result (λ c. IsRunOf L.program L.code L.start L.limit (map move_tree stage.now.moves.now) (W.contents writer.old) (W.contents writer.new) c) }
+    ensures run { IfOk result (λ c. IsRunOf L.program L.code L.start L.limit (map move_tree stage.now.moves.now) (W.contents writer.old)
+        (W.contents writer.new) c) }
     ensures failures { W.failures writer.new ≡ W.failures writer.old + failures_in result }
     ensures faults { IsPlayed (open_fault L.program L.start L.limit) result }
-    ensures unopened { IfSome (open_fault L.program L.start L.limit) (λ _. (W.contents writer.new ≡ W.contents writer.old) × (W.failures writer.new ≡ W.failures writer.old)) }
+    ensures unopened { IfSome (open_fault L.program L.start L.limit) (λ _.
+        (W.contents writer.new ≡ W.contents writer.old) × (W.failures writer.new ≡ W.failures writer.old)) }
 {
     let (floor, seats) = Floor::<L>::open(stage.alloc, checked, start, limit, blank)?;
     run(stage, checked.program(), floor, seats, writer)
@@ -71,10 +73,13 @@ pub fn play<'e, E: Checked, G: Gate + Sync, W: Out, R: Threads + Wait + Sync>(
     requires start { start.widths ≡ widths_of (program_tree (E.program_of checked.now)).words }
     requires moves { AreMoves (program_tree (E.program_of checked.now)).words (map move_tree stage.now.moves.now) }
     requires writer { CanCount (W.failures writer.old) }
-    ensures run { IfOk result (λ c. IsRunOf (program_tree (E.program_of checked.now)) (code_blocks (E.code_of checked.now)) start.values limit (map move_tree stage.now.moves.now) (W.contents writer.old) (W.contents writer.new) c) }
+    ensures run { IfOk result (λ c.
+        IsRunOf (program_tree (E.program_of checked.now)) (code_blocks (E.code_of checked.now)) start.values limit
+        (map move_tree stage.now.moves.now) (W.contents writer.old) (W.contents writer.new) c) }
     ensures failures { W.failures writer.new ≡ W.failures writer.old + failures_in result }
     ensures faults { IsPlayed (open_fault (program_tree (E.program_of checked.now)) start.values limit) result }
-    ensures unopened { IfSome (open_fault (program_tree (E.program_of checked.now)) start.values limit) (λ _. (W.contents writer.new ≡ W.contents writer.old) × (W.failures writer.new ≡ W.failures writer.old)) }
+    ensures unopened { IfSome (open_fault (program_tree (E.program_of checked.now)) start.values limit) (λ _.
+        (W.contents writer.new ≡ W.contents writer.old) × (W.failures writer.new ≡ W.failures writer.old)) }
 {
     let blank = Blank::new(checked.code().parts.len() as u64);
     play_at::<Brand, E, G, W, R>(stage, checked, start, limit, blank, writer)

@@ -113,7 +113,9 @@ fn check_moves(
     requires start { origin.now.start.now.widths ≡ widths_of (program_tree origin.now.program.now).words }
     requires moves { AreMoves (program_tree origin.now.program.now).words (map move_tree moves.now) }
     ensures over { OnOk result (closed.now.why ≢ Stopped) }
-    ensures moves { OnOk result (MovesStand (program_tree origin.now.program.now).spec.rely origin.now.limit (first_place (program_tree origin.now.program.now).words (code_blocks origin.now.code.now) origin.now.start.now.values) 1 (map move_tree moves.now) passed.now printed.now) }
+    ensures moves { OnOk result (MovesStand (program_tree origin.now.program.now).spec.rely origin.now.limit
+        (first_place (program_tree origin.now.program.now).words (code_blocks origin.now.code.now) origin.now.start.now.values)
+        1 (map move_tree moves.now) passed.now printed.now) }
     ensures quiet { failures_in result ≡ 0 }
     ensures faults { IfErr result IsRunFault }
 {
@@ -178,7 +180,8 @@ pub fn run<'e, L: Round + Send + Sync, G: Gate + Sync, W: Out, R: Threads + Wait
     requires seats { (vec_len seats ≡ L.parts) × (0 < L.parts) }
     requires moves { AreMoves L.program.words (map move_tree stage.now.moves.now) }
     requires writer { CanCount (W.failures writer.old) }
-    ensures run { IfOk result (λ c. IsRunOf L.program L.code L.start L.limit (map move_tree stage.now.moves.now) (W.contents writer.old) (W.contents writer.new) c) }
+    ensures run { IfOk result (λ c. IsRunOf L.program L.code L.start L.limit (map move_tree stage.now.moves.now) (W.contents writer.old)
+        (W.contents writer.new) c) }
     ensures failures { W.failures writer.new ≡ W.failures writer.old + failures_in result }
     ensures faults { IfErr result IsRunFault }
 {

@@ -1,4 +1,5 @@
 pub mod Failures
+pub mod Output
 pub mod Listing
 pub mod Accepted
 pub mod Numbers
@@ -16,3 +17,4 @@ pub mod Proofs
 pub mod Refusals
 pub mod Running
 pub mod Refused
+pub mod Inner

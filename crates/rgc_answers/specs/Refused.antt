@@ -13,7 +13,9 @@ use Rattle.rg_tree.specs.Statements.{ProgramTree}
 use Rattle.rg_tree.specs.Traces.{State}
 use Rattle.rg_parse.specs.Inputs.{IsStartRefusal, IsMovesRefusal}
 use Rattle.rg_floor.specs.Turns.{open_fault}
+use Rattle.rgc_answers.specs.Output.{Output}
 use Rattle.rgc_answers.specs.Running.{StartsAt, AreTheMoves}
+use Rattle.rgc_answers.specs.declared.running.Run.{Run}
 
 -- the first fault of the bytes of a start, where there are any
 abbrev pub IsUnreadStart : List Word → Option (Bor (List ℕ)) → Refusal → Type 0
@@ -31,26 +33,26 @@ opening_refusal StartOutsidePre = refused_at StartOutsidePre Start 1
 opening_refusal number = refused number
 
 -- there are such a start and such moves, and a run with them isn't opened
-pub record IsUnopened (program : ProgramTree) (start moves : Option (Bor (List ℕ))) (limit : ℕ) (e : Refusal) : Type 0 where
+pub record IsUnopened (program : ProgramTree) (run : Run) (e : Refusal) : Type 0 where
   pub first : State
-  pub starts : StartsAt program.words start first
+  pub starts : StartsAt program.words run.start first
   pub moving : List MoveTree
-  pub moved : AreTheMoves program.words moves moving
+  pub moved : AreTheMoves program.words run.moves moving
   pub fault : RefusalNumber
-  pub is : open_fault program first limit ≡ Some fault
+  pub is : open_fault program first run.limit ≡ Some fault
   pub refusal : e ≡ opening_refusal fault
 
 -- why a run isn't begun: the first fault of the start; then that of the moves; then too many steps are asked for; then the start isn't in the pre
-abbrev pub IsUnbegun : ProgramTree → Option (Bor (List ℕ)) → Option (Bor (List ℕ)) → ℕ → Refusal → Type 0
-IsUnbegun program start moves limit e =
-    IsUnreadStart program.words start e
-    ⊎ ((first : State) × StartsAt program.words start first × AreUnreadMoves program.words moves e)
-    ⊎ IsUnopened program start moves limit e
+abbrev pub IsUnbegun : ProgramTree → Run → Refusal → Type 0
+IsUnbegun program run e =
+    IsUnreadStart program.words run.start e
+    ⊎ ((first : State) × StartsAt program.words run.start first × AreUnreadMoves program.words run.moves e)
+    ⊎ IsUnopened program run e
 
 -- what a run left isn't as it was printed, or a record came twice: each run is looked at after its end, and none has been seen to be so
 abbrev pub IsUnlike : Refusal → Type 0
 IsUnlike e = (e ≡ refused Mismatch) ⊎ (e ≡ refused Stranger)
 
 -- a run stopped: nothing went out, since it is refused so; or what it printed was cut by the writer or by want of memory; or it was unlike what it printed
-abbrev pub IsRunStopped : (Refusal → Type 0) → Option (List ℕ) → Option (List ℕ) → ℕ → ℕ → Refusal → Type 0
-IsRunStopped Refused old new failed after e = IsStopped Refused old new failed after e ⊎ (IsUnlike e × (after ≡ failed))
+abbrev pub IsRunStopped : (Refusal → Type 0) → Output → Refusal → Type 0
+IsRunStopped Refused out e = IsStopped Refused out.before out.after out.failed_before out.failed_after e ⊎ (IsUnlike e × (out.failed_after ≡ out.failed_before))

@@ -16,6 +16,7 @@ use Rattle.rg_floor.specs.declared.closed.Passed.{Passed}
 use Rattle.rg_floor.specs.declared.turn.Why.{Why}
 use Rattle.rg_floor.specs.declared.turn.Why.TheVariants.{Ended, Limit, Stuck, Stopped}
 use Rattle.rg_runner.specs.Running.{IsLeftOf}
+use Rattle.rgc_answers.specs.declared.running.Run.{Run}
 
 -- the state at the start: the one that the bytes spell; without any each word is 0
 abbrev pub StartsAt : List Word → Option (Bor (List ℕ)) → State → Type 0
@@ -42,10 +43,10 @@ passed_line p = refusal_text (refused_in p.refusal Moves (Move p.number)) ++ cod
 abbrev pub passed_text : List Passed → List ℕ
 passed_text = flat_map passed_line
 
--- this is left of a run of the code from the start, with these moves and so many steps of parts at most
-pub record IsRunLeft (program : ProgramTree) (blocks : List (List BlockTree)) (start moves : Option (Bor (List ℕ))) (limit : ℕ) (closed : ClosedView) : Type 0 where
+-- this is left of a run of the code from the start, with its moves and at most so many steps of parts as it may make
+pub record IsRunLeft (program : ProgramTree) (blocks : List (List BlockTree)) (run : Run) (closed : ClosedView) : Type 0 where
   pub first : State
-  pub starts : StartsAt program.words start first
+  pub starts : StartsAt program.words run.start first
   pub moving : List MoveTree
-  pub moved : AreTheMoves program.words moves moving
-  pub left : IsLeftOf program blocks first limit moving closed
+  pub moved : AreTheMoves program.words run.moves moving
+  pub left : IsLeftOf program blocks first run.limit moving closed

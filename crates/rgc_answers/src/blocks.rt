@@ -1,10 +1,10 @@
 //! The conditions of a derivation as texts to show.
 
-ghost use Rattle.std.specs.Prelude.{◌≡◌, ◌<◌, [], false, length, map, slice_index, slice_index_or, string_bytes, IfOk};
-ghost use Rattle.rg_words.specs.Layout.{names_of, widths_of, fixed_of};
+ghost use Rattle.std.specs.Prelude.{◌≡◌, ◌<◌, length, map, string_bytes, IfOk};
 ghost use Rattle.rg_tree.specs.Conditions.{condition_tree};
 ghost use Rattle.rg_accept.specs.Stages.{derived_program, derived_lines};
-ghost use Rattle.rgc_answers.specs.Blocks.{fixed_text, word_text, words_text, shown_text, block_text, blocks_text, formulas_text};
+ghost use Rattle.rgc_answers.specs.Blocks.{fixed_text, words_text, shown_text, block_text, blocks_text, formulas_text};
+ghost use Rattle.rgc_answers.specs.Inner.Blocks.{declaration};
 
 use crate::formulas::formula_of;
 use itoa::Buffer;
@@ -24,7 +24,7 @@ fn fixed_text(fixed: bool) -> &'static str
 /// The declaration of a word. As with all calls of this file that give a text, an error comes only where memory was refused.
 fn word_text(alloc: Global, layout: &Layout, word: usize) -> Result<String, AllocError>
     requires { word < length layout.now }
-    ensures { IfOk result (λ t. string_bytes t ≡ word_text (slice_index_or (fixed_of layout.now) word false) (slice_index_or (names_of layout.now) word []) (slice_index (widths_of layout.now) word)) }
+    ensures { IfOk result (λ t. string_bytes t ≡ declaration layout.now word) }
 {
     let before = fixed_text(layout.is_fixed(word));
     let name = layout.name(word);

@@ -1,16 +1,16 @@
 //! A condition as one formula over its words.
 
-ghost use Rattle.std.specs.Prelude.{◌≡◌, ◌++◌, length, map, IfOk, OnOk, cond};
+ghost use Rattle.std.specs.Prelude.{◌≡◌, ◌++◌, length, map, IfOk, OnOk};
 ghost use Rattle.rg_words.specs.declared.operators.Connective.TheVariants.{Or};
 ghost use Rattle.rg_tree.specs.Trees.{connected};
 ghost use Rattle.rg_tree.specs.Fits.{FormulaFits};
 ghost use Rattle.rg_tree.specs.ConditionTrees.{AllFit, SecondFits, second_state};
 ghost use Rattle.rg_tree.specs.Conditions.{condition_tree};
 ghost use Rattle.rg_tree.specs.View.{expression, formula};
-ghost use Rattle.rgc_answers.specs.Replaced.{formula_over};
 ghost use Rattle.rgc_answers.specs.Equations.{equations, conjunction};
 ghost use Rattle.rgc_answers.specs.Rows.{plain_row};
-ghost use Rattle.rgc_answers.specs.Formulas.{step_of, given_of, met_of, goal_of, formula_of};
+ghost use Rattle.rgc_answers.specs.Formulas.{step_of, given_of, goal_over, goal_of, formula_of};
+ghost use Rattle.rgc_answers.specs.Inner.Formulas.{formulas_over};
 
 use crate::equations::{conjunction, implied, joined, push_equations};
 use crate::replace::formula_over;
@@ -30,7 +30,7 @@ fn push_over(
 ) -> Result<(), AllocError>
     requires fit { AllFit (map formula hypotheses.now) (length plain.now) }
     requires same { length primed.now ≡ length plain.now }
-    ensures { OnOk result (map formula all.new.items ≡ map formula all.old.items ++ map (formula_over (map expression plain.now) (map expression primed.now)) (map formula hypotheses.now)) }
+    ensures { OnOk result (map formula all.new.items ≡ map formula all.old.items ++ formulas_over plain.now primed.now hypotheses.now) }
 {
     for hypothesis in hypotheses {
         let over = formula_over(alloc, hypothesis, plain, primed)?;
@@ -97,7 +97,7 @@ fn goal_over(
 ) -> Result<Formula, AllocError>
     requires fits { FormulaFits (formula c.now.goal) (length plain.now) }
     requires same { length second.now ≡ length plain.now }
-    ensures { IfOk result (λ f. formula f ≡ met_of (condition_tree c.now) (equations (map expression second.now) (map expression plain.now)) (formula_over (cond c.now.alone (map expression second.now) (map expression plain.now)) (map expression second.now) (formula c.now.goal))) }
+    ensures { IfOk result (λ f. formula f ≡ goal_over (condition_tree c.now) (map expression plain.now) (map expression second.now)) }
 {
     let first = if c.alone { second } else { plain };
     let goal = formula_over(alloc, &c.goal, first, second)?;

@@ -10,6 +10,7 @@ ghost use Rattle.rg_monitor.specs.Lines.{lines_of};
 ghost use Rattle.rg_tree.specs.ProgramTrees.{program as program_tree};
 ghost use Rattle.rg_code.specs.CodeTrees.{code_blocks};
 ghost use Rattle.rgc_answers.specs.Failures.{NoFailure};
+ghost use Rattle.rgc_answers.specs.Output.{output};
 ghost use Rattle.rgc_answers.specs.Running.{StartsAt, AreTheMoves, IsRunLeft, why_text, passed_line, passed_text};
 ghost use Rattle.rgc_answers.specs.Refused.{IsUnreadStart, AreUnreadMoves, opening_refusal, IsUnbegun, IsRunStopped};
 
@@ -155,10 +156,11 @@ pub fn play_run<'e, R: Threads + Wait + Sync, E: Checked, W: Out>(
     out: &mut W,
 ) -> Result<Closed<'e>, Refusal>
     requires { CanCount (W.failures out.old) }
-    ensures run { IfOk result (λ c. IsRunLeft (program_tree (E.program_of emitted.now)) (code_blocks (E.code_of emitted.now)) run.entry.start run.entry.moves run.entry.limit c) }
+    ensures run { IfOk result (λ c. IsRunLeft (program_tree (E.program_of emitted.now)) (code_blocks (E.code_of emitted.now)) run.entry c) }
     ensures printed { IfOk result (λ c. Appends (W.contents out.old) (W.contents out.new) (lines_of (program_tree (E.program_of emitted.now)) c.history)) }
     ensures failures { NoFailure result (W.failures out.old) (W.failures out.new) }
-    ensures stopped { IfErr result (IsRunStopped (IsUnbegun (program_tree (E.program_of emitted.now)) run.entry.start run.entry.moves run.entry.limit) (W.contents out.old) (W.contents out.new) (W.failures out.old) (W.failures out.new)) }
+    ensures stopped { IfErr result (IsRunStopped (IsUnbegun (program_tree (E.program_of emitted.now)) run.entry)
+        (output W.contents W.failures out.old out.new)) }
 {
     let layout = &emitted.program().layout;
     let first = first_state(alloc, layout, run.start)?;

@@ -6,4 +6,5 @@ mod Places
 pub mod Printing
 pub mod Proving
 pub mod Stopping
-pub mod Telling
+pub mod Reporting
+pub mod Meant

@@ -21,7 +21,7 @@ use Rattle.rgc_commands.specs.declared.stops.Stop.{Stop}
 use Rattle.rgc_commands.specs.declared.stops.Stop.TheVariants.{Device, Refused, Unverified, Fault, Usage}
 use Rattle.rgc_commands.specs.Of.{outline_files, Pieces, OfOutline, IsRefusedOutline}
 use Rattle.rgc_commands.specs.Code.{Shown, listing, header, is_in_c, title_of, IsCodeForm}
-use Rattle.rgc_commands.specs.Stops.{IsStop, LacksCodeOfFiles, LacksCodeOfOutline, search_steps, unread_line, unless_read, text_line, derivation_line, proofs_line}
+use Rattle.rgc_commands.specs.Stops.{IsStop, LacksCodeOfFiles, LacksCodeOfOutline, LacksMore, search_steps, unread_line, unless_read, text_line, derivation_line, proofs_line}
 use Rattle.rgc_commands.specs.Inner.Stops.{IsDevice, IsFaultStop, IsFormStop, IsNoOutline, IsFilesStop, IsProofStop, IsOutlineStop, NoFault}
 
 -- a file can't be read
@@ -135,11 +135,11 @@ accesses_outline_stop s o files (Fault lines) h = h
 accesses_outline_stop s o files (Usage line) h = absurd h
 
 pub verify_stop : (s : Settings) (outlines : Outlines) (steps : Option ℕ) (text : Option (Bor (List ℕ))) (files : Files) (outline : OutlineFiles) (stop : Stop)
-    → outline_files files.outline ≡ Some outline → IsProofStop outline (search_steps steps) (λ lines. (s.has_accesses ≡ true) × LacksCodeOfOutline s true lines outline) stop → IsStop s (Verify outlines steps false text) files stop
+    → outline_files files.outline ≡ Some outline → IsProofStop outline (search_steps steps) (LacksMore s outline) stop → IsStop s (Verify outlines steps false text) files stop
 verify_stop s outlines steps text files outline (Device line) is h = absurd h
 verify_stop s outlines steps text files outline (Refused e) is h = inl (rw is h)
 verify_stop s outlines steps text files outline (Unverified report) is h = (refl, rw is h)
-verify_stop s outlines steps text files outline (Fault lines) is h = inr (h.0, rw is h.1)
+verify_stop s outlines steps text files outline (Fault lines) is h = inr (rw is h)
 verify_stop s outlines steps text files outline (Usage line) is h = absurd h
 
 -- the first of three files can't be read

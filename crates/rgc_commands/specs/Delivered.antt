@@ -7,6 +7,7 @@ use Rattle.rg_tree.specs.Statements.{ProgramTree}
 use Rattle.rg_clauses.specs.Cnf.{cnf_text}
 use Rattle.rg_floor.specs.Turns.{ClosedView}
 use Rattle.rg_monitor.specs.Lines.{lines_of}
+use Rattle.rgc_answers.specs.Output.{Output}
 use Rattle.rgc_answers.specs.Records.{run_text}
 use Rattle.rgc_answers.specs.Refused.{IsUnbegun, IsRunStopped}
 use Rattle.rgc_answers.specs.Running.{IsRunLeft, why_text}
@@ -28,7 +29,7 @@ left_text Json None program closed = run_text program closed
 -- code that is ready was run so, and what the run did went out
 pub record HasRun (format : Format) (ready : Ready) (old new : Option (List ℕ)) : Type 0 where
   pub closed : ClosedView
-  pub left : IsRunLeft (coded_program ready.code) (coded_blocks ready.code) ready.run.start ready.run.moves ready.run.limit closed
+  pub left : IsRunLeft (coded_program ready.code) (coded_blocks ready.code) ready.run closed
   pub printed : Appends old new (left_text format ready.naming (coded_program ready.code) closed)
 
 -- an answer went out in a format
@@ -38,6 +39,6 @@ IsDelivered format (Run ready) old new = HasRun format ready old new
 IsDelivered format answer old new = Appends old new (answer_text format answer)
 
 -- it didn't: the writer failed or memory was refused; or a run isn't begun, and nothing went out, or it is unlike what it printed
-abbrev pub IsCutOff : Answer → Option (List ℕ) → Option (List ℕ) → ℕ → ℕ → Refusal → Type 0
-IsCutOff (Run ready) old new failed after e = IsRunStopped (IsUnbegun (coded_program ready.code) ready.run.start ready.run.moves ready.run.limit) old new failed after e
-IsCutOff answer old new failed after e = IsFailure failed after e
+abbrev pub IsCutOff : Answer → Output → Refusal → Type 0
+IsCutOff (Run ready) out e = IsRunStopped (IsUnbegun (coded_program ready.code) ready.run) out e
+IsCutOff answer out e = IsFailure out.failed_before out.failed_after e

@@ -5,6 +5,7 @@ pub mod Priority
 pub mod Left
 pub mod Titles
 pub mod Code
+pub mod Meant
 pub mod Of
 pub mod Answers
 pub mod Stops

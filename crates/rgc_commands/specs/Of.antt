@@ -1,5 +1,5 @@
 -- What is so of the bytes of files that are there.
-use Rattle.std.specs.Prelude.{◌≡◌, ℕ, List, Option, Some, None, Result, Ok, Err}
+use Rattle.std.specs.Prelude.{◌≡◌, ◌⊎◌, ℕ, List, Option, Some, None, Result, Ok, Err}
 use Rattle.std.specs.Borrow.{Bor}
 use Rattle.rg_outline_reports.specs.declared.files.NoFiles.{NoFiles}
 use Rattle.rg_outline_reports.specs.declared.files.NoFiles.TheVariants.{Reported}
@@ -9,6 +9,7 @@ use Rattle.rg_outline_reports.specs.declared.outlined.Outlined.{Outlined}
 use Rattle.rg_outline_reports.specs.declared.worked_out.WorkedOut.{WorkedOut}
 use Rattle.rg_outline_reports.specs.WorkedOut.{worked_source, worked_result}
 use Rattle.rgc.specs.Pieces.{bytes_of}
+use Rattle.rgc_commands.specs.Meant.{AreMeant, IsRefusedAsUnmeant}
 use Rattle.rgc_commands.specs.declared.files.Files.{Files}
 use Rattle.rgc_commands.specs.declared.given.Given.{Given}
 
@@ -67,11 +68,15 @@ IsRead None file bytes = bytes ≡ None
 IsRead (Some name) (Some found) bytes = bytes ≡ Some found
 IsRead (Some name) None bytes = ⊥
 
--- an outline was worked out to this: no other outline was
+-- an outline was worked out to this, and no other outline was; where that is files, the outline stands for the program that their text spells. Or it is
+-- refused, as that isn't known
+abbrev pub IsTaken : OutlineSource → Result Outlined NoFiles → Result Outlined NoFiles → Type 0
+IsTaken outline worked expanded = ((expanded ≡ worked) × AreMeant outline worked) ⊎ IsRefusedAsUnmeant outline expanded
+
 pub record IsWorkedOut (outline : OutlineSource) (expanded : Result Outlined NoFiles) : Type 0 where
   pub worked : WorkedOut
   pub of : worked_source worked ≡ outline
-  pub is : expanded ≡ worked_result worked
+  pub taken : IsTaken outline (worked_result worked) expanded
 
 -- the same of the outline of a command, where it is over one
 abbrev pub IsOutlineOf : Option OutlineSource → Option (Bor (Result Outlined NoFiles)) → Type 0

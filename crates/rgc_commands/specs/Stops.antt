@@ -119,6 +119,10 @@ abbrev pub LacksCodeOfOutline : Settings → Bool → List ℕ → OutlineFiles 
 LacksCodeOfOutline s in_c lines outline =
     (places : List ℕ) × LacksCode (IsBuiltOutline outline) s.erase (auxiliary_of s.keeps_aux outline) (priority_for s.priority outline) in_c places lines
 
+-- a verdict is to be followed by the accesses of the outline's code, and that isn't had
+abbrev pub LacksMore : Settings → OutlineFiles → List ℕ → Type 0
+LacksMore s outline lines = (s.has_accesses ≡ true) × LacksCodeOfOutline s true lines outline
+
 -- these lines report that the outline of a command is refused; or that words have to stay, or that there is no C, where the command is about code
 abbrev pub IsFault : Settings → Command → Files → List ℕ → Type 0
 IsFault s (Emit _ _ _) files lines = LacksCodeOfFiles s s.is_c files lines
@@ -128,7 +132,7 @@ IsFault s (EmitOutline _) files lines = IsRefusedOutline files.outline lines ⊎
 IsFault s (AccessesOutline _) files lines = IsRefusedOutline files.outline lines ⊎ OfOutline files (LacksCodeOfOutline s true lines)
 IsFault s (RunOutline _ _ _ _ _) files lines = IsRefusedOutline files.outline lines
 IsFault s (Outline _ _ _ _ _ _) files lines = IsRefusedOutline files.outline lines
-IsFault s (Verify _ _ false _) files lines = IsRefusedOutline files.outline lines ⊎ ((s.has_accesses ≡ true) × OfOutline files (LacksCodeOfOutline s true lines))
+IsFault s (Verify _ _ false _) files lines = IsRefusedOutline files.outline lines ⊎ OfOutline files (λ outline. LacksMore s outline lines)
 IsFault s (Verify _ _ true _) files lines = IsRefusedOutline files.outline lines
 IsFault s (Complete _ _ _ _) files lines = IsRefusedOutline files.outline lines
 IsFault s (Challenge _ _) files lines = IsRefusedOutline files.outline lines

@@ -198,7 +198,9 @@ pub(crate) fn left_with<P: Watcher + Copy>(
     lines: &[u64],
     notes: &mut Vec<u8>,
 ) -> Result<(Coded, Vec<bool>), Stop>
-    ensures left { IfOk result (λ r. IsLeftBy (flags_for (emitted_program emitted).words names.entry flagged.now) (emitted_program emitted) (emitted_blocks emitted) (coded_program r.0) (coded_blocks r.0)) }
+    ensures left { IfOk result (λ r.
+        IsLeftBy (flags_for (emitted_program emitted).words names.entry flagged.now) (emitted_program emitted)
+        (emitted_blocks emitted) (coded_program r.0) (coded_blocks r.0)) }
     ensures apart { IfOk result (λ r. PartsAreApart (coded_program r.0) r.1.items) }
     ensures stopped { IfErr result (IsFaultStop (HaveToStay names.entry flagged.now (emitted_program emitted) lines.now)) }
 {
@@ -283,7 +285,8 @@ fn planned(
     apart: &[bool],
     lines: &[u64],
 ) -> Result<(Vec<Option<Rank>>, Vec<Kind>), Stop>
-    ensures planned { IfOk result (λ r. (some : List Bool) × AreAmong some apart.now × IsPlanned (said priority.entry) r.0.items r.1.items some (program_tree program.now)) }
+    ensures planned { IfOk result (λ r. (some : List Bool) × AreAmong some apart.now
+        × IsPlanned (said priority.entry) r.0.items r.1.items some (program_tree program.now)) }
     ensures stopped { IfErr result (IsFaultStop (LacksPlan (said priority.entry) (program_tree program.now) lines.now)) }
 {
     let order = order_for(alloc, program, priority)?;
@@ -300,8 +303,11 @@ fn form_text<E: Checked>(
     lines: &[u64],
     form: Form<'_>,
 ) -> Result<String, Stop>
-    ensures printed { IfOk result (λ text. (some : List Bool) × AreAmong some apart.now × IsPrintedAs (shown form.entry) (said priority.entry) lines.now some (program_tree (E.program_of left.now)) (E.code_of left.now) (string_bytes text)) }
-    ensures stopped { IfErr result (IsFaultStop (λ report. (is_in_c (shown form.entry) ≡ true) × LacksPlan (said priority.entry) (program_tree (E.program_of left.now)) lines.now report)) }
+    ensures printed { IfOk result (λ text. (some : List Bool) × AreAmong some apart.now
+        × IsPrintedAs (shown form.entry) (said priority.entry) lines.now some (program_tree (E.program_of left.now))
+        (E.code_of left.now) (string_bytes text)) }
+    ensures stopped { IfErr result (IsFaultStop (λ report. (is_in_c (shown form.entry) ≡ true)
+        × LacksPlan (said priority.entry) (program_tree (E.program_of left.now)) lines.now report)) }
 {
     let program = left.program();
     match form {
@@ -326,8 +332,10 @@ pub(crate) fn code_text(
     lines: &[u64],
     form: Form<'_>,
 ) -> Result<String, Stop>
-    ensures printed { IfOk result (λ text. (some : List Bool) × AreAmong some apart.now × IsPrinted (shown form.entry) (said priority.entry) lines.now some code.now (string_bytes text)) }
-    ensures stopped { IfErr result (IsFaultStop (λ report. (is_in_c (shown form.entry) ≡ true) × LacksPlan (said priority.entry) (coded_program code.now) lines.now report)) }
+    ensures printed { IfOk result (λ text. (some : List Bool) × AreAmong some apart.now
+        × IsPrinted (shown form.entry) (said priority.entry) lines.now some code.now (string_bytes text)) }
+    ensures stopped { IfErr result (IsFaultStop (λ report. (is_in_c (shown form.entry) ≡ true)
+        × LacksPlan (said priority.entry) (coded_program code.now) lines.now report)) }
 {
     match code {
         Coded::Whole(emitted) => form_text(alloc, emitted, priority, apart, lines, form),

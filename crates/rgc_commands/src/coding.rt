@@ -51,7 +51,8 @@ fn left_of_files<R: Threads + Wait + Sync, P>(
     files: &Files<'_>,
     notes: &mut Vec<u8>,
 ) -> Result<Coded, Stop>
-    ensures left { IfOk result (λ c. OfThree files.now (λ text derivation proofs. IsLeftOfFiles settings.now.erase text derivation proofs (coded_program c) (coded_blocks c))) }
+    ensures left { IfOk result (λ c. OfThree files.now (λ text derivation proofs.
+        IsLeftOfFiles settings.now.erase text derivation proofs (coded_program c) (coded_blocks c))) }
     ensures stopped { (in_c : Bool) → IfErr result (IsFilesStop settings.now in_c files.now) }
 {
     let (text, derivation, proofs) = three_files(files)?;
@@ -89,7 +90,10 @@ fn left_of_outline<R: Threads + Wait + Sync, P: Watcher + Copy>(
     requires { IsProvedOf outlined.now.files proved }
     ensures left { IfOk result (λ r. IsLeftOfOutline settings.now.erase settings.now.keeps_aux outlined.now.files (coded_program r.0) (coded_blocks r.0)) }
     ensures apart { IfOk result (λ r. PartsAreApart (coded_program r.0) r.1.items) }
-    ensures stopped { (steps : ℕ) → (in_c : Bool) → IfErr result (IsProofStop outlined.now.files steps (λ lines. LacksCodeOfOutline settings.now in_c lines outlined.now.files)) }
+    ensures stopped { (steps : ℕ) →
+        (in_c : Bool) →
+        IfErr result
+        (IsProofStop outlined.now.files steps (λ lines. LacksCodeOfOutline settings.now in_c lines outlined.now.files)) }
 {
     let emitted = proved.code(context)?;
     let in_header = matches!(form, Form::C(_));
@@ -110,8 +114,12 @@ pub(crate) fn proved_text<R: Threads + Wait + Sync, P: Watcher + Copy>(
     notes: &mut Vec<u8>,
 ) -> Result<String, Stop>
     requires { IsProvedOf outlined.now.files proved }
-    ensures text { IfOk result (λ text. HasCode (IsLeftOfOutline settings.now.erase settings.now.keeps_aux outlined.now.files) AsInOutline (priority_for settings.now.priority outlined.now.files) (shown form.entry) (string_bytes text)) }
-    ensures stopped { (steps : ℕ) → IfErr result (IsProofStop outlined.now.files steps (λ lines. LacksCodeOfOutline settings.now (is_in_c (shown form.entry)) lines outlined.now.files)) }
+    ensures text { IfOk result (λ text.
+        HasCode (IsLeftOfOutline settings.now.erase settings.now.keeps_aux outlined.now.files) AsInOutline
+        (priority_for settings.now.priority outlined.now.files) (shown form.entry) (string_bytes text)) }
+    ensures stopped { (steps : ℕ) →
+        IfErr result (IsProofStop outlined.now.files steps (λ lines.
+        LacksCodeOfOutline settings.now (is_in_c (shown form.entry)) lines outlined.now.files)) }
 {
     let (code, apart, lines) = left_of_outline(context, settings, form, outlined, proved, notes)?;
     let priority = priority_for(settings, outlined);
@@ -126,7 +134,9 @@ fn files_text<R: Threads + Wait + Sync, P>(
     files: &Files<'_>,
     notes: &mut Vec<u8>,
 ) -> Result<String, Stop>
-    ensures text { IfOk result (λ text. OfThree files.now (λ t d p. HasCode (IsLeftOfFiles settings.now.erase t d p) AsInFiles (said settings.now.priority) (shown form.entry) (string_bytes text))) }
+    ensures text { IfOk result (λ text. OfThree files.now (λ t d p.
+        HasCode (IsLeftOfFiles settings.now.erase t d p) AsInFiles (said settings.now.priority) (shown form.entry)
+        (string_bytes text))) }
     ensures stopped { IfErr result (IsFilesStop settings.now (is_in_c (shown form.entry)) files.now) }
 {
     let code = left_of_files(context, settings, files, notes)?;
@@ -141,7 +151,9 @@ fn outline_text<R: Threads + Wait + Sync, P: Watcher + Copy + Sync>(
     files: &Files<'_>,
     notes: &mut Vec<u8>,
 ) -> Result<String, Stop>
-    ensures text { IfOk result (λ text. OfOutline files.now (λ o. HasCode (IsLeftOfOutline settings.now.erase settings.now.keeps_aux o) AsInOutline (priority_for settings.now.priority o) (shown form.entry) (string_bytes text))) }
+    ensures text { IfOk result (λ text.
+        OfOutline files.now (λ o. HasCode (IsLeftOfOutline settings.now.erase settings.now.keeps_aux o) AsInOutline
+        (priority_for settings.now.priority o) (shown form.entry) (string_bytes text))) }
     ensures stopped { IfErr result (IsOutlineStop files.now (LacksCodeOfOutline settings.now (is_in_c (shown form.entry)))) }
 {
     let outlined = outlined_of(context.alloc, files)?;
@@ -253,7 +265,11 @@ impl<'b> Asked<'b> {
 
 /// Refuses a picture of a run that is printed as JSON.
 fn drawn_as_lines(settings: &Settings<'_>, draw: Option<&str>) -> Result<(), Stop>
-    ensures { (t d p : Bor (List ℕ)) → (start moves : Option (Bor (List ℕ))) → (limit : ℕ) → (files : AllFiles) → IfErr result (IsStop settings.now (the_run t d p start moves limit draw.entry) files) }
+    ensures { (t d p : Bor (List ℕ)) →
+        (start moves : Option (Bor (List ℕ))) →
+        (limit : ℕ) →
+        (files : AllFiles) →
+        IfErr result (IsStop settings.now (the_run t d p start moves limit draw.entry) files) }
 {
     match draw {
         Some(_) if !is_plain(settings.format) => Err(Stop::Usage(
@@ -270,8 +286,12 @@ pub(crate) fn run<'a, R: Threads + Wait + Sync, P>(
     asked: Asked<'a>,
     files: &Files<'a>,
 ) -> Result<Answer<'a>, Stop>
-    ensures answer { (t d p : Bor (List ℕ)) → IfOk result (IsAnswer settings.now (the_run t d p asked.entry.start asked.entry.moves asked.entry.limit asked.entry.draw) files.now) }
-    ensures stopped { (t d p : Bor (List ℕ)) → IfErr result (IsStop settings.now (the_run t d p asked.entry.start asked.entry.moves asked.entry.limit asked.entry.draw) files.now) }
+    ensures answer { (t d p : Bor (List ℕ)) →
+        IfOk result (IsAnswer settings.now (the_run t d p asked.entry.start asked.entry.moves asked.entry.limit asked.entry.draw)
+        files.now) }
+    ensures stopped { (t d p : Bor (List ℕ)) →
+        IfErr result (IsStop settings.now (the_run t d p asked.entry.start asked.entry.moves asked.entry.limit asked.entry.draw)
+        files.now) }
 {
     drawn_as_lines(settings, asked.draw)?;
     three_files(files)?;
@@ -293,8 +313,12 @@ pub(crate) fn run_outline<'a, R: Threads + Wait + Sync, P: Watcher + Copy + Sync
     asked: Asked<'a>,
     files: &Files<'a>,
 ) -> Result<Answer<'a>, Stop>
-    ensures answer { (o : Bor (List ℕ)) → IfOk result (IsAnswer settings.now (RunOutline o asked.entry.start asked.entry.moves asked.entry.limit asked.entry.draw) files.now) }
-    ensures stopped { (o : Bor (List ℕ)) → IfErr result (IsStop settings.now (RunOutline o asked.entry.start asked.entry.moves asked.entry.limit asked.entry.draw) files.now) }
+    ensures answer { (o : Bor (List ℕ)) →
+        IfOk result (IsAnswer settings.now (RunOutline o asked.entry.start asked.entry.moves asked.entry.limit asked.entry.draw)
+        files.now) }
+    ensures stopped { (o : Bor (List ℕ)) →
+        IfErr result (IsStop settings.now (RunOutline o asked.entry.start asked.entry.moves asked.entry.limit asked.entry.draw)
+        files.now) }
 {
     expanded_of(files)?;
     let (start, moves) = inputs(asked.start, asked.moves, files)?;

@@ -50,7 +50,7 @@ const NOT_EARLIER: Entry = Entry {
     name: "NotEarlier",
     when: "a premise that is 0 or not below its line",
     meaning: "A line follows from lines before it.",
-    remedy: "Name an earlier line behind `from`, or move this line down.",
+    remedy: "Name an earlier line after `from`, or move this line down.",
     example: "\n\
 An example: `rgc conditions text derivation` with\n\
 \n\

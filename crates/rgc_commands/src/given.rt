@@ -19,9 +19,29 @@ pub struct Given<'a> {
     pub outline: Option<OutlineSource<'a>>,
 }
 
+/// What a command is given, with what its outline is taken for.
+#[derive(Clone, Copy)]
+pub(crate) struct Taken<'g, 'e> {
+    pub(crate) given: Given<'g>,
+    pub(crate) expanded: &'e Expanded<'e>,
+}
+
+impl<'g, 'e> Taken<'g, 'e> {
+    pub(crate) fn new(given: Given<'g>, expanded: &'e Expanded<'e>) -> Taken<'g, 'e>
+        ensures { result ≡ record { given = given.entry; expanded = expanded.entry } }
+    {
+        Taken { given, expanded }
+    }
+}
+
 /// The files, the outline among them worked out to this.
 pub(crate) fn files_with<'a>(given: Given<'a>, outline: Option<&'a Expanded<'a>>) -> Files<'a>
-    ensures { result ≡ record { text = given.entry.text; derivation = given.entry.derivation; proofs = given.entry.proofs; start = given.entry.start; moves = given.entry.moves; outline = outline.entry } }
+    ensures text { result.text ≡ given.entry.text }
+    ensures derivation { result.derivation ≡ given.entry.derivation }
+    ensures proofs { result.proofs ≡ given.entry.proofs }
+    ensures start { result.start ≡ given.entry.start }
+    ensures moves { result.moves ≡ given.entry.moves }
+    ensures outline { result.outline ≡ outline.entry }
 {
     Files {
         text: given.text,

@@ -12,6 +12,7 @@ mod entries;
 mod explained;
 mod files;
 mod given;
+mod meaning;
 mod names;
 mod outlines;
 mod performed;

@@ -3,7 +3,7 @@
 ghost use Rattle.std.specs.Prelude.{◌≡◌, ◌++◌, ℕ, List, Option, Some, true, false, is_some, string_bytes, map, IfOk, IfErr, OnOk};
 ghost use Rattle.std.specs.Borrow.{Bor};
 ghost use Rattle.rg_accept.specs.Stages.{derived_program, derived_lines};
-ghost use Rattle.rgc_line.specs.declared.command.Command.TheVariants.{Challenge, Outline, Verify};
+ghost use Rattle.rgc_line.specs.declared.command.Command.TheVariants.{Challenge, Verify};
 ghost use Rattle.rgc_line.specs.declared.command.Settings.{Settings as LineSettings};
 ghost use Rattle.rgc_outlines.specs.Cut.{IsOfPieces};
 ghost use Rattle.rgc_outlines.specs.Proved.{IsProvedOf};
@@ -12,8 +12,9 @@ ghost use Rattle.rg_outline_reports.specs.WalkReport.{reported_lines};
 ghost use Rattle.rgc_commands.specs.Answers.{IsAnswer, IsTextOf, HasMore};
 ghost use Rattle.rgc_commands.specs.Of.{files_of, outline_files, IsReportedBy};
 ghost use Rattle.rgc_commands.specs.Put.{AreProofs, ArePut, IsPut};
+ghost use Rattle.rgc_commands.specs.Inner.Expansion.{expansion};
 ghost use Rattle.rgc_commands.specs.Inner.Stops.{IsDevice, IsFaultStop, IsNoOutline, IsProofStop, NoFault, IsVerifiedStop, IsExpandStop};
-ghost use Rattle.rgc_commands.specs.Stops.{IsStop, LacksCodeOfOutline, outline_line, search_steps};
+ghost use Rattle.rgc_commands.specs.Stops.{IsStop, LacksMore, outline_line, search_steps};
 
 use crate::answers::{Answer, Verified};
 use crate::code::Form;
@@ -205,7 +206,7 @@ fn more_of<R: Threads + Wait + Sync, P: Watcher + Copy>(
 ) -> Result<Vec<u8>, Stop>
     requires { IsProvedOf outlined.now.files proved }
     ensures more { IfOk result (λ more. HasMore settings.now outlined.now.files more.items) }
-    ensures stopped { (steps : ℕ) → IfErr result (IsProofStop outlined.now.files steps (λ lines. (settings.now.has_accesses ≡ true) × LacksCodeOfOutline settings.now true lines outlined.now.files)) }
+    ensures stopped { (steps : ℕ) → IfErr result (IsProofStop outlined.now.files steps (LacksMore settings.now outlined.now.files)) }
 {
     let alloc = context.alloc;
     if !settings.has_accesses {
@@ -372,7 +373,8 @@ impl<'a> Written<'a> {
 
 /// Puts what is named of an outline beside the output, but for its text and its proofs.
 fn put(outlined: &Outlined<'_>, written: Written<'_>, sides: &mut Sides) -> Result<(), AllocError>
-    ensures derivation { OnOk result (IsPut written.entry.derivation outlined.now.files.derivation.items sides.old.derivation.items sides.new.derivation.items) }
+    ensures derivation { OnOk result (IsPut written.entry.derivation outlined.now.files.derivation.items sides.old.derivation.items
+        sides.new.derivation.items) }
     ensures text { OnOk result (sides.new.text.items ≡ sides.old.text.items) }
     ensures proofs { OnOk result (sides.new.proofs.items ≡ sides.old.proofs.items) }
 {
@@ -438,9 +440,9 @@ pub(crate) fn expand<'a, R: Threads + Wait + Sync, P: Watcher + Copy + Sync>(
     files: &Files<'a>,
     sides: &mut Sides,
 ) -> Result<Answer<'a>, Stop>
-    ensures answer { (s : LineSettings) → (o : Bor (List ℕ)) → IfOk result (IsAnswer s (Outline o steps written.entry.text written.entry.derivation written.entry.proofs written.entry.map) files.now) }
-    ensures put { (o : Bor (List ℕ)) → OnOk result (ArePut (Outline o steps written.entry.text written.entry.derivation written.entry.proofs written.entry.map) files.now sides.old sides.new) }
-    ensures stopped { (s : LineSettings) → (o : Bor (List ℕ)) → IfErr result (IsStop s (Outline o steps written.entry.text written.entry.derivation written.entry.proofs written.entry.map) files.now) }
+    ensures answer { (s : LineSettings) → (o : Bor (List ℕ)) → IfOk result (IsAnswer s (expansion o steps written.entry) files.now) }
+    ensures put { (o : Bor (List ℕ)) → OnOk result (ArePut (expansion o steps written.entry) files.now sides.old sides.new) }
+    ensures stopped { (s : LineSettings) → (o : Bor (List ℕ)) → IfErr result (IsStop s (expansion o steps written.entry) files.now) }
 {
     let outlined = outlined_of(context.alloc, files)?;
     let _ = derive(context, outlined, written, steps, sides)?;

@@ -1,17 +1,20 @@
 //! A line that is carried out over files in memory, and the status and the faults that report how that went.
 
-ghost use Rattle.std.specs.Prelude.{◌≡◌, ◌≤◌, ◌++◌, [], string_bytes, IfOk, IfErr, OnOk};
+ghost use Rattle.std.specs.Prelude.{◌≡◌, ◌≤◌, ◌++◌, [], Some, string_bytes, IfOk, IfErr, OnOk};
 ghost use Rattle.rg_words.specs.Written.{CanCount};
 ghost use Rattle.rgc_answers.specs.Failures.{NoFailure};
+ghost use Rattle.rgc_answers.specs.Output.{output};
 ghost use Rattle.rgc_commands.specs.Delivered.{IsDelivered, IsCutOff};
-ghost use Rattle.rgc_commands.specs.Performed.{HasPerformed, IsBelow, IsDone, IsFirst, IsPerformed, IsReported, IsUnverifiedReported, TellsRefusal, Writes, answer_status, refusal_status, reported_line};
+ghost use Rattle.rgc_commands.specs.Of.{IsOutlineOf};
+ghost use Rattle.rgc_commands.specs.Performed.{HasPerformed, IsBelow, IsDone, IsFirst, IsPerformed, IsReported, IsUnverifiedReported, ReportsRefusal, Writes, answer_status, refusal_status, reported_line};
 ghost use Rattle.rgc_commands.specs.Put.{ArePut};
 ghost use Rattle.rgc_commands.specs.Inner.Reported.{IsPassed};
 
 use crate::answered::answer;
 use crate::answers::{Answer, has_succeeded};
 use crate::explained::explained;
-use crate::given::{Given, files_with};
+use crate::given::{Given, Taken, files_with};
+use crate::meaning::unmeant;
 use crate::rendered::render;
 use crate::runs::print_ready;
 use crate::sides::Sides;
@@ -52,17 +55,17 @@ fn status_of(refusal: Refusal) -> u8
 }
 
 /// Reports a text. A failing write is passed over.
-fn tell_text<F: Out>(text: &[u8], faults: &mut F)
+fn report_text<F: Out>(text: &[u8], faults: &mut F)
     requires { CanCount (F.failures faults.old) }
-    ensures { Writes (F.contents faults.old) (F.contents faults.new) (F.failures faults.old) (F.failures faults.new) text.now }
+    ensures { Writes (output F.contents F.failures faults.old faults.new) text.now }
 {
     let _ = write_all(faults, text);
 }
 
 /// Reports a line, and what explains it below. A failing write is passed over.
-fn tell_both<F: Out>(line: &[u8], below: &[u8], faults: &mut F)
+fn report_both<F: Out>(line: &[u8], below: &[u8], faults: &mut F)
     requires { CanCount (F.failures faults.old) }
-    ensures { Writes (F.contents faults.old) (F.contents faults.new) (F.failures faults.old) (F.failures faults.new) (line.now ++ below.now) }
+    ensures { Writes (output F.contents F.failures faults.old faults.new) (line.now ++ below.now) }
 {
     if write_all(faults, line).is_ok() {
         let _ = write_all(faults, below);
@@ -70,7 +73,7 @@ fn tell_both<F: Out>(line: &[u8], below: &[u8], faults: &mut F)
 }
 
 /// Reports a refusal in a line of its own, and what explains it below; the status. Where there is no memory for the line, that is reported.
-fn tell_refusal<F: Out>(
+fn report_refusal<F: Out>(
     alloc: Global,
     settings: &Settings<'_>,
     refusal: Refusal,
@@ -81,13 +84,13 @@ fn tell_refusal<F: Out>(
     requires below { IsBelow settings.now below.now }
     ensures low { 1 ≤ result }
     ensures high { result ≤ 3 }
-    ensures reported { TellsRefusal settings.now refusal result (F.contents faults.old) (F.contents faults.new) (F.failures faults.old) (F.failures faults.new) }
+    ensures reported { ReportsRefusal settings.now refusal result (output F.contents F.failures faults.old faults.new) }
 {
     let Ok(line) = line_of(alloc, settings.format, refusal) else {
-        tell_text(b"refused 99\n", faults);
+        report_text(b"refused 99\n", faults);
         return 3;
     };
-    tell_both(line.as_bytes(), below, faults);
+    report_both(line.as_bytes(), below, faults);
     status_of(refusal)
 }
 
@@ -107,7 +110,7 @@ fn below_of(
 }
 
 /// Reports a refusal, and what explains it where that is asked; the status. Where there is no memory for that, it is reported.
-fn tell_explained<F: Out>(
+fn report_explained<F: Out>(
     alloc: Global,
     line: &Line<'_>,
     files: &Files<'_>,
@@ -117,13 +120,13 @@ fn tell_explained<F: Out>(
     requires { CanCount (F.failures faults.old) }
     ensures low { 1 ≤ result }
     ensures high { result ≤ 3 }
-    ensures reported { TellsRefusal line.now.settings refusal result (F.contents faults.old) (F.contents faults.new) (F.failures faults.old) (F.failures faults.new) }
+    ensures reported { ReportsRefusal line.now.settings refusal result (output F.contents F.failures faults.old faults.new) }
 {
     let Ok(below) = below_of(alloc, line, files, refusal) else {
-        tell_text(b"refused 99\n", faults);
+        report_text(b"refused 99\n", faults);
         return 3;
     };
-    tell_refusal(alloc, &line.settings, refusal, &below, faults)
+    report_refusal(alloc, &line.settings, refusal, &below, faults)
 }
 
 /// Prints an answer; the lines that report moves of a run that were passed over.
@@ -138,7 +141,7 @@ fn deliver<R: Threads + Wait + Sync, P, W: Out>(
     ensures delivered { OnOk result (IsDelivered format answer.now (W.contents out.old) (W.contents out.new)) }
     ensures passed { IfOk result (λ passed. IsPassed answer.now (string_bytes passed)) }
     ensures failures { NoFailure result (W.failures out.old) (W.failures out.new) }
-    ensures stopped { IfErr result (IsCutOff answer.now (W.contents out.old) (W.contents out.new) (W.failures out.old) (W.failures out.new)) }
+    ensures stopped { IfErr result (IsCutOff answer.now (output W.contents W.failures out.old out.new)) }
 {
     match answer {
         Answer::Clauses(clauses) => clauses.write_cnf(out)?,
@@ -171,7 +174,7 @@ fn answer_status(answer: &Answer<'_>) -> u8
 }
 
 /// Prints what is found of conditions that have no proof, and reports what is noted of it, or that it didn't go out whole; the status.
-fn tell_unverified<W: Out, F: Out>(
+fn report_unverified<W: Out, F: Out>(
     settings: &Settings<'_>,
     report: &[u8],
     notes: &Vec<u8>,
@@ -182,15 +185,16 @@ fn tell_unverified<W: Out, F: Out>(
     requires faults { CanCount (F.failures faults.old) }
     ensures low { 1 ≤ result }
     ensures high { result ≤ 3 }
-    ensures told { IsUnverifiedReported settings.now report.now result (W.contents out.old) (W.contents out.new) (W.failures out.old) (W.failures out.new) (F.contents faults.old) (F.contents faults.new) (F.failures faults.old) (F.failures faults.new) }
+    ensures reported { IsUnverifiedReported settings.now report.now result
+        (output W.contents W.failures out.old out.new) (output F.contents F.failures faults.old faults.new) }
 {
     match write_all(out, report) {
         Ok(()) => {
-            tell_text(notes, faults);
+            report_text(notes, faults);
             1
         }
         Err(fault) => {
-            tell_refusal(
+            report_refusal(
                 *notes.allocator(),
                 settings,
                 Refusal::from(fault),
@@ -202,7 +206,7 @@ fn tell_unverified<W: Out, F: Out>(
 }
 
 /// Reports why a command has no answer; the status. What is found of an outline that isn't verified goes out.
-fn tell<W: Out, F: Out>(
+fn report_stop<W: Out, F: Out>(
     line: &Line<'_>,
     files: &Files<'_>,
     stop: &Stop,
@@ -214,24 +218,25 @@ fn tell<W: Out, F: Out>(
     requires faults { CanCount (F.failures faults.old) }
     ensures low { 1 ≤ result }
     ensures high { result ≤ 3 }
-    ensures told { IsReported line.now.settings stop.now result (W.contents out.old) (W.contents out.new) (W.failures out.old) (W.failures out.new) (F.contents faults.old) (F.contents faults.new) (F.failures faults.old) (F.failures faults.new) }
+    ensures reported { IsReported line.now.settings stop.now result
+        (output W.contents W.failures out.old out.new) (output F.contents F.failures faults.old faults.new) }
 {
     let alloc = *notes.allocator();
     match stop {
         Stop::Device(words) => {
-            tell_text(words.as_bytes(), faults);
+            report_text(words.as_bytes(), faults);
             3
         }
         Stop::Fault(lines) => {
-            tell_text(lines, faults);
+            report_text(lines, faults);
             1
         }
         Stop::Usage(words) => {
-            tell_text(words.as_bytes(), faults);
+            report_text(words.as_bytes(), faults);
             2
         }
-        Stop::Unverified(report) => tell_unverified(&line.settings, report, notes, out, faults),
-        Stop::Refused(refusal) => tell_explained(alloc, line, files, *refusal, faults),
+        Stop::Unverified(report) => report_unverified(&line.settings, report, notes, out, faults),
+        Stop::Refused(refusal) => report_explained(alloc, line, files, *refusal, faults),
     }
 }
 
@@ -254,14 +259,15 @@ fn carry_out<R: Threads + Wait + Sync, W: Out, F: Out, P: Watcher + Copy + Sync>
     ensures sides { result ≡ 0 → ArePut line.now.command files.now sides.old sides.new }
 
     // By the status: what went out and what is reported, and why.
-    ensures performed { IsPerformed result line.now files.now (W.contents out.old) (W.contents out.new) (W.failures out.old) (W.failures out.new) (F.contents faults.old) (F.contents faults.new) (F.failures faults.old) (F.failures faults.new) }
+    ensures performed { IsPerformed result line.now files.now (output W.contents W.failures out.old out.new)
+        (output F.contents F.failures faults.old faults.new) }
 {
     let alloc = context.alloc;
     let mut notes = Vec::new(alloc);
     let answer = match answer(context, line, files, &mut notes, sides) {
         Ok(answer) => answer,
         Err(stop) => {
-            let status = tell(line, files, &stop, &notes, out, faults);
+            let status = report_stop(line, files, &stop, &notes, out, faults);
             drop(stop);
             return status;
         }
@@ -274,16 +280,37 @@ fn carry_out<R: Threads + Wait + Sync, W: Out, F: Out, P: Watcher + Copy + Sync>
         &mut sides.picture,
     ) {
         Ok(passed) => {
-            tell_both(first_of(&answer, &passed).as_bytes(), &notes, faults);
+            report_both(first_of(&answer, &passed).as_bytes(), &notes, faults);
             let status = answer_status(&answer);
             drop(answer);
             status
         }
         Err(refusal) => {
             drop(answer);
-            tell_refusal(alloc, &line.settings, refusal, &[], faults)
+            report_refusal(alloc, &line.settings, refusal, &[], faults)
         }
     }
+}
+
+/// Does the command over the bytes of its files, the outline among them taken so.
+fn carry_out_taken<R: Threads + Wait + Sync, W: Out, F: Out, P: Watcher + Copy + Sync>(
+    context: &Context<'_, R, P>,
+    line: &Line<'_>,
+    taken: Taken<'_, '_>,
+    out: &mut W,
+    faults: &mut F,
+    sides: &mut Sides,
+) -> u8
+    requires out { CanCount (W.failures out.old) }
+    requires faults { CanCount (F.failures faults.old) }
+    requires taken { IsOutlineOf taken.given.outline (Some taken.expanded) }
+    ensures status { result ≤ 3 }
+    ensures failures { result ≡ 0 → W.failures out.new ≡ W.failures out.old }
+    ensures performed { HasPerformed result line.now taken.entry.given sides.old sides.new
+        (output W.contents W.failures out.old out.new) (output F.contents F.failures faults.old faults.new) }
+{
+    let files = files_with(taken.given, Some(taken.expanded));
+    carry_out(context, line, &files, out, faults, sides)
 }
 
 /// Does the command over the bytes of its files in the threads of the context (a run has one for each part besides), and answers the program's
@@ -292,6 +319,7 @@ fn carry_out<R: Threads + Wait + Sync, W: Out, F: Out, P: Watcher + Copy + Sync>
 /// and what explains it below, where that is asked; why the search of `find` gave up is one line there. Warnings, what is lost where words are erased, and
 /// moves of a run that were passed over are reported there too, and change no status. Each search has a copy of the watcher, which hears of a long one.
 /// What is written beside the output is put into `sides`.
+#[tactic(auto, using(crate::proofs::Meant::rules))]
 pub fn perform<R: Threads + Wait + Sync, W: Out, F: Out, P: Watcher + Copy + Sync>(
     context: &Context<'_, R, P>,
     line: &Line<'_>,
@@ -305,9 +333,10 @@ pub fn perform<R: Threads + Wait + Sync, W: Out, F: Out, P: Watcher + Copy + Syn
     ensures status { result ≤ 3 }
     ensures failures { result ≡ 0 → W.failures out.new ≡ W.failures out.old }
 
-    // All that is said is said of the files that are given, and of one expansion, of just the outline that is given: what went out, what was put beside it,
-    // and what is reported, and why.
-    ensures performed { HasPerformed result line.now given.now sides.old sides.new (W.contents out.old) (W.contents out.new) (W.failures out.old) (W.failures out.new) (F.contents faults.old) (F.contents faults.new) (F.failures faults.old) (F.failures faults.new) }
+    // All that is said is said of the files that are given, and of one expansion, of just the outline that is given, which stands for the program of its text:
+    // what went out, what was put beside it, and what is reported, and why.
+    ensures performed { HasPerformed result line.now given.now sides.old sides.new
+        (output W.contents W.failures out.old out.new) (output F.contents F.failures faults.old faults.new) }
 {
     let Some(outline) = given.outline else {
         let files = files_with(*given, None);
@@ -315,6 +344,11 @@ pub fn perform<R: Threads + Wait + Sync, W: Out, F: Out, P: Watcher + Copy + Syn
     };
     let reading = Reading::of(context.alloc, outline);
     let worked = WorkedOut::of(context.alloc, &reading);
-    let files = files_with(*given, Some(worked.expanded()));
-    carry_out(context, line, &files, out, faults, sides)
+    let Some(none) = unmeant(context.alloc, outline, worked.expanded()) else {
+        let taken = Taken::new(*given, worked.expanded());
+        return carry_out_taken(context, line, taken, out, faults, sides);
+    };
+    let refused = Err(none);
+    let taken = Taken::new(*given, &refused);
+    carry_out_taken(context, line, taken, out, faults, sides)
 }

@@ -7,6 +7,7 @@ ghost use Rattle.rg_words.specs.Written.{CanCount};
 ghost use Rattle.rg_tree.specs.ProgramTrees.{program as program_tree};
 ghost use Rattle.rg_code.specs.CodeTrees.{code_blocks};
 ghost use Rattle.rgc_answers.specs.Failures.{NoFailure};
+ghost use Rattle.rgc_answers.specs.Output.{output};
 ghost use Rattle.rgc_answers.specs.Refused.{IsUnbegun, IsRunStopped};
 ghost use Rattle.rgc_answers.specs.Running.{IsRunLeft, why_text};
 ghost use Rattle.rgc_outlines.specs.Reported.{reported_lines};
@@ -46,10 +47,12 @@ fn played<'e, R: Threads + Wait + Sync, P, E: Checked, W: Out>(
     out: &mut W,
 ) -> Result<Closed<'e>, Refusal>
     requires { CanCount (W.failures out.old) }
-    ensures run { IfOk result (λ c. IsRunLeft (program_tree (E.program_of checked.now)) (code_blocks (E.code_of checked.now)) run.entry.start run.entry.moves run.entry.limit c) }
-    ensures printed { IfOk result (λ c. Appends (W.contents out.old) (W.contents out.new) (live_text wording.entry (program_tree (E.program_of checked.now)) c)) }
+    ensures run { IfOk result (λ c. IsRunLeft (program_tree (E.program_of checked.now)) (code_blocks (E.code_of checked.now)) run.entry c) }
+    ensures printed { IfOk result (λ c. Appends (W.contents out.old) (W.contents out.new)
+        (live_text wording.entry (program_tree (E.program_of checked.now)) c)) }
     ensures failures { NoFailure result (W.failures out.old) (W.failures out.new) }
-    ensures stopped { IfErr result (IsRunStopped (IsUnbegun (program_tree (E.program_of checked.now)) run.entry.start run.entry.moves run.entry.limit) (W.contents out.old) (W.contents out.new) (W.failures out.old) (W.failures out.new)) }
+    ensures stopped { IfErr result (IsRunStopped (IsUnbegun (program_tree (E.program_of checked.now)) run.entry)
+        (output W.contents W.failures out.old out.new)) }
 {
     match wording {
         Wording::Plain => play_run(context.rt, context.alloc, checked, run, out),
@@ -145,9 +148,11 @@ fn print_run<R: Threads + Wait + Sync, P, E: Checked, W: Out>(
     picture: &mut Vec<u8>,
 ) -> Result<String, Refusal>
     requires { CanCount (W.failures out.old) }
-    ensures printed { OnOk result (HasPlayed how.entry.wording (program_tree (E.program_of checked.now)) (code_blocks (E.code_of checked.now)) how.entry.run (W.contents out.old) (W.contents out.new)) }
+    ensures printed { OnOk result (HasPlayed how.entry.wording (program_tree (E.program_of checked.now)) (code_blocks (E.code_of checked.now))
+        how.entry.run (W.contents out.old) (W.contents out.new)) }
     ensures failures { NoFailure result (W.failures out.old) (W.failures out.new) }
-    ensures stopped { IfErr result (IsRunStopped (IsUnbegun (program_tree (E.program_of checked.now)) how.entry.run.start how.entry.run.moves how.entry.run.limit) (W.contents out.old) (W.contents out.new) (W.failures out.old) (W.failures out.new)) }
+    ensures stopped { IfErr result (IsRunStopped (IsUnbegun (program_tree (E.program_of checked.now)) how.entry.run)
+        (output W.contents W.failures out.old out.new)) }
 {
     let How {
         run,
@@ -183,7 +188,7 @@ pub(crate) fn print_ready<R: Threads + Wait + Sync, P, W: Out>(
     requires { CanCount (W.failures out.old) }
     ensures printed { OnOk result (HasRun format ready.now (W.contents out.old) (W.contents out.new)) }
     ensures failures { NoFailure result (W.failures out.old) (W.failures out.new) }
-    ensures stopped { IfErr result (IsRunStopped (IsUnbegun (coded_program ready.now.code) ready.now.run.start ready.now.run.moves ready.now.run.limit) (W.contents out.old) (W.contents out.new) (W.failures out.old) (W.failures out.new)) }
+    ensures stopped { IfErr result (IsRunStopped (IsUnbegun (coded_program ready.now.code) ready.now.run) (output W.contents W.failures out.old out.new)) }
 {
     let how = How {
         run: ready.run,

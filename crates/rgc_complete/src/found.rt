@@ -1,16 +1,13 @@
 //! An outline with the assertions that it lacks.
 
 use crate::completion::{Completion, added_in};
-use crate::conditions::{nameless, unless_refused};
-use crate::search::Failure;
-use crate::subject::{Begun, Subject};
-use crate::unfound::unfound_report;
 use rg_complete::{Slot, fill};
 use rg_outline_reports::{Demand, Outlined, read_outline};
 use rg_outline_syntax::Texts;
 use rg_watch::Watcher;
 use rg_words::Refusal;
 use rgc_answers::Context;
+use rgc_inductive::{Begun, Failure, Subject, nameless, unfound_report, unless_refused};
 use rgc_outlines::{Known, is_proved, prove_outline, runs_only};
 use std::alloc::{AllocError, Global};
 use std::sync::Wait;

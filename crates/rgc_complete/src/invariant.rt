@@ -1,19 +1,17 @@
 //! The search for conjuncts of the invariant that an outline lacks.
 
-use crate::alive::{Alive, Bits, Candidate};
 use crate::completion::{Completion, added_in};
-use crate::conditions::{nameless, unless_refused};
-use crate::elaborated::FamilyAtoms;
 use crate::found::{Completed, complete};
-use crate::search::{Chosen, Failure, cheapest};
-use crate::subject::{Begun, Subject, candidates_of};
-use crate::written::assertion;
-use rg_complete::{has_own_name, said_of_all, with_conjuncts};
+use rg_complete::{Alive, Bits, Candidate, has_own_name, said_of_all, with_conjuncts};
 use rg_outline_reports::{OutlineSource, Outlined, ReadOutline, read_outline};
 use rg_outline_syntax::Texts;
 use rg_watch::Watcher;
 use rg_words::Refusal;
 use rgc_answers::Context;
+use rgc_inductive::{
+    Begun, Chosen, Failure, FamilyAtoms, Subject, assertion, candidates_of, cheapest, nameless,
+    unless_refused,
+};
 use std::alloc::{AllocError, Global};
 use std::sync::Wait;
 use std::thread::Threads;

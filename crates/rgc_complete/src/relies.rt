@@ -1,23 +1,18 @@
 //! The search for conjuncts of relies that the parts of an outline lack. It begins with all that the steps of a short walk keep, and takes away what the steps of
 //! the others don't keep in what is found of them, and then what isn't needed.
 
-use crate::alive::Bits;
 use crate::completion::{Completion, added_in};
-use crate::conditions::Base;
-use crate::elaborated::{FamilyAtoms, Tried, fixed_words};
-use crate::evaluate::words_of;
 use crate::found::{Completed, complete};
 use crate::invariant::{Attempt, attempted, complete_over};
-use crate::reached::state_after;
-use crate::search::Failure;
-use crate::subject::Subject;
-use crate::written::push_atom;
-use rg_complete::with_relies;
+use rg_complete::{Bits, with_relies, words_of};
 use rg_outline_reports::{Demand, Outlined, ReadOutline};
 use rg_outline_syntax::Texts;
 use rg_watch::Watcher;
 use rg_words::Refusal;
 use rgc_answers::Context;
+use rgc_inductive::{
+    Base, Failure, FamilyAtoms, Subject, Tried, fixed_words, push_atom, state_after,
+};
 use std::alloc::{AllocError, Global};
 use std::sync::Wait;
 use std::thread::Threads;

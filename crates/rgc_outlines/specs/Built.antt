@@ -4,7 +4,7 @@ use Rattle.rg_outline_reports.specs.declared.files.OutlineFiles.{OutlineFiles}
 use Rattle.rg_tree.specs.Statements.{ProgramTree}
 use Rattle.rg_code.specs.Code.{BlockTree}
 use Rattle.rgc.specs.Pieces.{IsBuiltInPieces}
-use Rattle.rgc_outlines.specs.Cut.{ArePiecesOf}
+use Rattle.rg_outline_reports.specs.Cut.{ArePiecesOf}
 
 -- the text of these files, the pieces of their derivation, and some proofs are accepted for a program, and these are exactly the blocks of its code
 pub record IsBuiltOutline (files : OutlineFiles) (program : ProgramTree) (blocks : List (List BlockTree)) : Type 0 where

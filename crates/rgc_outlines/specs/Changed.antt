@@ -3,7 +3,7 @@ use Rattle.std.specs.Prelude.{ℕ, List}
 use Rattle.rg_tree.specs.Statements.{ProgramTree}
 use Rattle.rg_tree.specs.Programs.{IsSatisfied}
 use Rattle.rgc.specs.Pieces.{AreAcceptedInPieces}
-use Rattle.rgc_outlines.specs.Cut.{ArePiecesOf}
+use Rattle.rg_outline_reports.specs.Cut.{ArePiecesOf}
 use Rattle.rgc_outlines.specs.WalkedRefuted.{IsRefuted}
 use Rattle.rgc_outlines.specs.declared.answers.Answer.{Answer}
 use Rattle.rgc_outlines.specs.declared.answers.Answer.TheVariants.{Survives, Breaks, Undecided}

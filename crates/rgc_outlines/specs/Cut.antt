@@ -1,6 +1,5 @@
 -- The derivation of an outline, whole or in pieces, and what is accepted and built by it.
 use Rattle.std.specs.Prelude.{◌≡◌, ◌⊎◌, ℕ, ◌≤◌, List, [], ◌∷◌, length}
-use Rattle.std.specs.List.{concat}
 use Rattle.rg_words.specs.declared.limits.TheConstants.{MOST_TEXT_BYTES}
 use Rattle.rg_words.specs.declared.refusal.Refusal.{Refusal}
 use Rattle.rg_words.specs.Refusals.{no_memory}
@@ -8,13 +7,9 @@ use Rattle.rg_tree.specs.Lines.{LineTree}
 use Rattle.rg_tree.specs.Statements.{ProgramTree}
 use Rattle.rg_tree.specs.Programs.{IsSatisfied}
 use Rattle.rg_code.specs.Code.{BlockTree, HasRunsOf, program_code}
+use Rattle.rg_outline_reports.specs.Cut.{ArePiecesOf}
 use Rattle.rg_accept.specs.Accepted.{AreAccepted, IsBuiltText}
 use Rattle.rgc.specs.Pieces.{AreAcceptedInPieces, IsBuiltInPieces, AreDerived, IsDeriveRefusal}
-
--- one after another these pieces are the derivation, and it is one piece where it is no longer than a file may be
-pub record ArePiecesOf (derivation : List ℕ) (pieces : List (List ℕ)) : Type 0 where
-  pub joined : concat pieces ≡ derivation
-  pub alone : length derivation ≤ MOST_TEXT_BYTES → pieces ≡ derivation ∷ []
 
 -- the text spells this program, and the pieces of the derivation spell these lines, which derive its parts
 pub record IsOfPieces (text derivation : List ℕ) (program : ProgramTree) (lines : List LineTree) : Type 0 where

@@ -2,13 +2,12 @@
 
 use crate::call::Call;
 use crate::outline::unless_refused;
-use rg_outline_reports::{OutlineSource, Outlined, ReadOutline, read_outline};
+use rg_outline_reports::{OutlineSource, Outlined, ReadOutline, cut, read_outline};
 use rg_words::limits::MOST_TEXT_BYTES;
 use rgc_commands::Sides;
 use rgc_line::Command;
 use rgc_system::{
-    Kind, Output, add_output, add_pieces, can_hold, cut_at, report_largest, slices_of,
-    write_outputs,
+    Kind, Output, add_output, add_pieces, can_hold, report_largest, slices_of, write_outputs,
 };
 use std::alloc::{AllocError, Global};
 
@@ -112,7 +111,7 @@ fn write_outline<R>(
     map: Option<&str>,
 ) -> Result<u8, AllocError> {
     let alloc = call.rt.alloc();
-    let derivation = cut_at(alloc, &sides.derivation, cuts_of(sides))?;
+    let derivation = cut(alloc, &sides.derivation, cuts_of(sides))?;
     let proofs = slices_of(alloc, &sides.proofs)?;
     let files = Files {
         text,

@@ -7,24 +7,6 @@ use std::alloc::{AllocError, Global};
 /// How the head of a section of proofs begins.
 pub const SECTION: &[u8] = b"section ";
 
-/// Bytes that are cut at these places. A place before the one that was cut last cuts off no byte, and so does one after the end.
-pub fn cut_at<'a>(
-    alloc: Global,
-    bytes: &'a [u8],
-    places: &[usize],
-) -> Result<Vec<&'a [u8]>, AllocError> {
-    let mut pieces = Vec::new(alloc);
-    let mut rest = bytes;
-    for place in places {
-        let done = bytes.len().saturating_sub(rest.len());
-        let (piece, after) = rest.split_at(place.saturating_sub(done).min(rest.len()));
-        pieces.push(piece)?;
-        rest = after;
-    }
-    pieces.push(rest)?;
-    Ok(pieces)
-}
-
 /// Whether a line begins at this place, and with these bytes.
 pub fn begins_line(bytes: &[u8], place: usize, head: &[u8]) -> bool {
     let (before, rest) = bytes.split_at(place.min(bytes.len()));

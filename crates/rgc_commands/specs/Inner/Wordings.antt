@@ -29,7 +29,7 @@ rest_text (Named naming) program closed = reported_lines naming.now program clos
 -- code was run so, and what the run did went out in this wording
 pub record HasPlayed (wording : Wording) (program : ProgramTree) (blocks : List (List BlockTree)) (run : Run) (old new : Option (List ℕ)) : Type 0 where
   pub closed : ClosedView
-  pub left : IsRunLeft program blocks run.start run.moves run.limit closed
+  pub left : IsRunLeft program blocks run closed
   pub printed : Appends old new (live_text wording program closed ++ rest_text wording program closed)
 
 -- the wording of a run: in the words of an outline that names what it speaks of, where there is one; else in a format

@@ -1,3 +1,9 @@
+use Rattle.std.proofs.Common.{ℕ, List, subst}
+use Rattle.std.specs.Borrow.{Bor}
+use Rattle.std.specs.Result.{OnOk}
+use Rattle.rgc_commands.specs.Put.{ArePut}
+use Rattle.rgc_commands.specs.Inner.Expansion.{expansion}
+use Rattle.rgc_commands.specs.declared.outlines.Written.{Written}
 use Rattle.rgc_commands.proofs.Answering.{on_ok_any, no_others}
 use Rattle.rgc_commands.proofs.answered.answer_outline.Goals as goal
 
@@ -57,7 +63,7 @@ returns-in-Challenge-clause-stopped g c = rw c.in-Challenge.is (c.challenge_outl
 
 pub returns-in-Outline-clause-put : goal.returns-in-Outline-clause-put
 returns-in-Outline-clause-put g c =
-    let said = rw c.new-written.ensures at c.expand.ensures.put in
+    let said = subst (λ (w : Written). (o : Bor (List ℕ)) → OnOk c.expand.result (ArePut (expansion o c.in-Outline.steps w) c.args.files.now c.args.sides.now c.expand.new.sides)) c.new-written.ensures c.expand.ensures.put in
     rw c.in-Outline.is (said c.in-Outline.outline)
 
 pub returns-in-Verify-clause-put : goal.returns-in-Verify-clause-put

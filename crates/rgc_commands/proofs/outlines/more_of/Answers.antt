@@ -4,14 +4,14 @@ use Rattle.std.proofs.lemmas.Result.{err_from_is_err_and}
 use Rattle.rgc_commands.specs.Answers.{AsInOutline, HasCode, IsLeftOfOutline}
 use Rattle.rgc_commands.specs.Code.{accesses}
 use Rattle.rgc_commands.specs.Priority.{priority_for}
-use Rattle.rgc_commands.specs.Stops.{LacksCodeOfOutline}
+use Rattle.rgc_commands.specs.Stops.{LacksMore}
 use Rattle.rgc_commands.proofs.Stopping.{proof_stop_more}
 use Rattle.rgc_commands.proofs.outlines.more_of.Goals as goal
 
 pub returns-in_err-text-clause-stopped : goal.returns-in_err-text-clause-stopped
 returns-in_err-text-clause-stopped g c = λ steps.
     let p = err_from_is_err_and c.from_residual.result c.from_residual.ensures.1 in
-    rw (p.1, p.2) (proof_stop_more c.args.outlined.now.files steps _ (λ (lines : List ℕ). (c.args.settings.now.has_accesses ≡ true) × LacksCodeOfOutline c.args.settings.now true lines c.args.outlined.now.files) _ (λ lines why. (c.if-not-settings.false, why)) (c.in_err-text.ensures.stopped steps))
+    rw (p.1, p.2) (proof_stop_more c.args.outlined.now.files steps _ (LacksMore c.args.settings.now c.args.outlined.now.files) _ (λ lines why. (c.if-not-settings.false, why)) (c.in_err-text.ensures.stopped steps))
 
 pub returns-clause-more : goal.returns-clause-more
 returns-clause-more g c =

@@ -1,5 +1,5 @@
 use Rattle.std.proofs.Common.{◌∙◌, sym}
-use Rattle.rgc_commands.proofs.Telling.{status_zero}
+use Rattle.rgc_commands.proofs.Reporting.{status_zero}
 use Rattle.rgc_commands.proofs.performed.carry_out.Goals as goal
 
 pub returns-in-Ok-deliver-clause-done : goal.returns-in-Ok-deliver-clause-done

@@ -1,7 +1,0 @@
-use Rattle.std.proofs.Common.{◌≡◌, ◌++◌, map}
-use Rattle.std.specs.List.{concat}
-use Rattle.rgc_outlines.proofs.pieces.cut.Given as goal
-
--- the pieces so far with what is left are the bytes
-abbrev pub invariant-loop-place : goal.invariant-loop-place
-invariant-loop-place l = concat (map (λ piece. piece.now) l.pieces.items) ++ l.rest ≡ l.bytes
