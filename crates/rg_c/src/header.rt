@@ -58,8 +58,7 @@ use std::alloc::{AllocError, Global};
 pub struct Options<'a> {
     /// The name of the struct, and what the functions' names begin with.
     pub name: &'a str,
-    /// Before each step stands `RGC_AT(part, block)`: the part's place and the block's in the listing of the code, each from 0. The
-    /// device has to define it.
+    /// Before each step stands `RGC_AT(part, block)`, by their places in the listing of the code, from 0. The device has to define it.
     pub is_traced: bool,
 }
 
@@ -210,11 +209,8 @@ fn push_array_field(
     first: usize,
 ) -> Result<(), AllocError>
     requires { first < length program.now.layout }
-    ensures { OnOk result (string_bytes text.new
-        ≡ string_bytes text.old
-        ++ array_field (program_tree program.now) kinds.now
-        (kind_of_items (kinds_from kinds.now first (array_length program.now.layout first))) first
-        (array_length program.now.layout first)) }
+    ensures { OnOk result (string_bytes text.new ≡ string_bytes text.old ++ array_field (program_tree program.now) kinds.now (kind_of_items (kinds_from
+        kinds.now first (array_length program.now.layout first))) first (array_length program.now.layout first)) }
 {
     let count = array_length(&program.layout, first);
     let kind = kind_of_items(kinds_from(kinds, first, count));
@@ -296,8 +292,7 @@ fn push_fields(
     program: &Program,
     kinds: &[Kind],
 ) -> Result<(), AllocError>
-    ensures { OnOk result (string_bytes text.new
-        ≡ string_bytes text.old ++ flat_map (field_text (program_tree program.now) kinds.now) (places program.now.layout)) }
+    ensures { OnOk result (string_bytes text.new ≡ string_bytes text.old ++ flat_map (field_text (program_tree program.now) kinds.now) (places program.now.layout)) }
 {
     for word in 0..program.layout.len() {
         push_field(alloc, text, program, kinds, word)?;
@@ -598,8 +593,7 @@ fn push_run(
 ) -> Result<(), AllocError>
     requires fits { StatementFits (length s.now.layout.now) (statement body.now) }
     requires room { count_of (statement body.now) < 2 ^ 64 }
-    ensures { OnOk result (string_bytes text.new
-        ≡ string_bytes text.old ++ run_text titles.now.name.now titles.now.part.now (page s.now) (statement body.now)) }
+    ensures { OnOk result (string_bytes text.new ≡ string_bytes text.old ++ run_text titles.now.name.now titles.now.part.now (page s.now) (statement body.now)) }
 {
     push_part_open(text, titles.name, titles.part)?;
     push_block(s, text, 0, body)
@@ -618,9 +612,8 @@ fn push_round(
     requires guard { FormulaFits (formula f.now) (length s.now.layout.now) }
     requires fits { StatementFits (length s.now.layout.now) (statement body.now) }
     requires room { 1 + count_of (statement body.now) < 2 ^ 64 }
-    ensures { OnOk result (string_bytes text.new
-        ≡ string_bytes text.old
-        ++ round_text titles.now.name.now titles.now.part.now (page s.now) line (formula f.now) (statement body.now)) }
+    ensures { OnOk result (string_bytes text.new ≡ string_bytes text.old ++ round_text titles.now.name.now titles.now.part.now (page s.now) line (formula
+        f.now) (statement body.now)) }
 {
     push_round_open(text, titles.name, titles.part)?;
     push_block(s, text, 1, body)?;
@@ -647,10 +640,7 @@ fn push_calls(
     f: &Formula,
 ) -> Result<(), AllocError>
     requires { FormulaFits (formula f.now) (length s.now.layout.now) }
-    ensures { OnOk result (string_bytes text.new
-        ≡ string_bytes text.old
-        ++ on s.now (looped (page s.now) 0 line (formula f.now)
-        (calls (function_name titles.now.name.now (goes_round titles.now.part.now))))) }
+    ensures { OnOk result (string_bytes text.new ≡ string_bytes text.old ++ on s.now (looped (page s.now) 0 line (formula f.now) (calls (function_name titles.now.name.now (goes_round titles.now.part.now))))) }
 {
     let round = round_name(s.alloc, titles)?;
     let inside = inner(s.alloc, s.indent)?;
@@ -672,9 +662,7 @@ fn push_rounds(
     f: &Formula,
 ) -> Result<(), AllocError>
     requires { FormulaFits (formula f.now) (length s.now.layout.now) }
-    ensures { OnOk result (string_bytes text.new
-        ≡ string_bytes text.old
-        ++ function_text s.now.layout.now [] (looped (page s.now) 0 line (formula f.now)
+    ensures { OnOk result (string_bytes text.new ≡ string_bytes text.old ++ function_text s.now.layout.now [] (looped (page s.now) 0 line (formula f.now)
         (calls (function_name titles.now.name.now (goes_round titles.now.part.now))))) }
 {
     let inside = inner(s.alloc, "")?;
@@ -702,8 +690,7 @@ fn push_body(
 ) -> Result<(), AllocError>
     requires fits { StatementFits (length s.now.layout.now) (statement body.now) }
     requires room { count_of (statement body.now) < 2 ^ 64 }
-    ensures { OnOk result (string_bytes text.new
-        ≡ string_bytes text.old ++ body_text titles.now.name.now titles.now.part.now (page s.now) (statement body.now)) }
+    ensures { OnOk result (string_bytes text.new ≡ string_bytes text.old ++ body_text titles.now.name.now titles.now.part.now (page s.now) (statement body.now)) }
 {
     match body {
         Stmt::While(line, f, inside) if is_always(f) => {
@@ -733,10 +720,8 @@ fn push_part(
 ) -> Result<(), AllocError>
     requires fits { StatementFits (length whole.now.program.now.layout) (statement part.now.body) }
     requires room { count_of (statement part.now.body) < 2 ^ 64 }
-    ensures { OnOk result (string_bytes text.new
-        ≡ string_bytes text.old
-        ++ part_text whole.now.options.now.name.now (program_tree whole.now.program.now) whole.now.order.now
-        whole.now.kinds.now whole.now.options.now.is_traced whole.now.lines.now place (part_tree part.now)) }
+    ensures { OnOk result (string_bytes text.new ≡ string_bytes text.old ++ part_text whole.now.options.now.name.now (program_tree whole.now.program.now)
+        whole.now.order.now whole.now.kinds.now whole.now.options.now.is_traced whole.now.lines.now place (part_tree part.now)) }
 {
     let kinds = kinds_for(whole.alloc, whole.program, whole.order, whole.kinds, place)?;
     let s = Sheet {
@@ -759,10 +744,8 @@ fn push_part(
 /// Adds parts.
 fn push_parts(whole: &Whole<'_>, text: &mut String, parts: &[Part]) -> Result<(), AllocError>
     requires { PartsFit (length whole.now.program.now.layout) (map part_tree parts.now) }
-    ensures { OnOk result (string_bytes text.new
-        ≡ string_bytes text.old
-        ++ parts_text whole.now.options.now.name.now (program_tree whole.now.program.now) whole.now.order.now
-        whole.now.kinds.now whole.now.options.now.is_traced whole.now.lines.now 0 (map part_tree parts.now)) }
+    ensures { OnOk result (string_bytes text.new ≡ string_bytes text.old ++ parts_text whole.now.options.now.name.now (program_tree whole.now.program.now)
+        whole.now.order.now whole.now.kinds.now whole.now.options.now.is_traced whole.now.lines.now 0 (map part_tree parts.now)) }
 {
     let mut place = 0;
     for part in parts {
@@ -773,9 +756,7 @@ fn push_parts(whole: &Whole<'_>, text: &mut String, parts: &[Part]) -> Result<()
 }
 
 /// A program as one header of C11, whose parts interrupt each other so, with these kinds of words. `lines` has the line that is printed for each line of the
-/// text, after a first one for none, and 0 for a `skip` that nobody wrote; where it is empty, the lines of the text are printed.
-///
-/// An error comes only where memory was refused.
+/// text, after a first one for none, and 0 for a `skip` that nobody wrote; where it is empty, the text's own. An error comes only where memory was refused.
 pub fn header(
     alloc: Global,
     program: &Program,
@@ -784,8 +765,7 @@ pub fn header(
     lines: &[u64],
     options: &Options<'_>,
 ) -> Result<String, AllocError>
-    ensures { IfOk result (λ text. string_bytes text
-        ≡ header_text options.now.name.now options.now.is_traced lines.now order.now kinds.now (program_tree program.now)) }
+    ensures { IfOk result (λ text. string_bytes text ≡ header_text options.now.name.now options.now.is_traced lines.now order.now kinds.now (program_tree program.now)) }
 {
     let layout = &program.layout;
     layout.facts();
