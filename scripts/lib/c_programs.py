@@ -35,6 +35,7 @@ def sources(seeds):
     folders = sorted(it.parent for it in (TOP / "examples").glob("*/derivation.rgd"))
     found = [Source(f"text {it.name}", "text", str(it)) for it in folders]
     outlines = [(it.parent.name, it) for it in sorted((TOP / "examples").glob("*/outline.rgo"))]
+    outlines += [(f"lock {it}", TOP / "examples/outlines/lock" / f"{it}.rgo") for it in ("counter", "pair")]
     outlines += [(it.stem, it) for folder in ("examples/outlines", "scripts/c_agrees.d") for it in sorted((TOP / folder).glob("*.rgo"))]
     found += [Source(f"outline {name}", "outline", str(path)) for name, path in outlines]
     return found + [Source(f"seed {it}", "seed", str(it)) for it in range(seeds)]
@@ -109,7 +110,9 @@ def files_of(source, program, room):
 
 def auxiliary(outline, code):
     """The words of a text that its outline marks as auxiliary; those of a family have numbers after its name."""
-    bare = re.sub(r"#[^\n]*", "", Path(outline).read_text(encoding="ascii"))
+    text = Path(outline).read_text(encoding="ascii")
+    used = [Path(outline).with_name(it).read_text(encoding="ascii") for it in re.findall(r'^use "(.*)"', text, re.M)]
+    bare = re.sub(r"#[^\n]*", "", "".join([*used, text]))
     marked = re.findall(r"\baux\s+(\w+)\s*([:\[])", bare)
     forms = [re.escape(name) + (r"(_\d+)+" if sign == "[" else "") for name, sign in marked]
     return [word[0] for word in code["words"] if any(re.fullmatch(it, word[0]) for it in forms)]
@@ -198,10 +201,10 @@ def ways(source, code, rng):
 
 
 def check_outline(case, program, words):
-    """Sees that the C of an outline is that of the files that stand for it, besides the comments and what stands for a `skip`, unless its assertions keep parts
-    apart at a word."""
+    """Sees that the C of an outline is that of the files that stand for it, besides the comments, what stands for a `skip`, and the functions for uses of named
+    statements, unless its assertions keep parts apart at a word."""
     bare = lambda text: [it for it in re.sub(r"/\*.*?\*/|\bRGC_SKIP\(\d+\);", "", text, flags=re.S).split("\n") if it.strip()]
-    is_same = bare(run(program, *words, "--name", NAME)) == bare(case.header.text)
+    is_same = bare(run(program, *words, "--name", NAME)) == bare(headers.without_operations(case.header.text, NAME))
     headers.demand(is_same or "apart" in case.header.kinds.values(), "emit --outline prints other C than emit of its text")
 
 

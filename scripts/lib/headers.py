@@ -47,6 +47,33 @@ def without_trace(text):
     return TRACE.sub("", text)
 
 
+def functions_of(text, name):
+    """The functions of parts in their order: what the name has after the title, and the lines of the body without their indentation, blocks without lines left out."""
+    for found in re.finditer(rf"^static inline void {name}_(\w+)\(struct {name} \*w\)\n\{{\n    \(void\)w;\n(.*?)^\}}", text, re.M | re.S):
+        yield found[1], [it.strip() for it in found[2].splitlines()]
+
+
+def without_operations(text, name):
+    """The text of a header without the functions that stand for uses of named statements."""
+    return re.sub(rf"(?:\n/\*[^*]*\*/|\n)\nstatic inline void {name}_perform_\w+\(.*?^\}}\n", "", text, flags=re.M | re.S)
+
+
+def check_operations(text, name):
+    """Sees that each function that stands for a use of named statements has lines that stand together in the function of its part; their number."""
+    last, count = [], 0
+    for role, lines in functions_of(text, name):
+        kind, _, part = role.partition("_")
+        if kind != "perform":
+            # (the function that calls a round follows it)
+            last = lines if kind == "round" or f"{name}_round_{part}(w);" not in lines else last
+            continue
+        stands = any(last[at : at + len(lines)] == lines for at in range(len(last)))
+        demand(lines and stands, f"{name}_{role} isn't what its part does")
+        count += 1
+    demand(count == text.count(f"\nstatic inline void {name}_perform_"), "a function that stands for a use isn't read")
+    return count
+
+
 def check_loops(text):
     """Sees that each loop tests nothing: a compiler may not take for granted that such a loop ends."""
     bare = re.sub(r"/\*.*?\*/", "", text, flags=re.S)
@@ -124,7 +151,7 @@ def accessed(line, members):
 def accesses_of(text, name, members):
     """The accesses that stand in the functions of the parts, in order: the part, the member, whether it is assigned, and whether that is in a section."""
     found, part, inside = [], None, False
-    for line in re.sub(r"/\*.*?\*/", "", text, flags=re.S).split("\n"):
+    for line in without_operations(re.sub(r"/\*.*?\*/", "", text, flags=re.S), name).split("\n"):
         head = re.match(rf"static inline \w+ {name}_(?:(?:run|round)_)?(\w+)\(", line)
         part = head[1] if head and " void " in line else None if head else part
         inside = (inside or "RGC_ENTER(w)" in line) and "RGC_LEAVE(w)" not in line
@@ -150,9 +177,10 @@ def check_accesses(header, name):
 def read(text, name, code):
     """The header, of which a name is the prefix."""
     check_loops(text)
+    check_operations(text, name)
     fields = declared(text, name)
     members = numbered(fields, code["words"])
     names = {number: member for number, (member, _) in members.items()}
     rounds = tuple(re.findall(rf"^static inline void {name}_round_(\w+)\(", text, re.M))
     moved = {member for member, _, note in fields if re.search(r"; written by .*\boutside\b", note)}
-    return Header(text, names, dict(members.values()), counts_of(text), rounds, start_of(text, name, members), moved)
+    return Header(text, names, dict(members.values()), counts_of(without_operations(text, name)), rounds, start_of(text, name, members), moved)

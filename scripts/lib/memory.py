@@ -45,7 +45,7 @@ LISTED = {
         rgc_outlines/claims.rt:is_so rgc_outlines/unproved.rt:lines_if_so rgc_outlines/walk.rt:push_stuck_warning rgc_outlines/warnings.rt:push_found
         rgc_inductive/asked.rt:unknown rgc_inductive/conditions.rt:unless_refused rgc_inductive/elaborated.rt:formula_of
         rgc_commands/outlines.rt:outlined_in rgc_commands/meaning.rt:unmeant rgc_program/completed.rt:print_verdict rgc_program/completed.rt:refused rgc_program/contents.rt:bytes_of
-        rgc_program/call.rt:write_memory rgc_program/call.rt:condition_names rgc_program/outline.rt:unless_refused rgc_program/outline.rt:run_over rgc_program/outline.rt:run_from
+        rgc_program/call.rt:whole rgc_program/call.rt:condition_names rgc_program/outline.rt:unless_refused rgc_program/outline.rt:run_over rgc_program/outline.rt:run_from
         rgc_program/words.rt:work rgc_system/place.rt:identity_of
         rgc_system/replace.rt:write_outputs rgc_system/used.rt:follow
     """,

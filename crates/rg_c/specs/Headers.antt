@@ -25,10 +25,11 @@ use Rattle.rg_c_report.specs.Counts.{counts_first, counts_second, counts_of}
 use Rattle.rg_c_report.specs.Parties.{parties_text}
 use Rattle.rg_c_report.specs.Reports.{kind_text}
 use Rattle.rg_c.specs.Reads.{kind_reads}
-use Rattle.rg_c.specs.CStatements.{CStatement, ◌⨾◌, hook, calls, block}
-use Rattle.rg_c.specs.Printed.{name_of, type_of, printed}
+use Rattle.rg_c.specs.CStatements.{calls}
+use Rattle.rg_c.specs.Printed.{name_of, type_of, function_text}
 use Rattle.rg_c.specs.Functions.{goes_round, function_name}
 use Rattle.rg_c.specs.Bodies.{PageTree, in_c, looped}
+use Rattle.rg_c.specs.Operations.{OperationTree, operations_text}
 use Rattle.rg_c.specs.Starts.{start_text}
 use Rattle.rg_c.specs.Orders.{order_text}
 use Rattle.rg_c.specs.Heads.{top_open, promise_head, promise_line, apart_lines, rests_text, guard_open, atomics_open, lock_free_line, atomics_close, hooks_text, apart_type, sections_text, struct_open, field_line, item_line, struct_close, assertion_text, part_open, round_open, guard_close}
@@ -159,10 +160,6 @@ macros_text name words kinds = guard_open name ++ (atomics_text words kinds ++ (
 unfoldable pub asserted : List ℕ → List ℕ → List Word → List Kind → Proposition → List ℕ
 asserted name what words kinds f = assertion_text name what (test_text words (kind_reads words kinds) (test_in_c (widths_of words) f))
 
--- a function with this head and this body
-abbrev pub function_text : List Word → List ℕ → CStatement → List ℕ
-function_text words head body = head ++ printed words [] [] (block (hook (codes "(void)w") ⨾ body))
-
 -- a part under these names, from its beginning to its end
 unfoldable pub run_text : List ℕ → List ℕ → PageTree → Statement → List ℕ
 run_text name part p s = function_text p.words (part_open name part) (in_c p 0 s)
@@ -177,20 +174,22 @@ abbrev pub body_text : List ℕ → List ℕ → PageTree → Statement → List
 body_text name part p (loop row f s) = if is_always f then round_text name part p row f s else run_text name part p (loop row f s)
 body_text name part p s = run_text name part p s
 
--- a part at its place, from 0, by the kinds of words as it sees them
-abbrev pub part_text : List ℕ → ProgramTree → List (Option Rank) → List Kind → Bool → List ℕ → ℕ → PartTree → List ℕ
-part_text name p order kinds traced lines i part =
-    body_text name part.name (record { words = p.words; kinds = kinds_for p order kinds i; part = i; traced = traced; lines = lines }) part.body
+-- a part at its place, from 0, by the kinds of words as it sees them, and after it the uses of named statements in it
+abbrev pub part_text : List ℕ → ProgramTree → List (Option Rank) → List Kind → Bool → List ℕ → List OperationTree → ℕ → PartTree → List ℕ
+part_text name p order kinds traced lines operations i part =
+    let page : PageTree = record { words = p.words; kinds = kinds_for p order kinds i; part = i; traced = traced; lines = lines } in
+    body_text name part.name page part.body ++ operations_text name part.name page operations part.body
 
 -- the parts from the i-th one on
-abbrev pub parts_text : List ℕ → ProgramTree → List (Option Rank) → List Kind → Bool → List ℕ → ℕ → List PartTree → List ℕ
-parts_text name p order kinds traced lines i [] = []
-parts_text name p order kinds traced lines i (part ∷ parts) =
-    part_text name p order kinds traced lines i part ++ parts_text name p order kinds traced lines (i + 1) parts
+abbrev pub parts_text : List ℕ → ProgramTree → List (Option Rank) → List Kind → Bool → List ℕ → List OperationTree → ℕ → List PartTree → List ℕ
+parts_text name p order kinds traced lines operations i [] = []
+parts_text name p order kinds traced lines operations i (part ∷ parts) =
+    part_text name p order kinds traced lines operations i part ++ parts_text name p order kinds traced lines operations (i + 1) parts
 
--- a program under this name, whose parts interrupt each other so, with these kinds of words, its steps marked or not, and these lines for those of its text
-abbrev pub header_text : List ℕ → Bool → List ℕ → List (Option Rank) → List Kind → ProgramTree → List ℕ
-header_text name traced lines order kinds program =
+-- a program under this name, its steps marked or not, with these lines for those of its text and functions of their own for these uses of named statements, whose
+-- parts interrupt each other so, with these kinds of words
+abbrev pub header_text : List ℕ → Bool → List ℕ → List OperationTree → List (Option Rank) → List Kind → ProgramTree → List ℕ
+header_text name traced lines operations order kinds program =
     top_text name order kinds program ++ (macros_text name program.words kinds ++ (struct_text name program kinds
     ++ (start_text name program ++ (asserted name (codes "pre") program.words kinds program.spec.pre ++ (asserted name (codes "post") program.words kinds program.spec.post
-    ++ (parts_text name program order kinds traced lines 0 program.parts ++ guard_close))))))
+    ++ (parts_text name program order kinds traced lines operations 0 program.parts ++ guard_close))))))

@@ -1,6 +1,6 @@
 -- The pieces of which a header is made, from their texts.
 use Rattle.std.specs.Prelude.{ℕ, List, [], ◌∷◌, codes}
-use Rattle.rg_c.specs.Functions.{runs, goes_round, function_name}
+use Rattle.rg_c.specs.Functions.{runs, goes_round, performs, function_name}
 use Rattle.rg_c.specs.Printed.{joined}
 
 -- the beginning of the comment at the top
@@ -34,7 +34,7 @@ apart_lines = joined (
 unfoldable pub order_open : List ℕ
 order_open = joined (
     codes " *\n"
-    ∷ codes " * What is presumed of parts that run on one coreany e that interrupts others is called by an interrupt, or is a\n"
+    ∷ codes " * What is presumed of parts that run on one core. One that interrupts others is called by an interrupt, or is a\n"
     ∷ codes " * task that doesn't wait: while it runs the others stand still, and in their critical sections it is kept away.\n" ∷ [])
 
 -- what the promise rests on
@@ -179,6 +179,17 @@ round_open name part = joined (
     ∷ part
     ∷ codes ", for a caller that goes round by itself. */\nstatic inline void "
     ∷ function_name name (goes_round part)
+    ∷ codes "(struct "
+    ∷ name
+    ∷ codes " *w)\n" ∷ [])
+
+-- the beginning of the function of one use of named statements in a part
+unfoldable pub operation_open : List ℕ → List ℕ → List ℕ → List ℕ
+operation_open name part operation = joined (
+    codes "\n/* Of part "
+    ∷ part
+    ∷ codes ", the statements of one use alone, for a caller that makes the part's other steps by itself. */\nstatic inline void "
+    ∷ function_name name (performs operation)
     ∷ codes "(struct "
     ∷ name
     ∷ codes " *w)\n" ∷ [])

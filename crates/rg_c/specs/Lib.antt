@@ -14,6 +14,7 @@ pub mod View
 pub mod Laws
 pub mod Functions
 pub mod Heads
+pub mod Operations
 pub mod Starts
 pub mod Orders
 pub mod Headers

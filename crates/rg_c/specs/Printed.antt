@@ -100,3 +100,7 @@ printed words reads i (unless q c) = opens i (codes "if (" ∷ contrary_text wor
 printed words reads i (either q a b) =
     opens i (codes "if (" ∷ question_text words reads q ∷ codes ") " ∷ [])
     ++ (printed words reads (inner i) a ++ (opens i (codes "} else " ∷ []) ++ (printed words reads (inner i) b ++ closes i)))
+
+-- a function with this head and this body
+abbrev pub function_text : List Word → List ℕ → CStatement → List ℕ
+function_text words head body = head ++ printed words [] [] (block (hook (codes "(void)w") ⨾ body))

@@ -1,5 +1,5 @@
 -- Statements and assignments of C in the code, without where they lie in memory.
-use Rattle.std.specs.Prelude.{ℕ, List, [], ◌∷◌, ◌++◌, codes, length, map, nat_eq, Some, option_map, if◌then◌else◌}
+use Rattle.std.specs.Prelude.{ℕ, List, [], ◌∷◌, ◌++◌, codes, length, map, nat_eq, Some, option_map, string_bytes, if◌then◌else◌}
 use Rattle.rg_words.specs.Layout.{Word as Declared, widths_of}
 use Rattle.rg_tree.specs.Trees.{Proposition}
 use Rattle.rg_c_plan.specs.Ways.{way_of}
@@ -20,6 +20,7 @@ use Rattle.rg_c.specs.declared.tree.Line.TheVariants.{Remark, Hook, Loads, Disca
 use Rattle.rg_c.specs.declared.tree.Code.{Code}
 use Rattle.rg_c.specs.declared.tree.Code.TheVariants.{Nothing, Then', Which', Single, Copies, Returned, ToLocals, ToWords, Block', Forever', IfDone', When', Unless', Either'}
 use Rattle.rg_c.specs.declared.tree.Sheet.{Sheet}
+use Rattle.rg_c.specs.declared.operations.Operation.{Operation}
 use Rattle.rg_c.specs.declared.print.Piece.{Piece}
 use Rattle.rg_c.specs.declared.print.Piece.TheVariants.{Text, Name, Member, Kind, Value, Question as ThisQuestion, Contrary}
 use Rattle.rg_c.specs.CStatements.{Question, asks, flag, CStatement, nothing, ◌⨾◌, remark, hook, loads, discards, begins, copies, exchanges, returns, declares, decides, breaks, block, forever, when, unless, either, each}
@@ -29,6 +30,7 @@ use Rattle.rg_c.specs.Together.{ItemTree, all_given}
 use Rattle.rg_c.specs.Questions.{loaded_reads, before, question as question_at, stops_unless}
 use Rattle.rg_c.specs.Steps.{marked, if_done}
 use Rattle.rg_c.specs.Bodies.{PageTree, mark_of, asked}
+use Rattle.rg_c.specs.Operations.{OperationTree}
 
 abbrev pub question : Asked → Question
 question (Asks t) = asks (test t.now)
@@ -107,3 +109,7 @@ loop_opened s place row f =
     on s (asked (page s) row (codes "while ") f)
     ++ (opens s.indent.now (codes "for (;;) " ∷ [])
     ++ printed words (loaded_reads words s.kinds.now way t) (inner s.indent.now) (before (marked (mark_of (page s) place)) place way t ⨾ stops_unless (question_at place way t)))
+
+-- one use of named statements
+abbrev pub operation : Operation → OperationTree
+operation o = record { part = o.part; name = string_bytes o.name; first = o.first; last = o.last }

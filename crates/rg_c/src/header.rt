@@ -1,6 +1,6 @@
 //! A program as one header of C11.
 
-ghost use Rattle.std.specs.Prelude.{◌≡◌, ◌++◌, ◌+◌, ◌<◌, ◌^◌, [], codes, decimal, length, map, string_bytes, IfOk, OnOk};
+ghost use Rattle.std.specs.Prelude.{◌≡◌, ◌++◌, ◌<◌, ◌^◌, codes, decimal, length, map, string_bytes, IfOk, OnOk};
 ghost use Rattle.std.specs.List.{list_any, list_all, flat_map};
 ghost use Rattle.rg_tree.specs.Fits.{FormulaFits};
 ghost use Rattle.rg_tree.specs.View.{formula};
@@ -11,30 +11,25 @@ ghost use Rattle.rg_c_plan.specs.Accesses.{places};
 ghost use Rattle.rg_c_plan.specs.Apart.{is_apart_kind};
 ghost use Rattle.rg_c_plan.specs.Ways.{kind_at, has_atomic_accesses, is_guarded};
 ghost use Rattle.rg_c_values.specs.Arrays.{array_length, array_name, indexed, member_of};
-ghost use Rattle.rg_c.specs.Headers.{kind_before, kind_after, bits_text, note_text, own_field, is_fixed_kind, kind_of_items, kinds_from, array_field, item_note, field_text, struct_text, conjunct_lines, promise_text, promises_text, counts_text, apart_text, top_text, has_atomic, lock_free_text, lock_free_texts, atomics_text, apart_hook, macros_text, asserted, function_text, run_text, round_text, body_text, part_text, parts_text, header_text};
-ghost use Rattle.rg_c.specs.Functions.{goes_round, function_name};
-ghost use Rattle.rg_c.specs.CStatements.{calls};
-ghost use Rattle.rg_c.specs.Bodies.{in_c, looped};
+ghost use Rattle.rg_c.specs.Headers.{kind_before, kind_after, bits_text, note_text, own_field, is_fixed_kind, kind_of_items, kinds_from, array_field, item_note, field_text, struct_text, conjunct_lines, promise_text, promises_text, counts_text, apart_text, top_text, has_atomic, lock_free_text, lock_free_texts, atomics_text, apart_hook, macros_text, asserted, part_text, parts_text, header_text};
 ghost use Rattle.rg_c.specs.Fitting.{StatementFits, SpecificationFits, PartsFit};
-ghost use Rattle.rg_c.specs.View.{page, on};
+ghost use Rattle.rg_c.specs.View.{operation};
 
+use crate::bodies::{Titles, push_body};
 use crate::heads::{
     promise_head, push_apart_lines, push_apart_type, push_assertion_text, push_atomics_close,
     push_atomics_open, push_field_line, push_guard_close, push_guard_open, push_hooks_text,
-    push_item_line, push_lock_free_line, push_part_open, push_promise_line, push_rests_text,
-    push_round_open, push_sections_text, push_struct_close, push_struct_open, push_top_open,
+    push_item_line, push_lock_free_line, push_promise_line, push_rests_text, push_sections_text,
+    push_struct_close, push_struct_open, push_top_open,
 };
+use crate::operations::{Operation, push_operations};
 use crate::orders::push_order;
-use crate::print::{
-    Piece, inner, push_closing, push_code, push_digits, push_line, push_opening, push_word_name,
-    type_of,
-};
+use crate::print::{push_digits, push_word_name, type_of};
 use crate::reads::kind_reads;
 use crate::start::push_start;
-use crate::statements::{At, push_loop, push_statement};
-use crate::tree::{Code, Line, Sheet};
+use crate::tree::Sheet;
 use rg_c_plan::kind::Kind;
-use rg_c_plan::order::{Rank, is_always};
+use rg_c_plan::order::Rank;
 use rg_c_plan::views::kinds_for;
 use rg_c_plan::way::{has_atomic_accesses, kind_at};
 use rg_c_report::counts::{Counts, counts_of, push_counts_first, push_counts_second};
@@ -47,7 +42,6 @@ use rg_c_values::translate::test_in_c;
 use rg_tree::part::{Part, Spec};
 use rg_tree::print::print;
 use rg_tree::program::Program;
-use rg_tree::statement::Stmt;
 use rg_tree::tree::Formula;
 use rg_words::Layout;
 use rg_words::operators::Connective;
@@ -60,6 +54,8 @@ pub struct Options<'a> {
     pub name: &'a str,
     /// Before each step stands `RGC_AT(part, block)`, by their places in the listing of the code, from 0. The device has to define it.
     pub is_traced: bool,
+    /// The uses of named statements that get functions of their own, which stand after those of their parts.
+    pub operations: &'a [Operation],
 }
 
 fn kind_before(kind: Kind) -> &'static str
@@ -552,154 +548,6 @@ fn push_asserted(
     push_assertion_text(text, name, what, &asked)
 }
 
-/// What the functions of a part are named after.
-#[derive(Clone, Copy)]
-struct Titles<'a> {
-    name: &'a str,
-    part: &'a str,
-}
-
-const UNUSED: Code<'static> = Code::Single(Line::Hook("(void)w"));
-
-/// Adds the body of a function: a statement whose first step stands at this place.
-fn push_block(s: &Sheet<'_>, text: &mut String, place: usize, body: &Stmt) -> Result<(), AllocError>
-    requires fits { StatementFits (length s.now.layout.now) (statement body.now) }
-    requires room { place + count_of (statement body.now) < 2 ^ 64 }
-    ensures { OnOk result (string_bytes text.new ≡ string_bytes text.old ++ function_text s.now.layout.now [] (in_c (page s.now) place (statement body.now))) }
-{
-    let inside = inner(s.alloc, "")?;
-    let outer = Sheet {
-        reads: &[],
-        indent: "",
-        ..*s
-    };
-    let deeper = Sheet {
-        indent: &inside,
-        ..outer
-    };
-    push_opening(&outer, text, &[])?;
-    push_code(&deeper, text, &UNUSED)?;
-    push_statement(&deeper, text, place, body)?;
-    push_closing(&outer, text)
-}
-
-/// Adds a part from its beginning to its end.
-#[tactic(auto, unfolding(crate::specs::Headers::run_text))]
-fn push_run(
-    s: &Sheet<'_>,
-    text: &mut String,
-    titles: &Titles<'_>,
-    body: &Stmt,
-) -> Result<(), AllocError>
-    requires fits { StatementFits (length s.now.layout.now) (statement body.now) }
-    requires room { count_of (statement body.now) < 2 ^ 64 }
-    ensures { OnOk result (string_bytes text.new ≡ string_bytes text.old ++ run_text titles.now.name.now titles.now.part.now (page s.now) (statement body.now)) }
-{
-    push_part_open(text, titles.name, titles.part)?;
-    push_block(s, text, 0, body)
-}
-
-/// Adds a part that goes round without an end: one round of it, and the part, which calls that again and again.
-#[tactic(auto, unfolding(crate::specs::Headers::round_text))]
-fn push_round(
-    s: &Sheet<'_>,
-    text: &mut String,
-    titles: &Titles<'_>,
-    line: u32,
-    f: &Formula,
-    body: &Stmt,
-) -> Result<(), AllocError>
-    requires guard { FormulaFits (formula f.now) (length s.now.layout.now) }
-    requires fits { StatementFits (length s.now.layout.now) (statement body.now) }
-    requires room { 1 + count_of (statement body.now) < 2 ^ 64 }
-    ensures { OnOk result (string_bytes text.new ≡ string_bytes text.old ++ round_text titles.now.name.now titles.now.part.now (page s.now) line (formula
-        f.now) (statement body.now)) }
-{
-    push_round_open(text, titles.name, titles.part)?;
-    push_block(s, text, 1, body)?;
-    push_part_open(text, titles.name, titles.part)?;
-    push_rounds(s, text, titles, line, f)
-}
-
-/// The name of the function for one round of a part.
-fn round_name(alloc: Global, titles: &Titles<'_>) -> Result<String, AllocError>
-    ensures { IfOk result (λ text. string_bytes text ≡ function_name titles.now.name.now (goes_round titles.now.part.now)) }
-{
-    let mut text = String::from_str(alloc, titles.name)?;
-    text.push_str("_round_")?;
-    text.push_str(titles.part)?;
-    Ok(text)
-}
-
-/// Adds the loop of such a part, which calls its round.
-fn push_calls(
-    s: &Sheet<'_>,
-    text: &mut String,
-    titles: &Titles<'_>,
-    line: u32,
-    f: &Formula,
-) -> Result<(), AllocError>
-    requires { FormulaFits (formula f.now) (length s.now.layout.now) }
-    ensures { OnOk result (string_bytes text.new ≡ string_bytes text.old ++ on s.now (looped (page s.now) 0 line (formula f.now) (calls (function_name titles.now.name.now (goes_round titles.now.part.now))))) }
-{
-    let round = round_name(s.alloc, titles)?;
-    let inside = inner(s.alloc, s.indent)?;
-    let deeper = Sheet {
-        indent: &inside,
-        ..*s
-    };
-    push_loop(s, text, At { place: 0, line }, f)?;
-    push_line(&deeper, text, &[Piece::Text(&round), Piece::Text("(w)")])?;
-    push_closing(s, text)
-}
-
-/// Adds the body of such a part.
-fn push_rounds(
-    s: &Sheet<'_>,
-    text: &mut String,
-    titles: &Titles<'_>,
-    line: u32,
-    f: &Formula,
-) -> Result<(), AllocError>
-    requires { FormulaFits (formula f.now) (length s.now.layout.now) }
-    ensures { OnOk result (string_bytes text.new ≡ string_bytes text.old ++ function_text s.now.layout.now [] (looped (page s.now) 0 line (formula f.now)
-        (calls (function_name titles.now.name.now (goes_round titles.now.part.now))))) }
-{
-    let inside = inner(s.alloc, "")?;
-    let outer = Sheet {
-        reads: &[],
-        indent: "",
-        ..*s
-    };
-    let deeper = Sheet {
-        indent: &inside,
-        ..outer
-    };
-    push_opening(&outer, text, &[])?;
-    push_code(&deeper, text, &UNUSED)?;
-    push_calls(&deeper, text, titles, line, f)?;
-    push_closing(&outer, text)
-}
-
-/// Adds the functions of a part with this body.
-fn push_body(
-    s: &Sheet<'_>,
-    text: &mut String,
-    titles: &Titles<'_>,
-    body: &Stmt,
-) -> Result<(), AllocError>
-    requires fits { StatementFits (length s.now.layout.now) (statement body.now) }
-    requires room { count_of (statement body.now) < 2 ^ 64 }
-    ensures { OnOk result (string_bytes text.new ≡ string_bytes text.old ++ body_text titles.now.name.now titles.now.part.now (page s.now) (statement body.now)) }
-{
-    match body {
-        Stmt::While(line, f, inside) if is_always(f) => {
-            push_round(s, text, titles, *line, f, inside)
-        }
-        _ => push_run(s, text, titles, body),
-    }
-}
-
 /// What the text of the parts depends on: the program, which of its parts interrupt which, the kinds of its words, and how a header is made.
 #[derive(Clone, Copy)]
 struct Whole<'a> {
@@ -711,7 +559,7 @@ struct Whole<'a> {
     options: &'a Options<'a>,
 }
 
-/// Adds a part at this place, by the kinds of words as it sees them.
+/// Adds a part at this place, by the kinds of words as it sees them, and the uses of named statements in it.
 fn push_part(
     whole: &Whole<'_>,
     text: &mut String,
@@ -721,7 +569,7 @@ fn push_part(
     requires fits { StatementFits (length whole.now.program.now.layout) (statement part.now.body) }
     requires room { count_of (statement part.now.body) < 2 ^ 64 }
     ensures { OnOk result (string_bytes text.new ≡ string_bytes text.old ++ part_text whole.now.options.now.name.now (program_tree whole.now.program.now)
-        whole.now.order.now whole.now.kinds.now whole.now.options.now.is_traced whole.now.lines.now place (part_tree part.now)) }
+        whole.now.order.now whole.now.kinds.now whole.now.options.now.is_traced whole.now.lines.now (map operation whole.now.options.now.operations.now) place (part_tree part.now)) }
 {
     let kinds = kinds_for(whole.alloc, whole.program, whole.order, whole.kinds, place)?;
     let s = Sheet {
@@ -738,14 +586,15 @@ fn push_part(
         name: whole.options.name,
         part: part.name.as_str(),
     };
-    push_body(&s, text, &titles, &part.body)
+    push_body(&s, text, &titles, &part.body)?;
+    push_operations(&s, text, &titles, whole.options.operations, &part.body)
 }
 
 /// Adds parts.
 fn push_parts(whole: &Whole<'_>, text: &mut String, parts: &[Part]) -> Result<(), AllocError>
     requires { PartsFit (length whole.now.program.now.layout) (map part_tree parts.now) }
     ensures { OnOk result (string_bytes text.new ≡ string_bytes text.old ++ parts_text whole.now.options.now.name.now (program_tree whole.now.program.now)
-        whole.now.order.now whole.now.kinds.now whole.now.options.now.is_traced whole.now.lines.now 0 (map part_tree parts.now)) }
+        whole.now.order.now whole.now.kinds.now whole.now.options.now.is_traced whole.now.lines.now (map operation whole.now.options.now.operations.now) 0 (map part_tree parts.now)) }
 {
     let mut place = 0;
     for part in parts {
@@ -765,7 +614,7 @@ pub fn header(
     lines: &[u64],
     options: &Options<'_>,
 ) -> Result<String, AllocError>
-    ensures { IfOk result (λ text. string_bytes text ≡ header_text options.now.name.now options.now.is_traced lines.now order.now kinds.now (program_tree program.now)) }
+    ensures { IfOk result (λ text. string_bytes text ≡ header_text options.now.name.now options.now.is_traced lines.now (map operation options.now.operations.now) order.now kinds.now (program_tree program.now)) }
 {
     let layout = &program.layout;
     layout.facts();

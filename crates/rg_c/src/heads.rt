@@ -2,7 +2,7 @@
 
 ghost use Rattle.std.specs.Prelude.{◌≡◌, ◌++◌, string_bytes, IfOk, OnOk};
 ghost use Rattle.std.specs.List.{flat_map};
-ghost use Rattle.rg_c.specs.Heads.{top_open, promise_head, promise_line, apart_lines, order_open, rests_text, guard_open, atomics_open, lock_free_line, atomics_close, hooks_text, apart_type, sections_text, struct_open, field_line, item_line, struct_close, start_lines, assertion_text, part_open, round_open, guard_close};
+ghost use Rattle.rg_c.specs.Heads.{top_open, promise_head, promise_line, apart_lines, order_open, rests_text, guard_open, atomics_open, lock_free_line, atomics_close, hooks_text, apart_type, sections_text, struct_open, field_line, item_line, struct_close, start_lines, assertion_text, part_open, round_open, operation_open, guard_close};
 
 use std::alloc::{AllocError, Global};
 
@@ -82,7 +82,7 @@ pub(crate) fn push_order_open(text: &mut String) -> Result<(), AllocError>
         text,
         &[
             " *\n",
-            " * What is presumed of parts that run on one coreany e that interrupts others is called by an interrupt, or is a\n",
+            " * What is presumed of parts that run on one core. One that interrupts others is called by an interrupt, or is a\n",
             " * task that doesn't wait: while it runs the others stand still, and in their critical sections it is kept away.\n",
         ],
     )
@@ -345,6 +345,32 @@ pub(crate) fn push_round_open(text: &mut String, name: &str, part: &str) -> Resu
             name,
             "_round_",
             part,
+            "(struct ",
+            name,
+            " *w)\n",
+        ],
+    )
+}
+
+/// Adds the beginning of the function of one use of named statements in a part.
+#[tactic(auto, unfolding(crate::specs::Heads::operation_open))]
+pub(crate) fn push_operation_open(
+    text: &mut String,
+    name: &str,
+    part: &str,
+    operation: &str,
+) -> Result<(), AllocError>
+    ensures { OnOk result (string_bytes text.new ≡ string_bytes text.old ++ operation_open name.now part.now operation.now) }
+{
+    push_all(
+        text,
+        &[
+            "\n/* Of part ",
+            part,
+            ", the statements of one use alone, for a caller that makes the part's other steps by itself. */\nstatic inline void ",
+            name,
+            "_perform_",
+            operation,
             "(struct ",
             name,
             " *w)\n",

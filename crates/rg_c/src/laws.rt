@@ -25,7 +25,7 @@ pub fn starts_are_inside()
     ensures { StartsAreInside }
 {}
 
-/// Functions of headers have different names, and so have those of one header, where no title has `_run` or `_round` in it.
+/// Functions of headers have different names, and so have those of one header, where no title has `_run`, `_round` or `_perform` in it.
 #[tactic(auto, using(crate::proofs::FunctionsApart::functions_stay_apart))]
 pub fn functions_stay_apart()
     ensures { FunctionsStayApart }

@@ -2,9 +2,11 @@
 #![tactic(auto)]
 
 mod assigned;
+mod bodies;
 pub mod header;
 mod heads;
 pub mod laws;
+pub mod operations;
 mod orders;
 mod print;
 mod questions;

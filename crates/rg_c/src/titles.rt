@@ -14,10 +14,10 @@ fn stands_in(text: &[u8], name: &[u8]) -> bool
     }
 }
 
-/// Whether a title has `_run` or `_round` in it, which could be taken for the name of a function.
+/// Whether a title has `_run`, `_round` or `_perform` in it, which could be taken for the name of a function.
 pub fn has_role(title: &str) -> bool
     ensures { result ≡ has_role title.now }
 {
     let name = title.as_bytes();
-    stands_in(b"_run", name) || stands_in(b"_round", name)
+    stands_in(b"_run", name) || stands_in(b"_round", name) || stands_in(b"_perform", name)
 }

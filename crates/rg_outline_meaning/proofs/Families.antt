@@ -4,7 +4,8 @@ use Rattle.std.specs.List.{filter}
 use Rattle.std.proofs.lemmas.List.{map-append, append_assoc, append-nil, drop_more, take_more, at_drop_all}
 use Rattle.std.proofs.lemmas.List.Elements.{filter-append, Contains-get_or}
 use Rattle.rg_words.specs.Layout.{Word}
-use Rattle.rg_outline_meaning.specs.Members.{numbers, numbers_from, longer, IsMember, AreMembers, fits, Choice, AreChoices}
+use Rattle.rg_outline_meaning.specs.Members.{numbers, numbers_from, longer, IsMember, AreMembers, fits, Candidate}
+use Rattle.rg_outline_meaning.specs.Inner.{AreCandidatesAt}
 use Rattle.rg_outline_meaning.specs.Expressions as rule
 use Rattle.rg_outline_meaning.specs.Expressions.{AreOthers}
 use Rattle.rg_outline_meaning.proofs.Placed.{take_next}
@@ -31,7 +32,7 @@ members_and_one words name [] (l ∷ ks) x k all one = absurd all
 members_and_one words name (y ∷ xs) [] x k all one = absurd all
 
 -- choices, and one more
-pub choices_and_one : (words : List Word) (name : List ℕ) (is : List ℤ) (place : ℕ) (zs : List ℤ) (cs : List Choice) (z : ℤ) (c : Choice) → AreChoices words name is place zs cs → z ≡ pos c.number → IsMember words name (slice_set is place z) c.word → AreChoices words name is place (zs ++ z ∷ []) (cs ++ c ∷ [])
+pub choices_and_one : (words : List Word) (name : List ℕ) (is : List ℤ) (place : ℕ) (zs : List ℤ) (cs : List Candidate) (z : ℤ) (c : Candidate) → AreCandidatesAt words name is place zs cs → z ≡ pos c.number → IsMember words name (slice_set is place z) c.word → AreCandidatesAt words name is place (zs ++ z ∷ []) (cs ++ c ∷ [])
 choices_and_one words name is place [] [] z c all number one = (number, one, tt)
 choices_and_one words name is place (y ∷ zs) (d ∷ cs) z c all number one = (all.0, all.1, choices_and_one words name is place zs cs z c all.2 number one)
 choices_and_one words name is place [] (d ∷ cs) z c all number one = absurd all
@@ -49,13 +50,13 @@ members_next f words name xs k x old new one at low before own is =
     rw (take_next xs k x at low, map-append f (take k xs) (x ∷ []), is) (members_and_one words name (map f (take k xs)) old (f x) one before own)
 
 -- choices of the numbers up to one, and that one
-pub choices_next : (words : List Word) (name : List ℕ) (is : List ℤ) (place width : ℕ) (zs : List ℤ) (k : ℕ) (d z : ℤ) (old new : List Choice) (c : Choice) → z ≡ slice_index_or zs k d → k < length zs → fits width z ≡ true → AreChoices words name is place (filter (fits width) (take k zs)) old → z ≡ pos c.number → IsMember words name (slice_set is place z) c.word → new ≡ old ++ c ∷ [] → AreChoices words name is place (filter (fits width) (take (k + 1) zs)) new
+pub choices_next : (words : List Word) (name : List ℕ) (is : List ℤ) (place width : ℕ) (zs : List ℤ) (k : ℕ) (d z : ℤ) (old new : List Candidate) (c : Candidate) → z ≡ slice_index_or zs k d → k < length zs → fits width z ≡ true → AreCandidatesAt words name is place (filter (fits width) (take k zs)) old → z ≡ pos c.number → IsMember words name (slice_set is place z) c.word → new ≡ old ++ c ∷ [] → AreCandidatesAt words name is place (filter (fits width) (take (k + 1) zs)) new
 choices_next words name is place width zs k d z old new c at low fit before number own same =
     let kept : filter (fits width) (z ∷ []) ≡ z ∷ [] = ap (λ b. cond b (z ∷ []) []) fit in
     rw (take_more zs k d low, ← at, filter-append (fits width) (take k zs) (z ∷ []), kept, same) (choices_and_one words name is place (filter (fits width) (take k zs)) old z c before number own)
 
 -- the next number may not fit
-pub choices_passed : (words : List Word) (name : List ℕ) (is : List ℤ) (place width : ℕ) (zs : List ℤ) (k : ℕ) (d z : ℤ) (cs : List Choice) → z ≡ slice_index_or zs k d → k < length zs → fits width z ≡ false → AreChoices words name is place (filter (fits width) (take k zs)) cs → AreChoices words name is place (filter (fits width) (take (k + 1) zs)) cs
+pub choices_passed : (words : List Word) (name : List ℕ) (is : List ℤ) (place width : ℕ) (zs : List ℤ) (k : ℕ) (d z : ℤ) (cs : List Candidate) → z ≡ slice_index_or zs k d → k < length zs → fits width z ≡ false → AreCandidatesAt words name is place (filter (fits width) (take k zs)) cs → AreCandidatesAt words name is place (filter (fits width) (take (k + 1) zs)) cs
 choices_passed words name is place width zs k d z cs at low fit before =
     let passed : filter (fits width) (z ∷ []) ≡ [] = ap (λ b. cond b (z ∷ []) []) fit in
     rw (take_more zs k d low, ← at, filter-append (fits width) (take k zs) (z ∷ []), passed, append-nil (filter (fits width) (take k zs))) before

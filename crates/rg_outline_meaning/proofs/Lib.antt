@@ -9,6 +9,7 @@ pub mod ProgramRules
 pub mod Rows
 pub mod Rules
 pub mod StatementRules
+pub mod Several
 pub mod States
 pub mod Turns
 pub mod Known

@@ -14,6 +14,9 @@ take_next xs k x is low = take_more xs k x low ∙ ap (λ y. take k xs ++ y ∷ 
 pub all_next : {X Y : Type 0} (f : X → Y) (P : Y → Type 0) (xs : List X) (k : ℕ) (x : X) → x ≡ slice_index_or xs k x → k < length xs → All P (map f (take k xs)) → P (f x) → All P (map f (take (k + 1) xs))
 all_next f P xs k x is low all one = rw (take_next xs k x is low, map-append f (take k xs) (x ∷ [])) (All-push P (map f (take k xs)) (f x) all one)
 
+pub all_step : {X Y : Type 0} (f : X → Y) (P : Y → Type 0) (xs : List X) (k : ℕ) (d : X) → k < length xs → All P (map f (take k xs)) → P (f (slice_index_or xs k d)) → All P (map f (take (k + 1) xs))
+all_step f P xs k d low all one = rw (take_more xs k d low, map-append f (take k xs) (slice_index_or xs k d ∷ [])) (All-push P (map f (take k xs)) (f (slice_index_or xs k d)) all one)
+
 -- what is so of all elements up to the end
 pub all_of : {X Y : Type 0} (f : X → Y) (P : Y → Type 0) (xs : List X) (k : ℕ) → length xs ≤ k → All P (map f (take k xs)) → All P (map f xs)
 all_of f P xs k far all = subst (λ ys. All P (map f ys)) (take_all k xs far) all

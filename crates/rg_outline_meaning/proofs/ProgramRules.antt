@@ -1,7 +1,7 @@
 -- The rules of heads, declarations, clauses and parts, one by one.
-use Rattle.std.proofs.Common.{◌≡◌, ◌≢◌, ℕ, zero, suc, ◌+◌, ◌-◌, ◌<◌, ◌≤◌, ℤ, pos, Bool, true, false, refl, sym, ◌∙◌, ap, subst, subst₂, List, [], ◌∷◌, ◌++◌, map, take, drop, length, slice_get, slice_index, slice_index_or, Option, Some, None, option_map, ◌==◌, arith, add-one}
+use Rattle.std.proofs.Common.{◌≡◌, ◌≢◌, ℕ, zero, suc, ◌+◌, ◌-◌, ◌<◌, ◌≤◌, ℤ, pos, Bool, true, false, refl, sym, ◌∙◌, ap, subst, subst₂, List, [], ◌∷◌, ◌++◌, map, take, drop, length, All, slice_get, slice_index, slice_index_or, Option, Some, None, option_map, ◌==◌, arith, add-one}
 use Rattle.std.specs.Option.{option_or}
-use Rattle.std.proofs.lemmas.List.{map-append, append_assoc, append-nil, take_more, take_all, take-map, drop_more, at_drop_more, at_drop_all}
+use Rattle.std.proofs.lemmas.List.{map-append, append_assoc, append-nil, take_more, take_all, take-map, drop_more, length-drop, at_drop_more, at_drop_all}
 use Rattle.std.proofs.lemmas.Option.{get_or_from_slice_get, slice_get-map, slice_get_within}
 use Rattle.std.proofs.Math.Seq.{take-append_seam}
 use Rattle.rg_words.specs.Layout.{Word, names_of, widths_of, fixed_of}
@@ -18,7 +18,7 @@ use Rattle.rg_outline_syntax.specs.declared.written.Clause as clause
 use Rattle.rg_outline_syntax.specs.declared.written.Clause.TheVariants.{Invariant, Pre, Rely, Guar, Post}
 use Rattle.rg_outline_syntax.specs.declared.written.Declaration.{Declaration}
 use Rattle.rg_outline_syntax.specs.declared.written.PartWritten.{PartWritten}
-use Rattle.rg_outline_meaning.specs.Names.{Outline, text_of, listed, piece_of, Known, Bound, Names, IsNew, member}
+use Rattle.rg_outline_meaning.specs.Names.{Outline, text_of, listed, piece_of, Known, Bound, Names, IsNew, AreDifferent, parameters_in, part_number}
 use Rattle.rg_outline_meaning.specs.Members.{member_name}
 use Rattle.rg_outline_meaning.specs.Meanings.{claim, IsConjunction}
 use Rattle.rg_outline_meaning.specs.Expressions.{StandsFor, RangeIs, IsUnchanged}
@@ -34,10 +34,24 @@ use Rattle.rg_outline_meaning.specs.declared.names.Reader.{Reader}
 pub all_known : (r : Reader) (n : ℕ) (bs : List Bound) → n ≡ length r.known.items → bs ≡ [] → record { known = map (known (outline r)) (take n r.known.items); bound = bs } ≡ of_outline (map (known (outline r)) r.known.items)
 all_known r n bs all none = ap (λ (m : ℕ). record { known = map (known (outline r)) (take m r.known.items); bound = bs }) all ∙ ap (λ (ks : _). record { known = map (known (outline r)) ks; bound = bs }) (take_all (length r.known.items) r.known.items (omega arith)) ∙ ap (λ (xs : List Bound). record { known = map (known (outline r)) r.known.items; bound = xs }) none
 
+-- a list of some elements
+pub some_of : (zs : List ℤ) (b : Bool) → b ≡ (length zs == 0) → b ≡ false → zs ≢ []
+some_of [] b is is_not = cc
+some_of (z ∷ zs) b is is_not = λ same. cc
+
 -- ---- heads
 
-pub learned : (o : Outline) (before all : List Known) (kind : HeadKind) (k : Known) → known_of o kind ≡ Some k → IsNew (of_outline before) k.name → all ≡ before ++ k ∷ [] → LearnsHead o before kind all true
-learned o before all kind k is new same = (k, is, new, same)
+-- a name is none of those after it, which differ
+pub different_next : (name : Span → List ℕ) (all : List Span) (k : ℕ) (s : Span) → k < length all → All (λ other. other ≢ name (slice_index_or all k s)) (map name (take (length all - (k + 1)) (drop (k + 1) all))) → (AreDifferent (map name (drop k all)) → AreDifferent (map name all)) → AreDifferent (map name (drop (k + 1) all)) → AreDifferent (map name all)
+different_next name all k s low others so_far rest =
+    let later : take (length all - (k + 1)) (drop (k + 1) all) ≡ drop (k + 1) all = take_all (length all - (k + 1)) (drop (k + 1) all) (omega (arith, length-drop (k + 1) all)) in
+    so_far (rw (drop_more all k s low) (subst (λ xs. All (λ other. other ≢ name (slice_index_or all k s)) (map name xs)) later others, rest))
+
+pub different_all : (name : Span → List ℕ) (all : List Span) (k : ℕ) → length all ≤ k → (AreDifferent (map name (drop k all)) → AreDifferent (map name all)) → AreDifferent (map name all)
+different_all name all k far so_far = so_far (rw (at_drop_all (λ xs. xs) all k far) tt)
+
+pub learned : (o : Outline) (before all : List Known) (kind : HeadKind) (k : Known) → known_of o kind ≡ Some k → IsNew (of_outline before) k.name → AreDifferent (k.name ∷ parameters_in k.sense) → all ≡ before ++ k ∷ [] → LearnsHead o before kind all true
+learned o before all kind k is new others same = (k, is, (new, others), same)
 
 module _ (o : Outline) where
   -- one more head
@@ -203,13 +217,13 @@ one_part parts k n p at is =
     rw is (take_more (map part parts) k (part p) (slice_get_within (map part parts) k (part p) there) ∙ ap (λ x. take k (map part parts) ++ x ∷ []) (get_or_from_slice_get (map part parts) k (part p) (part p) there))
 
 module _ (o : Outline) (words : List Word) where
-  pub members_and_one : (before : List Known) (p : PartWritten) (index : List ℕ) (zs : List ℤ) (ts : List PartTree) (z : ℤ) (t : PartTree) → MembersStandFor o words before p index zs ts → PartStandsFor o words (before ++ record { name = index; sense = member z } ∷ []) p (member_name (text_of o p.name) (z ∷ [])) t → MembersStandFor o words before p index (zs ++ z ∷ []) (ts ++ t ∷ [])
+  pub members_and_one : (before : List Known) (p : PartWritten) (index : List ℕ) (zs : List ℤ) (ts : List PartTree) (z : ℤ) (t : PartTree) → MembersStandFor o words before p index zs ts → PartStandsFor o words (before ++ record { name = index; sense = part_number z } ∷ []) p (member_name (text_of o p.name) (z ∷ [])) t → MembersStandFor o words before p index (zs ++ z ∷ []) (ts ++ t ∷ [])
   members_and_one before p index [] [] z t all one = (one, tt)
   members_and_one before p index (y ∷ zs) (u ∷ ts) z t all one = (all.0, members_and_one before p index zs ts z t all.1 one)
   members_and_one before p index [] (u ∷ ts) z t all one = absurd all
   members_and_one before p index (y ∷ zs) [] z t all one = absurd all
 
-  pub members_next : (before inner : List Known) (p : PartWritten) (index : List ℕ) (zs : List ℤ) (k : ℕ) (d z : ℤ) (parts : List Part) (first place next : ℕ) → z ≡ slice_index_or zs k d → k < length zs → AreMembersOf o words before p index (take k zs) parts first place → inner ≡ before ++ record { name = index; sense = member z } ∷ [] → IsPartOf o words inner p (z ∷ []) parts place next → AreMembersOf o words before p index (take (k + 1) zs) parts first next
+  pub members_next : (before inner : List Known) (p : PartWritten) (index : List ℕ) (zs : List ℤ) (k : ℕ) (d z : ℤ) (parts : List Part) (first place next : ℕ) → z ≡ slice_index_or zs k d → k < length zs → AreMembersOf o words before p index (take k zs) parts first place → inner ≡ before ++ record { name = index; sense = part_number z } ∷ [] → IsPartOf o words inner p (z ∷ []) parts place next → AreMembersOf o words before p index (take (k + 1) zs) parts first next
   members_next before inner p index zs k d z parts first place next at low (ts, all, stand) is (t, one, own) = (
     ts ++ t ∷ [],
     one ∙ ap (λ x. x ++ t ∷ []) all ∙ append_assoc (take first (map part parts)) ts (t ∷ []),
@@ -225,8 +239,8 @@ module _ (o : Outline) (words : List Word) where
   pub single : (before : List Known) (p : PartWritten) (parts : List Part) (first next : ℕ) → p.index ≡ None → IsPartOf o words before p [] parts first next → ArePartsOf o words before p parts first next
   single before p parts first next none (t, is, own) = (t ∷ [], is, λ ps us rest. rule.part_and_more p ps t us none own rest)
 
-  pub family_of : (before : List Known) (p : PartWritten) (parts : List Part) (first next : ℕ) (index : Span) (range : ℕ) (zs : List ℤ) → p.index ≡ Some (index, range) → IsNew (of_outline before) (text_of o index) → RangeIs o words (of_outline before) range zs → AreMembersOf o words before p (text_of o index) zs parts first next → ArePartsOf o words before p parts first next
-  family_of before p parts first next index range zs some new numbers (ts, is, all) = (ts, is, λ ps us rest. rule.members_and_more p ps index range zs ts us some new numbers all rest)
+  pub family_of : (before : List Known) (p : PartWritten) (parts : List Part) (first next : ℕ) (index : Span) (range : ℕ) (zs : List ℤ) → p.index ≡ Some (index, range) → IsNew (of_outline before) (text_of o index) → RangeIs o words (of_outline before) range zs → zs ≢ [] → AreMembersOf o words before p (text_of o index) zs parts first next → ArePartsOf o words before p parts first next
+  family_of before p parts first next index range zs some new numbers one (ts, is, all) = (ts, is, λ ps us rest. rule.members_and_more p ps index range zs ts us some new numbers one all rest)
 
   pub parts_next : (before : List Known) (ps : List PartWritten) (k : ℕ) (d p : PartWritten) (parts : List Part) (place next : ℕ) → p ≡ slice_index_or ps k d → k < length ps → ((ts : List PartTree) → PartsStandFor o words before (drop k ps) ts → PartsStandFor o words before ps (take place (map part parts) ++ ts)) → ArePartsOf o words before p parts place next → (ts : List PartTree) → PartsStandFor o words before (drop (k + 1) ps) ts → PartsStandFor o words before ps (take next (map part parts) ++ ts)
   parts_next before ps k d p parts place next at low so_far (own, is, stand) ts rest =
@@ -251,8 +265,8 @@ pub rely_none : (words : List Word) (fs : List Proposition) (p : Proposition) �
 rely_none words fs p none h = subst (λ xs. IsRely words xs p) (sym none) h
 
 -- the body of a part
-pub body_known : (o q : Outline) (words v : List Word) (owned kept : Option ℕ) (n : Names) (l : written.List) (t : Statement) → q ≡ o → v ≡ words → kept ≡ option_or owned (first_changing 0 (fixed_of v)) → BlockStandsFor q v kept n l t → BlockStandsFor o words (option_or owned (first_changing 0 (fixed_of words))) n l t
-body_known o q words v owned kept n l t same known_words is h = subst₂ (λ x y. BlockStandsFor x y (option_or owned (first_changing 0 (fixed_of y))) n l t) same known_words (subst (λ k. BlockStandsFor q v k n l t) is h)
+pub body_known : (o q : Outline) (words v : List Word) (owned waiting_word : Option ℕ) (n : Names) (l : written.List) (t : Statement) → q ≡ o → v ≡ words → waiting_word ≡ option_or owned (first_changing 0 (fixed_of v)) → BlockStandsFor q v waiting_word n l t → BlockStandsFor o words (option_or owned (first_changing 0 (fixed_of words))) n l t
+body_known o q words v owned waiting_word n l t same known_words is h = subst₂ (λ x y. BlockStandsFor x y (option_or owned (first_changing 0 (fixed_of y))) n l t) same known_words (subst (λ k. BlockStandsFor q v k n l t) is h)
 
 -- one more in a view
 pub map_pushed : {X Y : Type 0} (f : X → Y) (old new : List X) (x : X) → new ≡ old ++ x ∷ [] → map f new ≡ map f old ++ f x ∷ []
@@ -265,8 +279,8 @@ pub cut_back : (n : ℕ) (xs before : List Known) (k : Known) → xs ≡ before 
 cut_back n xs before k is all = rw (all, is) (take-append_seam before (k ∷ []))
 
 -- the index of a family of parts is known
-pub index_known : (o q : Outline) (before so_far inner : List Known) (index : Span) (z : ℤ) → inner ≡ so_far ++ record { name = text_of q index; sense = member z } ∷ [] → q ≡ o → so_far ≡ before → inner ≡ before ++ record { name = text_of o index; sense = member z } ∷ []
-index_known o q before so_far inner index z is same known_is = is ∙ ap (λ (ks : List Known). ks ++ record { name = text_of q index; sense = member z } ∷ []) known_is ∙ ap (λ (x : Outline). before ++ record { name = text_of x index; sense = member z } ∷ []) same
+pub index_known : (o q : Outline) (before so_far inner : List Known) (index : Span) (z : ℤ) → inner ≡ so_far ++ record { name = text_of q index; sense = part_number z } ∷ [] → q ≡ o → so_far ≡ before → inner ≡ before ++ record { name = text_of o index; sense = part_number z } ∷ []
+index_known o q before so_far inner index z is same known_is = is ∙ ap (λ (ks : List Known). ks ++ record { name = text_of q index; sense = part_number z } ∷ []) known_is ∙ ap (λ (x : Outline). before ++ record { name = text_of x index; sense = part_number z } ∷ []) same
 
 pub program_of : (o q₁ q₂ q₃ : Outline) (p : ProgramTree) (v₁ v₂ v₃ : List Word) (first before all : List Known) (clauses : Clauses) → q₁ ≡ o → q₂ ≡ o → q₃ ≡ o → v₁ ≡ p.words → v₂ ≡ p.words → v₃ ≡ p.words
     → KnownAfter o [] (piece_of o.written.heads.items o.written.before_words) first
@@ -276,9 +290,9 @@ pub program_of : (o q₁ q₂ q₃ : Outline) (p : ProgramTree) (v₁ v₂ v₃ 
     → PartsStandFor q₃ v₃ all q₃.written.parts.items p.parts
     → ProgramStandsFor o p
 program_of o q₁ q₂ q₃ p v₁ v₂ v₃ first before all clauses o₁ o₂ o₃ w₁ w₂ w₃ names declared given specified parts = record {
-  first = first;
-  known = before;
-  all = all;
+  before_words = first;
+  with_words = before;
+  with_lets = all;
   clauses = clauses;
   names = names;
   words = subst₂ (λ q v. AreDeclared q v first q.written.declarations.items before v) o₁ w₁ declared;

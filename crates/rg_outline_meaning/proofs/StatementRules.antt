@@ -1,5 +1,6 @@
 -- The rules of statements, with what they stand for up to equations, and rows of statements, one by one.
 use Rattle.std.proofs.Common.{◌≡◌, ◌≢◌, ℕ, zero, suc, ◌+◌, ◌-◌, ◌<◌, ◌≤◌, ℤ, Bool, true, refl, sym, ◌∙◌, ap, subst, List, [], ◌∷◌, ◌++◌, map, take, length, slice_get, slice_index_or, Option, Some, None, false, add-one, ◌==◌, rules as std_rules, tests, arith, length-append}
+use Rattle.std.proofs.lemmas.List.Elements.{All-cons}
 use Rattle.std.proofs.lemmas.List.{map-append, append_assoc, append-nil, take_more, take_all}
 use Rattle.std.proofs.Math.Seq.{take-append_seam}
 use Rattle.rg_words.specs.Layout.{Word}
@@ -17,14 +18,15 @@ use Rattle.rg_outline_syntax.specs.declared.written.ItemKind.{ItemKind}
 use Rattle.rg_outline_syntax.specs.declared.written.ItemKind.TheVariants.{Use, Assign as Assigning, For}
 use Rattle.rg_outline_syntax.specs.declared.written.ExpressionKind.TheVariants.{Name}
 use Rattle.rg_outline_meaning.specs.Meanings.{Meaning, value, value_of}
-use Rattle.rg_outline_meaning.specs.Names.{Outline, text_of, listed, piece_of, IsMadeSo, statements, Known, Bound, Names, Knows, Binds, with_number, inside, bound_to, IsNew}
+use Rattle.rg_outline_meaning.specs.Names.{Outline, text_of, listed, piece_of, HasKind, statements, Known, Bound, Names, Knows, Binds, with_number, inside, bound_to, IsUnbound}
+use Rattle.rg_outline_meaning.specs.Members.{Candidate, mentions}
 use Rattle.rg_outline_meaning.specs.Expressions.{AllStandFor, RangeIs, Selected, StandsFor}
 use Rattle.rg_outline_meaning.specs.View.{outline, known, bound}
 use Rattle.rg_outline_meaning.specs.declared.names.Bound as declared
 use Rattle.rg_outline_meaning.specs.declared.names.Reader.{Reader}
 use Rattle.rg_outline_meaning.specs.Expressions as expressions
 use Rattle.rg_outline_meaning.specs.Statements as rule
-use Rattle.rg_outline_meaning.specs.Statements.{items_of, in_sequence, IsInSequence, one_step, assigned, Writes, StepStandsFor, none, also, ItemStandsFor, ItemsStandFor, no_items, item_and_more, RoundsStandFor, no_rounds, round_and_more}
+use Rattle.rg_outline_meaning.specs.Statements.{MentionsNone, IsSteady, items_of, in_sequence, IsInSequence, one_step, assigned, Writes, StepStandsFor, none, also, ItemStandsFor, ItemsStandFor, no_items, item_and_more, RoundsStandFor, no_rounds, round_and_more}
 
 -- ---- a sequence
 
@@ -78,7 +80,7 @@ module _ (o : Outline) (words : List Word) (names : Names) where
   steps_next xs k d a old own new at low is all more = rw (take_more xs k d low, ← at, is, map-append assignment old own) (steps_and_steps (take k xs) (a ∷ []) (map assignment old) (map assignment own) all more)
 
   -- one assignment
-  pub one_written : (a : target.Assignment) (name : Span) (l : written.List) (s : Selected) (m : Meaning) (v : Expression) (step : List Assignment) → IsMadeSo o a.target (Name name l false false) → Writes o words names name l s → StandsFor o words names a.value m → value_of m ≡ Some v → step ≡ assigned s v → StepStandsFor o words names (a ∷ []) step
+  pub one_written : (a : target.Assignment) (name : Span) (l : written.List) (s : Selected) (m : Meaning) (v : Expression) (step : List Assignment) → HasKind o a.target (Name name l false false) → Writes o words names name l s → StandsFor o words names a.value m → value_of m ≡ Some v → step ≡ assigned s v → StepStandsFor o words names (a ∷ []) step
   one_written a name l s m v step made writes stands is same = subst (λ x. StepStandsFor o words names (a ∷ []) x) (append-nil (assigned s v) ∙ sym same) (also a [] name l s m v [] made writes stands is none)
 
   -- the word that a parameter stands for
@@ -87,33 +89,33 @@ module _ (o : Outline) (words : List Word) (names : Names) where
 
 -- ---- statements
 
-module _ (o : Outline) (words : List Word) (kept : Option ℕ) where
-  pub of_assigning : (names : Names) (place end : ℕ) (step : List Assignment) (s : Statement) → end ≡ place + 1 → StepStandsFor o words names (piece_of o.written.assignments.items (record { start = place; end = end })) step → s ≡ one_step step → ItemStandsFor o words kept names (Assigning place) (s ∷ [])
-  of_assigning names place end step s is all same = subst (λ x. ItemStandsFor o words kept names (Assigning place) (x ∷ [])) (sym same) (rule.assigning names place step (rw (is ∙ add-one place) at all))
+module _ (o : Outline) (words : List Word) (waiting_word : Option ℕ) where
+  pub of_assigning : (names : Names) (place end : ℕ) (step : List Assignment) (s : Statement) → end ≡ place + 1 → StepStandsFor o words names (piece_of o.written.assignments.items (record { start = place; end = end })) step → s ≡ one_step step → ItemStandsFor o words waiting_word names (Assigning place) (s ∷ [])
+  of_assigning names place end step s is all same = subst (λ x. ItemStandsFor o words waiting_word names (Assigning place) (x ∷ [])) (sym same) (rule.assigning names place step (rw (is ∙ add-one place) at all))
 
   -- items, and one more
-  pub items_and_one : (names : Names) (is : List ℕ) (ss own : List Statement) (i : ℕ) (item : Item) → ItemsStandFor o words kept names is ss → slice_get o.written.items.items i ≡ Some item → ItemStandsFor o words kept names item.kind own → ItemsStandFor o words kept names (is ++ i ∷ []) (ss ++ own)
-  items_and_one _ _ _ own i item (no_items names) at h = subst (λ x. ItemsStandFor o words kept names (i ∷ []) x) (append-nil own) (item_and_more names i [] item.kind item.span own [] at h (no_items names))
+  pub items_and_one : (names : Names) (is : List ℕ) (ss own : List Statement) (i : ℕ) (item : Item) → ItemsStandFor o words waiting_word names is ss → slice_get o.written.items.items i ≡ Some item → ItemStandsFor o words waiting_word names item.kind own → ItemsStandFor o words waiting_word names (is ++ i ∷ []) (ss ++ own)
+  items_and_one _ _ _ own i item (no_items names) at h = subst (λ x. ItemsStandFor o words waiting_word names (i ∷ []) x) (append-nil own) (item_and_more names i [] item.kind item.span own [] at h (no_items names))
   items_and_one _ _ _ own i item (item_and_more names j js kind span ts rest there first others) at h =
-      subst (λ x. ItemsStandFor o words kept names (j ∷ (js ++ i ∷ [])) x) (sym (append_assoc ts rest own)) (item_and_more names j (js ++ i ∷ []) kind span ts (rest ++ own) there first (items_and_one names js rest own i item others at h))
+      subst (λ x. ItemsStandFor o words waiting_word names (j ∷ (js ++ i ∷ [])) x) (sym (append_assoc ts rest own)) (item_and_more names j (js ++ i ∷ []) kind span ts (rest ++ own) there first (items_and_one names js rest own i item others at h))
 
-  pub items_next : (names : Names) (is : List ℕ) (k d i : ℕ) (item : Item) (old own new : List Stmt) → i ≡ slice_index_or is k d → k < length is → slice_get o.written.items.items i ≡ Some item → new ≡ old ++ own → ItemsStandFor o words kept names (take k is) (map statement old) → ItemStandsFor o words kept names item.kind (map statement own) → ItemsStandFor o words kept names (take (k + 1) is) (map statement new)
+  pub items_next : (names : Names) (is : List ℕ) (k d i : ℕ) (item : Item) (old own new : List Stmt) → i ≡ slice_index_or is k d → k < length is → slice_get o.written.items.items i ≡ Some item → new ≡ old ++ own → ItemsStandFor o words waiting_word names (take k is) (map statement old) → ItemStandsFor o words waiting_word names item.kind (map statement own) → ItemsStandFor o words waiting_word names (take (k + 1) is) (map statement new)
   items_next names is k d i item old own new at low there same all one = rw (take_more is k d low, ← at, same, map-append statement old own) (items_and_one names (take k is) (map statement old) (map statement own) i item all there one)
 
   -- rounds, and one more
-  pub rounds_and_one : (names : Names) (index : List ℕ) (body : written.List) (zs : List ℤ) (ss own : List Statement) (z : ℤ) → RoundsStandFor o words kept names index body zs ss → ItemsStandFor o words kept (with_number names index z) (listed o body) own → RoundsStandFor o words kept names index body (zs ++ z ∷ []) (ss ++ own)
-  rounds_and_one _ _ _ _ _ own z (no_rounds names index body) h = subst (λ x. RoundsStandFor o words kept names index body (z ∷ []) x) (append-nil own) (round_and_more names index body z [] own [] h (no_rounds names index body))
+  pub rounds_and_one : (names : Names) (index : List ℕ) (body : written.List) (zs : List ℤ) (ss own : List Statement) (z : ℤ) → RoundsStandFor o words waiting_word names index body zs ss → ItemsStandFor o words waiting_word (with_number names index z) (listed o body) own → RoundsStandFor o words waiting_word names index body (zs ++ z ∷ []) (ss ++ own)
+  rounds_and_one _ _ _ _ _ own z (no_rounds names index body) h = subst (λ x. RoundsStandFor o words waiting_word names index body (z ∷ []) x) (append-nil own) (round_and_more names index body z [] own [] h (no_rounds names index body))
   rounds_and_one _ _ _ _ _ own z (round_and_more names index body y ys ts rest first others) h =
-      subst (λ x. RoundsStandFor o words kept names index body (y ∷ (ys ++ z ∷ [])) x) (sym (append_assoc ts rest own)) (round_and_more names index body y (ys ++ z ∷ []) ts (rest ++ own) first (rounds_and_one names index body ys rest own z others h))
+      subst (λ x. RoundsStandFor o words waiting_word names index body (y ∷ (ys ++ z ∷ [])) x) (sym (append_assoc ts rest own)) (round_and_more names index body y (ys ++ z ∷ []) ts (rest ++ own) first (rounds_and_one names index body ys rest own z others h))
 
-  pub rounds_next : (names inner : Names) (index : List ℕ) (body : written.List) (zs : List ℤ) (k : ℕ) (d z : ℤ) (old own new : List Stmt) → z ≡ slice_index_or zs k d → k < length zs → new ≡ old ++ own → inner ≡ with_number names index z → RoundsStandFor o words kept names index body (take k zs) (map statement old) → ItemsStandFor o words kept inner (listed o body) (map statement own) → RoundsStandFor o words kept names index body (take (k + 1) zs) (map statement new)
+  pub rounds_next : (names inner : Names) (index : List ℕ) (body : written.List) (zs : List ℤ) (k : ℕ) (d z : ℤ) (old own new : List Stmt) → z ≡ slice_index_or zs k d → k < length zs → new ≡ old ++ own → inner ≡ with_number names index z → RoundsStandFor o words waiting_word names index body (take k zs) (map statement old) → ItemsStandFor o words waiting_word inner (listed o body) (map statement own) → RoundsStandFor o words waiting_word names index body (take (k + 1) zs) (map statement new)
   rounds_next names inner index body zs k d z old own new at low same is all one = rw (take_more zs k d low, ← at, same, map-append statement old own) (rounds_and_one names index body (take k zs) (map statement old) (map statement own) z all (rw is at one))
 
-  pub of_rounds : (names : Names) (kind : ItemKind) (index : Span) (range : ℕ) (body : written.List) (zs xs : List ℤ) (k : ℕ) (ss : List Statement) → kind ≡ For index range body → IsNew names (text_of o index) → RangeIs o words names range zs → xs ≡ zs → length xs ≤ k → RoundsStandFor o words kept names (text_of o index) body (take k xs) ss → ItemStandsFor o words kept names kind ss
+  pub of_rounds : (names : Names) (kind : ItemKind) (index : Span) (range : ℕ) (body : written.List) (zs xs : List ℤ) (k : ℕ) (ss : List Statement) → kind ≡ For index range body → IsUnbound names (text_of o index) → RangeIs o words names range zs → xs ≡ zs → length xs ≤ k → RoundsStandFor o words waiting_word names (text_of o index) body (take k xs) ss → ItemStandsFor o words waiting_word names kind ss
   of_rounds names kind index range body zs xs k ss is new numbers same far rounds =
-      rw is (rule.repeated names index range body zs ss new numbers (subst (λ ys. RoundsStandFor o words kept names (text_of o index) body ys ss) (take_all k xs far ∙ same) rounds))
+      rw is (rule.repeated names index range body zs ss new numbers (subst (λ ys. RoundsStandFor o words waiting_word names (text_of o index) body ys ss) (take_all k xs far ∙ same) rounds))
 
-  pub of_use : (names inner : Names) (i k : ℕ) (name : Span) (l : written.List) (has_arguments : Bool) (parameters : List (List ℕ)) (body : List ℕ) (ms : List Meaning) (ss : List Statement) → IsMadeSo o i (Name name l has_arguments false) → Knows names k (text_of o name) (statements parameters body) → AllStandFor o words names (listed o l) ms → length ms ≡ length parameters → inner ≡ inside names k (bound_to parameters ms) → ItemsStandFor o words kept inner body ss → ItemStandsFor o words kept names (Use i) ss
+  pub of_use : (names inner : Names) (i k : ℕ) (name : Span) (l : written.List) (has_arguments : Bool) (parameters : List (List ℕ)) (body : List ℕ) (ms : List Meaning) (ss : List Statement) → HasKind o i (Name name l has_arguments false) → Knows names k (text_of o name) (statements parameters body) → AllStandFor o words names (listed o l) ms → length ms ≡ length parameters → inner ≡ inside names k (bound_to parameters ms) → ItemsStandFor o words waiting_word inner body ss → ItemStandsFor o words waiting_word names (Use i) ss
   of_use names inner i k name l has_arguments parameters body ms ss made known all count is stand = rule.used names i k name l has_arguments parameters body ms ss made known all count (rw is at stand)
 
 -- ---- names
@@ -144,6 +146,10 @@ known_before f (x ∷ xs) (suc n) (suc k) y at = ap (λ ys. f x ∷ ys) (known_b
 
 pub inside_names : (r : Reader) (n k : ℕ) (bs : List declared.Bound) (outer : List declared.Bound) (y : Known) (all : List Bound) → slice_get (names_with r n outer).known k ≡ Some y → map (bound (outline r)) bs ≡ all → names_with r k bs ≡ inside (names_with r n outer) k all
 inside_names r n k bs outer y all at is = ap (λ (ks : List Known). record { known = ks; bound = map (bound (outline r)) bs }) (known_before (known (outline r)) r.known.items n k y at) ∙ ap (λ (xs : List Bound). record { known = take k (map (known (outline r)) (take n r.known.items)); bound = xs }) is
+
+-- none of the members is mentioned
+pub steady : (e : Expression) (c : Candidate) (cs : List Candidate) → mentions c.word e ≡ false → MentionsNone e cs → IsSteady (expressions.among e c cs)
+steady e c cs first others = All-cons (λ d. mentions d.word e ≡ false) c cs first others
 
 pub ruleset sequences = (whole_sequence, only_one, taken_before, nothing_left)
 

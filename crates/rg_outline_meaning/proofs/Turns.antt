@@ -7,7 +7,7 @@ use Rattle.rg_outline_syntax.specs.declared.span.Span.{Span}
 use Rattle.rg_outline_syntax.specs.declared.written.List as written
 use Rattle.rg_outline_syntax.specs.declared.written.ExpressionKind.TheVariants.{Name}
 use Rattle.rg_outline_meaning.specs.Meanings.{Meaning, whole}
-use Rattle.rg_outline_meaning.specs.Names.{Outline, Names, IsMadeSo, listed, with_number}
+use Rattle.rg_outline_meaning.specs.Names.{Outline, Names, HasKind, listed, with_number}
 use Rattle.rg_outline_meaning.specs.Expressions.{StandsFor, AllStandFor, InstancesStandFor, IsInstance, WordsStandFor, no_words, words_and_more}
 use Rattle.rg_outline_meaning.specs.Inner.{AreWordsOf}
 use Rattle.rg_outline_meaning.proofs.Rows.{instances_and_one, words_and_words}
@@ -22,6 +22,6 @@ module _ (o : Outline) (words : List Word) (names : Names) where
   next_words is k d i old own new at low so one more = rw (take_more is k d low, ← at, more) (words_and_words o words names (take k is) (i ∷ []) old own so one)
 
   -- the words of one name
-  pub words_of_name : (i : ℕ) (name : Span) (l : written.List) (zs : List ℤ) (ks : List ℕ) → IsMadeSo o i (Name name l false false) → AllStandFor o words names (listed o l) (map (λ z. whole z) zs) → AreWordsOf o words names name zs ks → WordsStandFor o words names (i ∷ []) ks
+  pub words_of_name : (i : ℕ) (name : Span) (l : written.List) (zs : List ℤ) (ks : List ℕ) → HasKind o i (Name name l false false) → AllStandFor o words names (listed o l) (map (λ z. whole z) zs) → AreWordsOf o words names name zs ks → WordsStandFor o words names (i ∷ []) ks
   words_of_name i name l zs ks made all are =
       subst (λ ls. WordsStandFor o words names (i ∷ []) ls) (append-nil ks) (words_and_more names i are.0 [] name l are.1 zs ks [] made are.2 all are.3 are.4 (no_words names))

@@ -1,5 +1,5 @@
--- What the expressions of an outline stand for, by rules. Of an outline in which no name hides another, one of them fits at most.
-use Rattle.std.specs.Prelude.{◌≡◌, ◌≢◌, ℕ, suc, ℤ, pos, Bool, true, false, List, [], ◌∷◌, ◌++◌, length, map, drop, All, Contains, Option, Some, None, slice_get, slice_set, filter}
+-- What the expressions of an outline stand for, by rules. One of them fits at most.
+use Rattle.std.specs.Prelude.{◌≡◌, ◌≢◌, ℕ, suc, ℤ, pos, Bool, true, false, List, [], ◌∷◌, ◌++◌, length, map, drop, All, Contains, Option, Some, None, slice_get, filter}
 use Rattle.rg_words.specs.Layout.{Word, widths_of, fixed_of}
 use Rattle.rg_tree.specs.Trees.{Expression, Proposition, word, next_word, inverse, truth}
 use Rattle.rg_outline_syntax.specs.declared.span.Span.{Span}
@@ -14,8 +14,8 @@ use Rattle.rg_outline_syntax.specs.declared.written.Operator as operator
 use Rattle.rg_outline_syntax.specs.declared.written.List as written
 use Rattle.rg_outline_syntax.specs.declared.written.ExpressionKind.TheVariants.{Number, Truth, Name, Group, Not, Keeps, Inverse, Unchanged, UnchangedBut, Bound, Choice, Compare, Operate, Join, Imply}
 use Rattle.rg_outline_meaning.specs.Meanings.{Meaning, whole, value, claim, value_of, negated, joined, implied, keeping, operated, comparing, choosing, is_primed, IsUsed, same_word, IsConjunction}
-use Rattle.rg_outline_meaning.specs.Names.{Outline, text_of, listed, parameters_of, IsMadeSo, family, tree, member, Names, IsNew, Knows, Binds, with_number, inside, bound_to}
-use Rattle.rg_outline_meaning.specs.Members.{numbers, without, AreWithin, members, IsMember, AreMembers, first_word, fits, Choice as Chosen, AreChoices, chosen_of}
+use Rattle.rg_outline_meaning.specs.Names.{Outline, text_of, listed, parameters_of, HasKind, family, tree, part_number, Names, IsUnbound, Knows, Binds, with_number, inside, bound_to}
+use Rattle.rg_outline_meaning.specs.Members.{numbers, without, AreWithin, members, IsMember, AreMembers, first_word, fits, Candidate, AreCandidates, chosen_of}
 
 -- a value: no formula
 abbrev pub IsValue : Meaning → Type 0
@@ -60,7 +60,10 @@ pub data AreOthers (but : List ℕ) : ℕ → List Bool → List ℕ → Type 0 
   at_end : (k : ℕ) → AreOthers but k [] []
   fixed : (k : ℕ) (rest : List Bool) (ks : List ℕ) → AreOthers but (suc k) rest ks → AreOthers but k (true ∷ rest) ks
   named : (k : ℕ) (b : Bool) (rest : List Bool) (ks : List ℕ) → Contains but k → AreOthers but (suc k) rest ks → AreOthers but k (b ∷ rest) ks
-  other : (k : ℕ) (rest : List Bool) (ks : List ℕ) → All (λ j. j ≢ k) but → AreOthers but (suc k) rest ks → AreOthers but k (false ∷ rest) (k ∷ ks)
+  other : (k : ℕ) (rest : List Bool) (ks : List ℕ)
+      → All (λ j. j ≢ k) but
+      → AreOthers but (suc k) rest ks
+      → AreOthers but k (false ∷ rest) (k ∷ ks)
 
 -- all words but these and the fixed ones stay the same
 abbrev pub IsUnchanged : List Word → List ℕ → Proposition → Type 0
@@ -69,7 +72,7 @@ IsUnchanged words but p = (ks : List ℕ) × AreOthers but 0 (fixed_of words) ks
 -- a word, or several of which an index over words chooses one
 pub data Selected : Type 0 where
   one : ℕ → Selected
-  among : Expression → Chosen → List Chosen → Selected
+  among : Expression → Candidate → List Candidate → Selected
 
 abbrev pub selected_value : Selected → Expression
 selected_value (one k) = word k
@@ -77,60 +80,160 @@ selected_value (among e c cs) = chosen_of e c cs
 
 mutual
   pub data StandsFor (o : Outline) (words : List Word) : Names → ℕ → Meaning → Type 0 where
-    number : (names : Names) (i n : ℕ) → IsMadeSo o i (Number n) → StandsFor o words names i (whole (pos n))
-    known : (names : Names) (i : ℕ) (b : Bool) → IsMadeSo o i (Truth b) → StandsFor o words names i (claim (truth b))
-    group : (names : Names) (i j : ℕ) (m : Meaning) → IsMadeSo o i (Group j) → StandsFor o words names j m → StandsFor o words names i m
-    negation : (names : Names) (i j : ℕ) (p : Proposition) → IsMadeSo o i (Not j) → StandsFor o words names j (claim p) → StandsFor o words names i (claim (negated p))
-    keeps : (names : Names) (i j : ℕ) (p : Proposition) → IsMadeSo o i (Keeps j) → StandsFor o words names j (claim p) → is_primed (claim p) ≡ false → StandsFor o words names i (claim (keeping p))
-    inverted : (names : Names) (i j : ℕ) (m : Meaning) (e : Expression) → IsMadeSo o i (Inverse j) → StandsFor o words names j m → value_of m ≡ Some e → StandsFor o words names i (value (inverse 0 e))
-    operation : (names : Names) (i j k : ℕ) (f : operator.Operator) (m n r : Meaning) → IsMadeSo o i (Operate f j k) → StandsFor o words names j m → StandsFor o words names k n → operated f m n ≡ Some r → StandsFor o words names i r
-    comparison : (names : Names) (i j k : ℕ) (c : outline.Comparison) (m n : Meaning) (p : Proposition) → IsMadeSo o i (Compare c j k) → StandsFor o words names j m → StandsFor o words names k n → comparing c m n ≡ Some p → StandsFor o words names i (claim p)
-    junction : (names : Names) (i j k : ℕ) (c : Junction) (p q : Proposition) → IsMadeSo o i (Join c j k) → StandsFor o words names j (claim p) → StandsFor o words names k (claim q) → StandsFor o words names i (claim (joined c p q))
-    conditional : (names : Names) (i j k : ℕ) (c : Conditional) (p q : Proposition) → IsMadeSo o i (Imply c j k) → StandsFor o words names j (claim p) → StandsFor o words names k (claim q) → StandsFor o words names i (claim (implied c p q))
-    choice : (names : Names) (i j k l : ℕ) (p : Proposition) (m n r : Meaning) → IsMadeSo o i (Choice j k l) → StandsFor o words names j (claim p) → StandsFor o words names k m → StandsFor o words names l n → IsValue m → IsValue n → choosing p m n ≡ Some r → StandsFor o words names i r
-    instances : (names : Names) (i : ℕ) (b : Binder) (index : Span) (range body : ℕ) (zs : List ℤ) (ms : List Meaning) (m : Meaning) → IsMadeSo o i (Bound b index range body) → IsNew names (text_of o index) → RangeIs o words names range zs → InstancesStandFor o words names b (text_of o index) body zs ms → IsCollected b ms m → StandsFor o words names i m
-    unchanged : (names : Names) (i : ℕ) (l : written.List) (ks : List ℕ) (p : Proposition) → IsMadeSo o i (Unchanged l) → WordsStandFor o words names (listed o l) ks → IsConjunction (map same_word ks) p → StandsFor o words names i (claim p)
-    unchanged_but : (names : Names) (i : ℕ) (l : written.List) (but : List ℕ) (p : Proposition) → IsMadeSo o i (UnchangedBut l) → WordsStandFor o words names (listed o l) but → IsUnchanged words but p → StandsFor o words names i (claim p)
+    number : (names : Names) (i n : ℕ) → HasKind o i (Number n) → StandsFor o words names i (whole (pos n))
+    truth_value : (names : Names) (i : ℕ) (b : Bool) → HasKind o i (Truth b) → StandsFor o words names i (claim (truth b))
+    group : (names : Names) (i j : ℕ) (m : Meaning) → HasKind o i (Group j) → StandsFor o words names j m → StandsFor o words names i m
+    negation : (names : Names) (i j : ℕ) (p : Proposition)
+        → HasKind o i (Not j)
+        → StandsFor o words names j (claim p)
+        → StandsFor o words names i (claim (negated p))
+    keeps : (names : Names) (i j : ℕ) (p : Proposition)
+        → HasKind o i (Keeps j)
+        → StandsFor o words names j (claim p)
+        → is_primed (claim p) ≡ false
+        → StandsFor o words names i (claim (keeping p))
+    inverted : (names : Names) (i j : ℕ) (m : Meaning) (e : Expression)
+        → HasKind o i (Inverse j)
+        → StandsFor o words names j m
+        → value_of m ≡ Some e
+        → StandsFor o words names i (value (inverse 0 e))
+    operation : (names : Names) (i j k : ℕ) (f : operator.Operator) (m n r : Meaning)
+        → HasKind o i (Operate f j k)
+        → StandsFor o words names j m
+        → StandsFor o words names k n
+        → operated f m n ≡ Some r
+        → StandsFor o words names i r
+    comparison : (names : Names) (i j k : ℕ) (c : outline.Comparison) (m n : Meaning) (p : Proposition)
+        → HasKind o i (Compare c j k)
+        → StandsFor o words names j m
+        → StandsFor o words names k n
+        → comparing c m n ≡ Some p
+        → StandsFor o words names i (claim p)
+    junction : (names : Names) (i j k : ℕ) (c : Junction) (p q : Proposition)
+        → HasKind o i (Join c j k)
+        → StandsFor o words names j (claim p)
+        → StandsFor o words names k (claim q)
+        → StandsFor o words names i (claim (joined c p q))
+    conditional : (names : Names) (i j k : ℕ) (c : Conditional) (p q : Proposition)
+        → HasKind o i (Imply c j k)
+        → StandsFor o words names j (claim p)
+        → StandsFor o words names k (claim q)
+        → StandsFor o words names i (claim (implied c p q))
+    choice : (names : Names) (i j k l : ℕ) (p : Proposition) (m n r : Meaning)
+        → HasKind o i (Choice j k l)
+        → StandsFor o words names j (claim p)
+        → StandsFor o words names k m
+        → StandsFor o words names l n
+        → IsValue m
+        → IsValue n
+        → choosing p m n ≡ Some r
+        → StandsFor o words names i r
+    instances : (names : Names) (i : ℕ) (b : Binder) (index : Span) (range body : ℕ) (zs : List ℤ) (ms : List Meaning) (m : Meaning)
+        → HasKind o i (Bound b index range body)
+        → IsUnbound names (text_of o index)
+        → RangeIs o words names range zs
+        → InstancesStandFor o words names b (text_of o index) body zs ms
+        → IsCollected b ms m
+        → StandsFor o words names i m
+    unchanged : (names : Names) (i : ℕ) (l : written.List) (ks : List ℕ) (p : Proposition)
+        → HasKind o i (Unchanged l)
+        → WordsStandFor o words names (listed o l) ks
+        → IsConjunction (map same_word ks) p
+        → StandsFor o words names i (claim p)
+    unchanged_but : (names : Names) (i : ℕ) (l : written.List) (but : List ℕ) (p : Proposition)
+        → HasKind o i (UnchangedBut l)
+        → WordsStandFor o words names (listed o l) but
+        → IsUnchanged words but p
+        → StandsFor o words names i (claim p)
     -- a parameter or an index, which has no arguments; a number has no prime
-    bound : (names : Names) (i k : ℕ) (name : Span) (l : written.List) (is_next : Bool) (m r : Meaning) → IsMadeSo o i (Name name l false is_next) → Binds names k (text_of o name) m → listed o l ≡ [] → (is_next ≡ true → IsWhole m → ⊥) → IsUsed is_next m r → StandsFor o words names i r
+    bound : (names : Names) (i k : ℕ) (name : Span) (l : written.List) (is_next : Bool) (m r : Meaning)
+        → HasKind o i (Name name l false is_next)
+        → Binds names k (text_of o name) m
+        → listed o l ≡ []
+        → (is_next ≡ true → IsWhole m → ⊥)
+        → IsUsed is_next m r
+        → StandsFor o words names i r
     -- the number of a part in its family
-    member_number : (names : Names) (i k : ℕ) (name : Span) (l : written.List) (z : ℤ) → IsMadeSo o i (Name name l false false) → Knows names k (text_of o name) (member z) → listed o l ≡ [] → StandsFor o words names i (whole z)
+    number_of_part : (names : Names) (i k : ℕ) (name : Span) (l : written.List) (z : ℤ)
+        → HasKind o i (Name name l false false)
+        → Knows names k (text_of o name) (part_number z)
+        → listed o l ≡ []
+        → StandsFor o words names i (whole z)
     -- a name for a tree, with arguments for its parameters
-    named : (names : Names) (i k body : ℕ) (name : Span) (l : written.List) (has_arguments is_next : Bool) (parameters : List (List ℕ)) (ms : List Meaning) (m r : Meaning) → IsMadeSo o i (Name name l has_arguments is_next) → Knows names k (text_of o name) (tree parameters body) → AllStandFor o words names (listed o l) ms → length ms ≡ length parameters → StandsFor o words (inside names k (bound_to parameters ms)) body m → IsUsed is_next m r → StandsFor o words names i r
+    named : (names : Names)
+        → (i k body : ℕ) (name : Span) (l : written.List) (has_arguments is_next : Bool) (parameters : List (List ℕ)) (ms : List Meaning) (m r : Meaning)
+        → HasKind o i (Name name l has_arguments is_next)
+        → Knows names k (text_of o name) (tree parameters body)
+        → AllStandFor o words names (listed o l) ms
+        → length ms ≡ length parameters
+        → StandsFor o words (inside names k (bound_to parameters ms)) body m
+        → IsUsed is_next m r
+        → StandsFor o words names i r
     -- a word, or the member of a family that an index over words chooses
-    selection : (names : Names) (i : ℕ) (name : Span) (l : written.List) (is_next : Bool) (s : Selected) (r : Meaning) → IsMadeSo o i (Name name l false is_next) → Selects o words names name l s → IsUsed is_next (value (selected_value s)) r → StandsFor o words names i r
+    selection : (names : Names) (i : ℕ) (name : Span) (l : written.List) (is_next : Bool) (s : Selected) (r : Meaning)
+        → HasKind o i (Name name l false is_next)
+        → Selects o words names name l s
+        → IsUsed is_next (value (selected_value s)) r
+        → StandsFor o words names i r
 
   -- what a name with indices selects
   pub data Selects (o : Outline) (words : List Word) : Names → Span → written.List → Selected → Type 0 where
     -- a word, with numbers for its indices
-    single : (names : Names) (k w : ℕ) (name : Span) (l : written.List) (ranges : List (ℤ × ℤ)) (zs : List ℤ) → Knows names k (text_of o name) (family ranges) → AllStandFor o words names (listed o l) (map (λ z. whole z) zs) → length zs ≡ length ranges → AreWithin ranges zs → IsMember words (text_of o name) zs w → Selects o words names name l (one w)
-    -- the members that one index over words may choose, in the width of the index
-    several : (names : Names) (k place v : ℕ) (name : Span) (l : written.List) (ranges : List (ℤ × ℤ)) (zs : List ℤ) (e : Expression) (range : ℤ × ℤ) (width : ℕ) (c : Chosen) (cs : List Chosen) → Knows names k (text_of o name) (family ranges) → AllStandFor o words names (listed o l) (slice_set (map (λ z. whole z) zs) place (value e)) → length zs ≡ length ranges → AreWithin ranges zs → slice_get ranges place ≡ Some range → first_word e ≡ Some v → slice_get (widths_of words) v ≡ Some width → AreChoices words (text_of o name) zs place (filter (fits width) (numbers range.0 range.1)) (c ∷ cs) → Selects o words names name l (among e c cs)
+    single : (names : Names) (k w : ℕ) (name : Span) (l : written.List) (ranges : List (ℤ × ℤ)) (zs : List ℤ)
+        → Knows names k (text_of o name) (family ranges)
+        → AllStandFor o words names (listed o l) (map (λ z. whole z) zs)
+        → length zs ≡ length ranges
+        → AreWithin ranges zs
+        → IsMember words (text_of o name) zs w
+        → Selects o words names name l (one w)
+    -- the members that one index over words may choose, in the width of the index; the indices before it and after it are numbers
+    several : (names : Names) (k v : ℕ) (name : Span) (l : written.List) (earlier later : List (ℤ × ℤ)) (range : ℤ × ℤ)
+        → (before after : List ℤ) (e : Expression) (width : ℕ) (c : Candidate) (cs : List Candidate)
+        → Knows names k (text_of o name) (family (earlier ++ range ∷ later))
+        → AllStandFor o words names (listed o l) (map (λ z. whole z) before ++ value e ∷ map (λ z. whole z) after)
+        → length before ≡ length earlier
+        → length after ≡ length later
+        → AreWithin earlier before
+        → AreWithin later after
+        → first_word e ≡ Some v
+        → slice_get (widths_of words) v ≡ Some width
+        → AreCandidates words (text_of o name) before after (filter (fits width) (numbers range.0 range.1)) (c ∷ cs)
+        → Selects o words names name l (among e c cs)
 
   -- expressions stand for these, one by one
   pub data AllStandFor (o : Outline) (words : List Word) : Names → List ℕ → List Meaning → Type 0 where
     none : (names : Names) → AllStandFor o words names [] []
-    also : (names : Names) (i : ℕ) (is : List ℕ) (m : Meaning) (ms : List Meaning) → StandsFor o words names i m → AllStandFor o words names is ms → AllStandFor o words names (i ∷ is) (m ∷ ms)
+    also : (names : Names) (i : ℕ) (is : List ℕ) (m : Meaning) (ms : List Meaning)
+        → StandsFor o words names i m
+        → AllStandFor o words names is ms
+        → AllStandFor o words names (i ∷ is) (m ∷ ms)
 
   -- the numbers of a range, without those that are left out
   pub data RangeIs (o : Outline) (words : List Word) : Names → ℕ → List ℤ → Type 0 where
-    range : (names : Names) (i first last : ℕ) (but : written.List) (span : Span) (a b : ℤ) (left_out : List ℤ) → slice_get o.written.ranges.items i ≡ Some (record { first = first; last = last; without = but; span = span }) → StandsFor o words names first (whole a) → StandsFor o words names last (whole b) → AllStandFor o words names (listed o but) (map (λ z. whole z) left_out) → RangeIs o words names i (without left_out (numbers a b))
+    range : (names : Names) (i first last : ℕ) (but : written.List) (span : Span) (a b : ℤ) (left_out : List ℤ)
+        → slice_get o.written.ranges.items i ≡ Some (record { first = first; last = last; without = but; span = span })
+        → StandsFor o words names first (whole a)
+        → StandsFor o words names last (whole b)
+        → AllStandFor o words names (listed o but) (map (λ z. whole z) left_out)
+        → RangeIs o words names i (without left_out (numbers a b))
 
   -- a tree with an index that is each of these numbers
   pub data InstancesStandFor (o : Outline) (words : List Word) : Names → Binder → List ℕ → ℕ → List ℤ → List Meaning → Type 0 where
     no_number : (names : Names) (b : Binder) (index : List ℕ) (body : ℕ) → InstancesStandFor o words names b index body [] []
-    number_and_more : (names : Names) (b : Binder) (index : List ℕ) (body : ℕ) (z : ℤ) (zs : List ℤ) (m : Meaning) (ms : List Meaning) → StandsFor o words (with_number names index z) body m → IsInstance b m → InstancesStandFor o words names b index body zs ms → InstancesStandFor o words names b index body (z ∷ zs) (m ∷ ms)
+    number_and_more : (names : Names) (b : Binder) (index : List ℕ) (body : ℕ) (z : ℤ) (zs : List ℤ) (m : Meaning) (ms : List Meaning)
+        → StandsFor o words (with_number names index z) body m
+        → IsInstance b m
+        → InstancesStandFor o words names b index body zs ms
+        → InstancesStandFor o words names b index body (z ∷ zs) (m ∷ ms)
 
   -- the words of a list in their order: a family without its last indices stands for all its members with the first ones
   pub data WordsStandFor (o : Outline) (words : List Word) : Names → List ℕ → List ℕ → Type 0 where
     no_words : (names : Names) → WordsStandFor o words names [] []
-    words_and_more : (names : Names) (i k : ℕ) (is : List ℕ) (name : Span) (l : written.List) (ranges : List (ℤ × ℤ)) (zs : List ℤ) (ks rest : List ℕ) → IsMadeSo o i (Name name l false false) → Knows names k (text_of o name) (family ranges) → AllStandFor o words names (listed o l) (map (λ z. whole z) zs) → AreWithin ranges zs → AreMembers words (text_of o name) (members (drop (length zs) ranges) (zs ∷ [])) ks → WordsStandFor o words names is rest → WordsStandFor o words names (i ∷ is) (ks ++ rest)
-
--- what a quantifier or a sum stands for
-pub record StandForInstances (o : Outline) (words : List Word) (names : Names) (b : Binder) (index : List ℕ) (range body : ℕ) (m : Meaning) : Type 0 where
-  pub zs : List ℤ
-  pub ms : List Meaning
-  pub fresh : IsNew names index
-  pub numbers : RangeIs o words names range zs
-  pub each : InstancesStandFor o words names b index body zs ms
-  pub made : IsCollected b ms m
+    words_and_more : (names : Names) (i k : ℕ) (is : List ℕ) (name : Span) (l : written.List) (ranges : List (ℤ × ℤ)) (zs : List ℤ) (ks rest : List ℕ)
+        → HasKind o i (Name name l false false)
+        → Knows names k (text_of o name) (family ranges)
+        → AllStandFor o words names (listed o l) (map (λ z. whole z) zs)
+        → AreWithin ranges zs
+        → AreMembers words (text_of o name) (members (drop (length zs) ranges) (zs ∷ [])) ks
+        → WordsStandFor o words names is rest
+        → WordsStandFor o words names (i ∷ is) (ks ++ rest)

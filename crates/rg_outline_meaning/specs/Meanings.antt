@@ -62,12 +62,23 @@ implied Iff p q = cond (is_true p) q (cond (is_true q) p (connected connective.I
 abbrev pub beside : Proposition → Proposition → Proposition
 beside p q = cond (is_true p) q (connected connective.And p q)
 
--- the conjunction of formulas, nested to the left: without those that are true or equal to an earlier one. It goes on from the earlier ones, and from what they made
+-- the conjunction of formulas, nested to the left: without those that are true or equal to an earlier one. It goes on from the earlier ones, and from what
+-- they made
 pub data IsConjunctionAfter : List Proposition → Proposition → List Proposition → Proposition → Type 0 where
   ended : (before : List Proposition) (p : Proposition) → IsConjunctionAfter before p [] p
-  true_passed : (before : List Proposition) (p q : Proposition) (rest : List Proposition) (r : Proposition) → is_true q ≡ true → IsConjunctionAfter (before ++ q ∷ []) p rest r → IsConjunctionAfter before p (q ∷ rest) r
-  equal_passed : (before : List Proposition) (p q : Proposition) (rest : List Proposition) (r : Proposition) → Contains before q → IsConjunctionAfter (before ++ q ∷ []) p rest r → IsConjunctionAfter before p (q ∷ rest) r
-  taken : (before : List Proposition) (p q : Proposition) (rest : List Proposition) (r : Proposition) → is_true q ≡ false → All (λ other. other ≢ q) before → IsConjunctionAfter (before ++ q ∷ []) (beside p q) rest r → IsConjunctionAfter before p (q ∷ rest) r
+  true_passed : (before : List Proposition) (p q : Proposition) (rest : List Proposition) (r : Proposition)
+      → is_true q ≡ true
+      → IsConjunctionAfter (before ++ q ∷ []) p rest r
+      → IsConjunctionAfter before p (q ∷ rest) r
+  equal_passed : (before : List Proposition) (p q : Proposition) (rest : List Proposition) (r : Proposition)
+      → Contains before q
+      → IsConjunctionAfter (before ++ q ∷ []) p rest r
+      → IsConjunctionAfter before p (q ∷ rest) r
+  taken : (before : List Proposition) (p q : Proposition) (rest : List Proposition) (r : Proposition)
+      → is_true q ≡ false
+      → All (λ other. other ≢ q) before
+      → IsConjunctionAfter (before ++ q ∷ []) (beside p q) rest r
+      → IsConjunctionAfter before p (q ∷ rest) r
 
 abbrev pub IsConjunction : List Proposition → Proposition → Type 0
 IsConjunction ps p = IsConjunctionAfter [] (truth true) ps p

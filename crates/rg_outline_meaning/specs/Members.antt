@@ -1,9 +1,9 @@
 -- Members of families of words, and ranges of numbers.
-use Rattle.std.specs.Prelude.{◌≡◌, ℕ, zero, suc, ◌^◌, ltb, ℤ, pos, negsuc, ◌+ℤ◌, ◌-ℤ◌, ◌≤ℤ◌, Bool, true, false, cond, not, ◌||◌, List, [], ◌∷◌, ◌++◌, map, filter, Option, Some, None, slice_set, decimal}
+use Rattle.std.specs.Prelude.{◌≡◌, ℕ, zero, suc, ◌^◌, ◌==◌, ltb, ℤ, pos, negsuc, ◌+ℤ◌, ◌-ℤ◌, ◌≤ℤ◌, Bool, true, false, cond, not, ◌||◌, List, [], ◌∷◌, ◌++◌, map, filter, Option, Some, None, decimal}
 use Rattle.std.specs.Ordering.{int_eq}
 use Rattle.std.specs.Option.{option_or}
 use Rattle.rg_words.specs.Layout.{Word, index_of}
-use Rattle.rg_tree.specs.Trees.{Expression, number, word, next_word, inverse, binary, shifted, choice}
+use Rattle.rg_tree.specs.Trees.{Expression, Proposition, number, word, next_word, inverse, binary, shifted, choice, truth, negation, connected, compared}
 use Rattle.rg_outline_meaning.specs.Meanings.{equals}
 
 -- so many numbers from one on
@@ -71,24 +71,44 @@ first_word (binary o w a b) = option_or (first_word a) (first_word b)
 first_word (shifted d w a k) = first_word a
 first_word (choice f a b) = option_or (first_word a) (first_word b)
 
+-- a value, and a formula, in which a word stands
+abbrev mutual
+  pub mentions : ℕ → Expression → Bool
+  mentions k (number w n) = false
+  mentions k (word j) = j == k
+  mentions k (next_word j) = j == k
+  mentions k (inverse w a) = mentions k a
+  mentions k (binary o w a b) = mentions k a || mentions k b
+  mentions k (shifted d w a n) = mentions k a
+  mentions k (choice f a b) = mentions_in k f || mentions k a || mentions k b
+
+  pub mentions_in : ℕ → Proposition → Bool
+  mentions_in k (truth b) = false
+  mentions_in k (negation f) = mentions_in k f
+  mentions_in k (connected c f g) = mentions_in k f || mentions_in k g
+  mentions_in k (compared c a b) = mentions k a || mentions k b
+
 -- a number of so many bits
 abbrev pub fits : ℕ → ℤ → Bool
 fits width (pos n) = ltb n (2 ^ width)
 fits width (negsuc n) = false
 
 -- a member that an index over words may choose: its number there, and its word
-pub record Choice : Type 0 where
+pub record Candidate : Type 0 where
   pub number : ℕ
   pub word : ℕ
 
--- the members with these indices, but for the one at a place, whose numbers there are these
-abbrev pub AreChoices : List Word → List ℕ → List ℤ → ℕ → List ℤ → List Choice → Type 0
-AreChoices words name zs place [] [] = Unit {0}
-AreChoices words name zs place (z ∷ rest) (c ∷ cs) = (z ≡ pos c.number) × IsMember words name (slice_set zs place z) c.word × AreChoices words name zs place rest cs
-AreChoices words name zs place [] (c ∷ cs) = ⊥
-AreChoices words name zs place (z ∷ rest) [] = ⊥
+-- the members with these indices before and after one that is each of these numbers
+abbrev pub AreCandidates : List Word → List ℕ → List ℤ → List ℤ → List ℤ → List Candidate → Type 0
+AreCandidates words name before after [] [] = Unit {0}
+AreCandidates words name before after (z ∷ rest) (c ∷ cs) =
+    (z ≡ pos c.number)
+    × IsMember words name (before ++ z ∷ after) c.word
+    × AreCandidates words name before after rest cs
+AreCandidates words name before after [] (c ∷ cs) = ⊥
+AreCandidates words name before after (z ∷ rest) [] = ⊥
 
 -- the value of the member that an index chooses: the last one where it is the number of none
-abbrev pub chosen_of : Expression → Choice → List Choice → Expression
+abbrev pub chosen_of : Expression → Candidate → List Candidate → Expression
 chosen_of e c [] = word c.word
 chosen_of e c (d ∷ cs) = choice (equals e c.number) (word c.word) (chosen_of e d cs)

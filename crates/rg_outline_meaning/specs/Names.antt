@@ -26,16 +26,17 @@ listed o l = piece_of o.written.listed.items l
 abbrev pub parameters_of : Outline → written.List → List (List ℕ)
 parameters_of o l = map (text_of o) (piece_of o.written.names.items l)
 
--- an expression is made so
-abbrev pub IsMadeSo : Outline → ℕ → ExpressionKind → Type 0
-IsMadeSo o i kind = (span : Span) × (slice_get o.written.expressions.items i ≡ Some (record { kind = kind; span = span }))
+-- an expression is of a kind
+abbrev pub HasKind : Outline → ℕ → ExpressionKind → Type 0
+HasKind o i kind = (span : Span) × (slice_get o.written.expressions.items i ≡ Some (record { kind = kind; span = span }))
 
--- what a name of the outline or of a part stands for: a word, or words with these first and last numbers of indices; a tree or statements with parameters; the number of a part in its family
+-- what a name of the outline or of a part stands for: a word, or words with these first and last numbers of indices; a tree or statements with parameters; the
+-- number of a part in its family
 pub data Sense : Type 0 where
   family : List (ℤ × ℤ) → Sense
   tree : List (List ℕ) → ℕ → Sense
   statements : List (List ℕ) → List ℕ → Sense
-  member : ℤ → Sense
+  part_number : ℤ → Sense
 
 pub record Known : Type 0 where
   pub name : List ℕ
@@ -51,13 +52,34 @@ pub record Names : Type 0 where
   pub known : List Known
   pub bound : List Bound
 
--- no name is this one: none hides another
+-- no parameter or index is called so
+abbrev pub IsUnbound : Names → List ℕ → Type 0
+IsUnbound names name = All (λ b. b.name ≢ name) names.bound
+
+-- nothing is called so
 abbrev pub IsNew : Names → List ℕ → Type 0
-IsNew names name = All (λ k. k.name ≢ name) names.known × All (λ b. b.name ≢ name) names.bound
+IsNew names name = All (λ k. k.name ≢ name) names.known × IsUnbound names name
+
+-- no two of these names are equal
+abbrev pub AreDifferent : List (List ℕ) → Type 0
+AreDifferent [] = Unit {0}
+AreDifferent (name ∷ rest) = All (λ other. other ≢ name) rest × AreDifferent rest
+
+-- the parameters of a name
+abbrev pub parameters_in : Sense → List (List ℕ)
+parameters_in (family ranges) = []
+parameters_in (tree parameters body) = parameters
+parameters_in (statements parameters body) = parameters
+parameters_in (part_number z) = []
 
 -- the name at a place of those of the outline and the part
+abbrev pub IsAt : Names → ℕ → List ℕ → Sense → Type 0
+IsAt names k name sense = slice_get names.known k ≡ Some (record { name = name; sense = sense })
+
+-- what such a name stands for, with its place: a parameter or an index that is called so goes before it. This happens where a file that is used has a
+-- parameter or an index with the name of a word of the file that uses it
 abbrev pub Knows : Names → ℕ → List ℕ → Sense → Type 0
-Knows names k name sense = slice_get names.known k ≡ Some (record { name = name; sense = sense })
+Knows names k name sense = IsAt names k name sense × IsUnbound names name
 
 -- the name at a place of the parameters and indices
 abbrev pub Binds : Names → ℕ → List ℕ → Meaning → Type 0

@@ -1,5 +1,6 @@
--- The program that an outline stands for: its words, the formulas at its head, and its parts.
-use Rattle.std.specs.Prelude.{◌≡◌, ◌≢◌, ℕ, suc, ℤ, pos, ◌≤ℤ◌, Bool, true, false, List, [], ◌∷◌, ◌++◌, map, Option, Some, None, slice_get}
+-- The program that an outline stands for: its words, the formulas at its head, and its parts. `ProgramStandsFor`, at the end, is the definition.
+-- It is read in this order: Meanings, Names, Members, Expressions, Statements, Programs. View, Reading and Inner serve the proofs alone.
+use Rattle.std.specs.Prelude.{◌≡◌, ◌≢◌, ℕ, suc, ◌≤◌, ℤ, pos, ◌≤ℤ◌, Bool, true, false, List, [], ◌∷◌, ◌++◌, length, map, Option, Some, None, slice_get}
 use Rattle.std.specs.Option.{option_or}
 use Rattle.rg_words.specs.Layout.{Word, fixed_of}
 use Rattle.rg_tree.specs.Trees.{Expression, Proposition, Assignment, number, word, next_word, inverse, binary, shifted, choice, truth, negation, connected, compared}
@@ -16,7 +17,7 @@ use Rattle.rg_outline_syntax.specs.declared.written.Standing.TheVariants.{Plain,
 use Rattle.rg_outline_syntax.specs.declared.written.Declaration.{Declaration}
 use Rattle.rg_outline_syntax.specs.declared.written.PartWritten.{PartWritten}
 use Rattle.rg_outline_meaning.specs.Meanings.{claim, whole, IsConjunction}
-use Rattle.rg_outline_meaning.specs.Names.{Outline, text_of, listed, piece_of, parameters_of, Known, family, tree, statements, member, Names, IsNew}
+use Rattle.rg_outline_meaning.specs.Names.{Outline, text_of, listed, piece_of, parameters_of, Known, family, tree, statements, part_number, Names, IsNew, AreDifferent, parameters_in}
 use Rattle.rg_outline_meaning.specs.Members.{members, member_name}
 use Rattle.rg_outline_meaning.specs.Expressions.{StandsFor, RangeIs, WordsStandFor, IsUnchanged}
 use Rattle.rg_outline_meaning.specs.Statements.{BlockStandsFor}
@@ -69,11 +70,22 @@ known_of o (Owns l) = None
 known_of o (Interrupts n l) = None
 known_of o (Clause c f) = None
 
+-- a name that a head makes known is new, and its parameters are others
+abbrev pub IsNewHead : List Known → Known → Type 0
+IsNewHead known k = IsNew (of_outline known) k.name × AreDifferent (k.name ∷ parameters_in k.sense)
+
 -- the names that are known after heads
 pub data KnownAfter (o : Outline) : List Known → List Head → List Known → Type 0 where
   no_heads : (known : List Known) → KnownAfter o known [] known
-  name_and_more : (known all : List Known) (h : Head) (hs : List Head) (k : Known) → known_of o h.kind ≡ Some k → IsNew (of_outline known) k.name → KnownAfter o (known ++ k ∷ []) hs all → KnownAfter o known (h ∷ hs) all
-  other_and_more : (known all : List Known) (h : Head) (hs : List Head) → known_of o h.kind ≡ None → KnownAfter o known hs all → KnownAfter o known (h ∷ hs) all
+  name_and_more : (known all : List Known) (h : Head) (hs : List Head) (k : Known)
+      → known_of o h.kind ≡ Some k
+      → IsNewHead known k
+      → KnownAfter o (known ++ k ∷ []) hs all
+      → KnownAfter o known (h ∷ hs) all
+  other_and_more : (known all : List Known) (h : Head) (hs : List Head)
+      → known_of o h.kind ≡ None
+      → KnownAfter o known hs all
+      → KnownAfter o known (h ∷ hs) all
 
 -- ---- words
 
@@ -102,12 +114,18 @@ is_fixed Auxiliary = false
 
 -- the words of a declaration: a family's members at their place, the last index runs fastest
 abbrev pub declared_words : Outline → Declaration → List (ℤ × ℤ) → ℕ → List Word
-declared_words o d ranges width = map (λ zs. record { name = member_name (text_of o d.name) zs; width = width; fixed = is_fixed d.standing }) (members ranges ([] ∷ []))
+declared_words o d ranges width =
+    map (λ zs. record { name = member_name (text_of o d.name) zs; width = width; fixed = is_fixed d.standing }) (members ranges ([] ∷ []))
 
 -- declarations in their order: the names that are known after them, and their words
 pub data AreDeclared (o : Outline) (words : List Word) : List Known → List Declaration → List Known → List Word → Type 0 where
   no_declarations : (known : List Known) → AreDeclared o words known [] known []
-  declaration_and_more : (known all : List Known) (d : Declaration) (ds : List Declaration) (ranges : List (ℤ × ℤ)) (width : ℕ) (rest : List Word) → AreIndexRanges o words known (listed o d.ranges) ranges → StandsFor o words (of_outline known) d.width (whole (pos width)) → IsNew (of_outline known) (text_of o d.name) → AreDeclared o words (known ++ record { name = text_of o d.name; sense = family ranges } ∷ []) ds all rest → AreDeclared o words known (d ∷ ds) all (declared_words o d ranges width ++ rest)
+  declaration_and_more : (known all : List Known) (d : Declaration) (ds : List Declaration) (ranges : List (ℤ × ℤ)) (width : ℕ) (rest : List Word)
+      → AreIndexRanges o words known (listed o d.ranges) ranges
+      → StandsFor o words (of_outline known) d.width (whole (pos width))
+      → IsNew (of_outline known) (text_of o d.name)
+      → AreDeclared o words (known ++ record { name = text_of o d.name; sense = family ranges } ∷ []) ds all rest
+      → AreDeclared o words known (d ∷ ds) all (declared_words o d ranges width ++ rest)
 
 -- ---- formulas
 
@@ -128,16 +146,26 @@ with_clause Post p c = record { pre = c.pre; rely = c.rely; guar = c.guar; post 
 -- the clauses of heads, each with the names before it
 pub data ClausesStandFor (o : Outline) (words : List Word) : List Known → List Head → List Known → Clauses → Type 0 where
   no_clauses : (known : List Known) → ClausesStandFor o words known [] known (record { pre = []; rely = []; guar = []; post = [] })
-  name_and_clauses : (known all : List Known) (h : Head) (hs : List Head) (k : Known) (c : Clauses) → known_of o h.kind ≡ Some k → IsNew (of_outline known) k.name → ClausesStandFor o words (known ++ k ∷ []) hs all c → ClausesStandFor o words known (h ∷ hs) all c
-  clause_and_more : (known all : List Known) (h : Head) (hs : List Head) (which : clause.Clause) (f : ℕ) (p : Proposition) (c : Clauses) → h.kind ≡ Clause which f → StandsFor o words (of_outline known) f (claim p) → ClausesStandFor o words known hs all c → ClausesStandFor o words known (h ∷ hs) all (with_clause which p c)
+  name_and_clauses : (known all : List Known) (h : Head) (hs : List Head) (k : Known) (c : Clauses)
+      → known_of o h.kind ≡ Some k
+      → IsNewHead known k
+      → ClausesStandFor o words (known ++ k ∷ []) hs all c
+      → ClausesStandFor o words known (h ∷ hs) all c
+  clause_and_more : (known all : List Known) (h : Head) (hs : List Head) (which : clause.Clause) (f : ℕ) (p : Proposition) (c : Clauses)
+      → h.kind ≡ Clause which f
+      → StandsFor o words (of_outline known) f (claim p)
+      → ClausesStandFor o words known hs all c
+      → ClausesStandFor o words known (h ∷ hs) all (with_clause which p c)
 
 -- the rely: where it isn't given, all words stay the same
 abbrev pub IsRely : List Word → List Proposition → Proposition → Type 0
 IsRely words [] p = IsUnchanged words [] p
 IsRely words (q ∷ qs) p = IsConjunction (q ∷ qs) p
 
--- the four formulas of a program are what the clauses give
+-- the four formulas of a program are what the clauses give; a pre and a post are given once at most
 pub record AreSpecified (words : List Word) (c : Clauses) (s : Specification) : Type 0 where
+  pub one_pre : length c.pre ≤ 1
+  pub one_post : length c.post ≤ 1
   pub pre : IsConjunction c.pre (bare_claim s.pre)
   pub rely : IsRely words c.rely (bare_claim s.rely)
   pub guar : IsConjunction c.guar (bare_claim s.guar)
@@ -159,9 +187,21 @@ first_changing k (false ∷ rest) = Some k
 -- the names that are known after the heads of a part, and the first word that it owns
 pub data PartKnows (o : Outline) (words : List Word) : List Known → List Head → List Known → Option ℕ → Type 0 where
   no_part_heads : (known : List Known) → PartKnows o words known [] known None
-  part_name : (known all : List Known) (h : Head) (hs : List Head) (k : Known) (owned : Option ℕ) → known_of o h.kind ≡ Some k → IsNew (of_outline known) k.name → PartKnows o words (known ++ k ∷ []) hs all owned → PartKnows o words known (h ∷ hs) all owned
-  part_owns : (known all : List Known) (h : Head) (hs : List Head) (l : written.List) (ks : List ℕ) (later : Option ℕ) → h.kind ≡ Owns l → WordsStandFor o words (of_outline known) (listed o l) ks → PartKnows o words known hs all later → PartKnows o words known (h ∷ hs) all (option_or (first_of ks) later)
-  part_other : (known all : List Known) (h : Head) (hs : List Head) (owned : Option ℕ) → known_of o h.kind ≡ None → ((l : written.List) → h.kind ≢ Owns l) → PartKnows o words known hs all owned → PartKnows o words known (h ∷ hs) all owned
+  part_name : (known all : List Known) (h : Head) (hs : List Head) (k : Known) (owned : Option ℕ)
+      → known_of o h.kind ≡ Some k
+      → IsNewHead known k
+      → PartKnows o words (known ++ k ∷ []) hs all owned
+      → PartKnows o words known (h ∷ hs) all owned
+  part_owns : (known all : List Known) (h : Head) (hs : List Head) (l : written.List) (ks : List ℕ) (later : Option ℕ)
+      → h.kind ≡ Owns l
+      → WordsStandFor o words (of_outline known) (listed o l) ks
+      → PartKnows o words known hs all later
+      → PartKnows o words known (h ∷ hs) all (option_or (first_of ks) later)
+  part_other : (known all : List Known) (h : Head) (hs : List Head) (owned : Option ℕ)
+      → known_of o h.kind ≡ None
+      → ((l : written.List) → h.kind ≢ Owns l)
+      → PartKnows o words known hs all owned
+      → PartKnows o words known (h ∷ hs) all owned
 
 -- a part of this name: a wait without assignments keeps the first word that it owns, else the first that isn't fixed
 pub record PartStandsFor (o : Outline) (words : List Word) (known : List Known) (p : PartWritten) (name : List ℕ) (t : PartTree) : Type 0 where
@@ -174,27 +214,40 @@ pub record PartStandsFor (o : Outline) (words : List Word) (known : List Known) 
 -- the members of a family of parts: of each its index is its number
 abbrev pub MembersStandFor : Outline → List Word → List Known → PartWritten → List ℕ → List ℤ → List PartTree → Type 0
 MembersStandFor o words known p index [] [] = Unit {0}
-MembersStandFor o words known p index (z ∷ zs) (t ∷ ts) = PartStandsFor o words (known ++ record { name = index; sense = member z } ∷ []) p (member_name (text_of o p.name) (z ∷ [])) t × MembersStandFor o words known p index zs ts
+MembersStandFor o words known p index (z ∷ zs) (t ∷ ts) =
+    PartStandsFor o words (known ++ record { name = index; sense = part_number z } ∷ []) p (member_name (text_of o p.name) (z ∷ [])) t
+    × MembersStandFor o words known p index zs ts
 MembersStandFor o words known p index [] (t ∷ ts) = ⊥
 MembersStandFor o words known p index (z ∷ zs) [] = ⊥
 
 pub data PartsStandFor (o : Outline) (words : List Word) (known : List Known) : List PartWritten → List PartTree → Type 0 where
   no_parts : PartsStandFor o words known [] []
-  part_and_more : (p : PartWritten) (ps : List PartWritten) (t : PartTree) (ts : List PartTree) → p.index ≡ None → PartStandsFor o words known p (text_of o p.name) t → PartsStandFor o words known ps ts → PartsStandFor o words known (p ∷ ps) (t ∷ ts)
-  members_and_more : (p : PartWritten) (ps : List PartWritten) (index : Span) (range : ℕ) (zs : List ℤ) (ts us : List PartTree) → p.index ≡ Some (index, range) → IsNew (of_outline known) (text_of o index) → RangeIs o words (of_outline known) range zs → MembersStandFor o words known p (text_of o index) zs ts → PartsStandFor o words known ps us → PartsStandFor o words known (p ∷ ps) (ts ++ us)
+  part_and_more : (p : PartWritten) (ps : List PartWritten) (t : PartTree) (ts : List PartTree)
+      → p.index ≡ None
+      → PartStandsFor o words known p (text_of o p.name) t
+      → PartsStandFor o words known ps ts
+      → PartsStandFor o words known (p ∷ ps) (t ∷ ts)
+  members_and_more : (p : PartWritten) (ps : List PartWritten) (index : Span) (range : ℕ) (zs : List ℤ) (ts us : List PartTree)
+      → p.index ≡ Some (index, range)
+      → IsNew (of_outline known) (text_of o index)
+      → RangeIs o words (of_outline known) range zs
+      → zs ≢ []
+      → MembersStandFor o words known p (text_of o index) zs ts
+      → PartsStandFor o words known ps us
+      → PartsStandFor o words known (p ∷ ps) (ts ++ us)
 
 -- ---- the program
 
--- an outline stands for a program: for its words, the formulas at its head, and the names and the bodies of its parts; what its parts rely on and promise serves the
--- proof alone. It says nothing of how the bytes were read as trees, and of outlines that are refused: of one in which a parameter hides a word, or the index of an
--- assignment reads what the assignment changes, more than one program, or another one, may be stood for
+-- an outline stands for a program: for its words, the formulas at its head, and the names and the bodies of its parts. What its parts rely on and promise
+-- serves the proof alone. It says nothing of how the bytes were read as trees. The names that are known are those of the heads before the words, then the
+-- words too, then also those of the heads after the words
 pub record ProgramStandsFor (o : Outline) (p : ProgramTree) : Type 0 where
-  pub first : List Known
-  pub known : List Known
-  pub all : List Known
+  pub before_words : List Known
+  pub with_words : List Known
+  pub with_lets : List Known
   pub clauses : Clauses
-  pub names : KnownAfter o [] (piece_of o.written.heads.items o.written.before_words) first
-  pub words : AreDeclared o p.words first o.written.declarations.items known p.words
-  pub formulas : ClausesStandFor o p.words known (piece_of o.written.heads.items o.written.following_words) all clauses
+  pub names : KnownAfter o [] (piece_of o.written.heads.items o.written.before_words) before_words
+  pub words : AreDeclared o p.words before_words o.written.declarations.items with_words p.words
+  pub formulas : ClausesStandFor o p.words with_words (piece_of o.written.heads.items o.written.following_words) with_lets clauses
   pub specified : AreSpecified p.words clauses p.spec
-  pub parts : PartsStandFor o p.words all o.written.parts.items p.parts
+  pub parts : PartsStandFor o p.words with_lets o.written.parts.items p.parts

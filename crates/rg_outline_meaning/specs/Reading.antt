@@ -17,7 +17,7 @@ use Rattle.rg_outline_meaning.specs.Meanings.{whole, claim}
 use Rattle.rg_outline_meaning.specs.Members.{member_name}
 use Rattle.rg_outline_meaning.specs.Names.{Outline, text_of, listed, family, Known, IsNew}
 use Rattle.rg_outline_meaning.specs.Expressions.{StandsFor, WordsStandFor}
-use Rattle.rg_outline_meaning.specs.Programs.{of_outline, known_of, AreIndexRanges, declared_words, Clauses, first_of, PartStandsFor, MembersStandFor, PartsStandFor}
+use Rattle.rg_outline_meaning.specs.Programs.{of_outline, known_of, IsNewHead, AreIndexRanges, declared_words, Clauses, first_of, PartStandsFor, MembersStandFor, PartsStandFor}
 use Rattle.rg_outline_meaning.specs.View.{outline, words}
 use Rattle.rg_outline_meaning.specs.declared.names.Reader.{Reader}
 
@@ -27,7 +27,7 @@ ReadsSame r s = (outline s ≡ outline r) × (words s ≡ words r)
 
 -- what is known after a head, which makes a name known or doesn't
 abbrev pub LearnsHead : Outline → List Known → HeadKind → List Known → Bool → Type 0
-LearnsHead o known kind all true = (k : Known) × (known_of o kind ≡ Some k) × IsNew (of_outline known) k.name × (all ≡ known ++ k ∷ [])
+LearnsHead o known kind all true = (k : Known) × (known_of o kind ≡ Some k) × IsNewHead known k × (all ≡ known ++ k ∷ [])
 LearnsHead o known kind all false = (known_of o kind ≡ None) × (all ≡ known)
 
 -- with one more formula, after those of its clause
@@ -44,7 +44,11 @@ both c d = record { pre = c.pre ++ d.pre; rely = c.rely ++ d.rely; guar = c.guar
 
 -- a head is a clause, whose formula comes to the others
 abbrev pub IsClauseOf : Outline → List Word → List Known → HeadKind → Clauses → Clauses → Type 0
-IsClauseOf o words known kind c d = (which : clause.Clause) × (f : ℕ) × (p : Proposition) × (kind ≡ Clause which f) × StandsFor o words (of_outline known) f (claim p) × (d ≡ with_one which p c)
+IsClauseOf o words known kind c d =
+    (which : clause.Clause) × (f : ℕ) × (p : Proposition)
+    × (kind ≡ Clause which f)
+    × StandsFor o words (of_outline known) f (claim p)
+    × (d ≡ with_one which p c)
 
 -- the first word that a head of a part owns
 abbrev pub OwnsFirst : Outline → List Word → List Known → HeadKind → Option ℕ → Type 0
@@ -56,7 +60,10 @@ OwnsFirst o words known (Clause c f) k = k ≡ None
 
 -- the parts from one place to another are what a part or a family of parts stands for
 abbrev pub ArePartsOf : Outline → List Word → List Known → PartWritten → List Part → ℕ → ℕ → Type 0
-ArePartsOf o words known p parts first next = (ts : List PartTree) × (take next (map part parts) ≡ take first (map part parts) ++ ts) × ((ps : List PartWritten) (us : List PartTree) → PartsStandFor o words known ps us → PartsStandFor o words known (p ∷ ps) (ts ++ us))
+ArePartsOf o words known p parts first next =
+    (ts : List PartTree)
+    × (take next (map part parts) ≡ take first (map part parts) ++ ts)
+    × ((ps : List PartWritten) (us : List PartTree) → PartsStandFor o words known ps us → PartsStandFor o words known (p ∷ ps) (ts ++ us))
 
 -- a declaration, whose words are those from one place to another
 pub record Declares (o : Outline) (words : List Word) (known all : List Known) (d : Declaration) (first next : ℕ) : Type 0 where
@@ -75,8 +82,14 @@ pub record PartKnown (o : Outline) (words : List Word) (known all : List Known) 
 
 -- the part at a place is what a part stands for
 abbrev pub IsPartOf : Outline → List Word → List Known → PartWritten → List ℤ → List Part → ℕ → ℕ → Type 0
-IsPartOf o words known p zs parts place next = (t : PartTree) × (take next (map part parts) ≡ take place (map part parts) ++ t ∷ []) × PartStandsFor o words known p (member_name (text_of o p.name) zs) t
+IsPartOf o words known p zs parts place next =
+    (t : PartTree)
+    × (take next (map part parts) ≡ take place (map part parts) ++ t ∷ [])
+    × PartStandsFor o words known p (member_name (text_of o p.name) zs) t
 
 -- the parts from one place to another are the members of a family with these numbers
 abbrev pub AreMembersOf : Outline → List Word → List Known → PartWritten → List ℕ → List ℤ → List Part → ℕ → ℕ → Type 0
-AreMembersOf o words known p index zs parts first next = (ts : List PartTree) × (take next (map part parts) ≡ take first (map part parts) ++ ts) × MembersStandFor o words known p index zs ts
+AreMembersOf o words known p index zs parts first next =
+    (ts : List PartTree)
+    × (take next (map part parts) ≡ take first (map part parts) ++ ts)
+    × MembersStandFor o words known p index zs ts

@@ -5,7 +5,7 @@ use Rattle.rg_tree.specs.View.{expression, formula}
 use Rattle.rg_outline_meaning.specs.Meanings as spec
 use Rattle.rg_outline_meaning.specs.Meanings.{whole, value, claim}
 use Rattle.rg_outline_meaning.specs.Names as name
-use Rattle.rg_outline_meaning.specs.Names.{Outline, text_of, parameters_of, listed, family, tree, statements, member}
+use Rattle.rg_outline_meaning.specs.Names.{Outline, text_of, parameters_of, listed, family, tree, statements, part_number}
 use Rattle.rg_outline_meaning.specs.Members as family
 use Rattle.rg_outline_meaning.specs.Expressions.{one, among}
 use Rattle.rg_outline_meaning.specs.Expressions as expressions
@@ -34,7 +34,7 @@ abbrev pub sense : Outline → Sense → name.Sense
 sense o (Family ranges) = family ranges.items
 sense o (Let l) = tree (parameters_of o l.parameters) l.body
 sense o (Procedure p) = statements (parameters_of o p.parameters) (listed o p.body)
-sense o (Number z) = member z
+sense o (Number z) = part_number z
 
 abbrev pub known : Outline → Known → name.Known
 known o k = record { name = text_of o k.name; sense = sense o k.sense }
@@ -54,12 +54,12 @@ abbrev pub names : Reader → Names → name.Names
 names r n = record { known = map (known (outline r)) (take n.known r.known.items); bound = map (bound (outline r)) n.bound.items }
 
 -- what is selected
-abbrev pub choice : Member → family.Choice
-choice m = record { number = m.number; word = m.word }
+abbrev pub candidate : Member → family.Candidate
+candidate m = record { number = m.number; word = m.word }
 
 abbrev pub selected : Selected → expressions.Selected
 selected (SelectedWord k) = one k
-selected (Among e c cs) = among (expression e) (choice c) (map choice cs.items)
+selected (Among e c cs) = among (expression e) (candidate c) (map candidate cs.items)
 
 -- the names of the outline and the part so far
 abbrev pub knowns : Reader → List name.Known

@@ -1,8 +1,8 @@
 //! The words that an outline declares.
 
-ghost use Rattle.std.specs.Prelude.{◌≡◌, pos, [], ◌∷◌, ◌++◌, map, take, Some, slice_get, IfOk, OnOk};
+ghost use Rattle.std.specs.Prelude.{◌≡◌, ◌≢◌, pos, [], ◌∷◌, ◌++◌, map, take, All, Some, slice_get, IfOk, OnOk};
 ghost use Rattle.rg_outline_meaning.specs.Meanings.{whole};
-ghost use Rattle.rg_outline_meaning.specs.Names.{text_of, piece_of, listed as listed_of, IsNew};
+ghost use Rattle.rg_outline_meaning.specs.Names.{text_of, piece_of, listed as listed_of, parameters_of, IsNew, AreDifferent};
 ghost use Rattle.rg_outline_meaning.specs.Members.{member_name};
 ghost use Rattle.rg_outline_meaning.specs.Expressions.{StandsFor};
 ghost use Rattle.rg_outline_meaning.specs.Programs.{of_outline, KnownAfter, IsIndexRange, AreIndexRanges, is_fixed as is_fixed_word, declared_words, AreDeclared};
@@ -49,6 +49,38 @@ impl Reader<'_> {
         Ok(())
     }
 
+    /// Wants that none of these names is another one.
+    fn want_others(&self, name: Span, others: &[Span]) -> Result<(), Unknown>
+        ensures { OnOk result (All (λ other. other ≢ text_of (outline self.now) name) (map (text_of (outline self.now)) others.now)) }
+    {
+        let text = self.text(name);
+        for other in others {
+            if self.text(*other) == text {
+                return Err(Unknown::NoRule);
+            }
+        }
+        Ok(())
+    }
+
+    /// Wants that no two of these names are equal.
+    fn want_all_different(&self, all: &[Span]) -> Result<(), Unknown>
+        ensures { OnOk result (AreDifferent (map (text_of (outline self.now)) all.now)) }
+    {
+        for (place, name) in all.iter().enumerate() {
+            self.want_others(*name, &all[place + 1..])?;
+        }
+        Ok(())
+    }
+
+    /// Wants that no two of a name and its parameters are equal.
+    fn want_different(&self, name: Span, parameters: List) -> Result<(), Unknown>
+        ensures { OnOk result (AreDifferent (text_of (outline self.now) name ∷ parameters_of (outline self.now) parameters)) }
+    {
+        let parameters = piece(self.written.names.as_slice(), parameters);
+        self.want_others(name, parameters)?;
+        self.want_all_different(parameters)
+    }
+
     /// Makes the name known that a head gives to a tree or to statements; whether it gives one.
     #[tactic(auto, using(crate::proofs::ProgramRules::rules))]
     pub(crate) fn know_head(&mut self, kind: HeadKind) -> Result<bool, Unknown>
@@ -57,10 +89,12 @@ impl Reader<'_> {
     {
         match kind {
             HeadKind::Let(named) => {
+                self.want_different(named.name, named.parameters)?;
                 self.know(named.name, Sense::Let(named))?;
                 Ok(true)
             }
             HeadKind::Procedure(named) => {
+                self.want_different(named.name, named.parameters)?;
                 self.know(named.name, Sense::Procedure(named))?;
                 Ok(true)
             }

@@ -4,7 +4,7 @@ ghost use Rattle.std.specs.Prelude.{ℕ, map, IfOk};
 ghost use Rattle.rg_tree.specs.View.{formula as view};
 ghost use Rattle.rg_outline_syntax.specs.declared.written.ExpressionKind.TheVariants.{Join};
 ghost use Rattle.rg_outline_meaning.specs.Meanings.{whole, claim, same_word as same, IsConjunction};
-ghost use Rattle.rg_outline_meaning.specs.Names.{IsMadeSo};
+ghost use Rattle.rg_outline_meaning.specs.Names.{HasKind};
 ghost use Rattle.rg_outline_meaning.specs.Expressions.{StandsFor, IsValue, IsUnchanged};
 ghost use Rattle.rg_outline_meaning.specs.Inner.{Descends};
 ghost use Rattle.rg_outline_meaning.specs.View.{meaning as shown, outline, words, names as names_at};
@@ -31,7 +31,7 @@ struct Link {
 impl Reader<'_> {
     /// What an expression is made of.
     pub(crate) fn kind(&self, index: usize) -> Result<ExpressionKind, Unknown>
-        ensures { IfOk result (λ kind. IsMadeSo (outline self.now) index kind) }
+        ensures { IfOk result (λ kind. HasKind (outline self.now) index kind) }
     {
         match self.written.expressions.get(index) {
             Some(expression) => Ok(expression.kind),
@@ -197,7 +197,7 @@ impl Reader<'_> {
     /// The first operand of a chain of `and` and `or`, and its links, of which the last one stands innermost.
     #[tactic(auto, using(crate::proofs::Chains::chains))]
     fn links(&self, before: usize, last: Link) -> Result<(usize, Vec<Link>), Unknown>
-        ensures { IfOk result (λ r. (index : ℕ) → IsMadeSo (outline self.now) index (Join last.junction before last.operand) → Descends (outline self.now) index (map (λ l. (l.junction, l.operand)) r.1.items) r.0) }
+        ensures { IfOk result (λ r. (index : ℕ) → HasKind (outline self.now) index (Join last.junction before last.operand) → Descends (outline self.now) index (map (λ l. (l.junction, l.operand)) r.1.items) r.0) }
     {
         let mut links = Vec::new(self.alloc);
         links.push(last)?;
@@ -223,7 +223,7 @@ impl Reader<'_> {
         depth: u32,
         steps: &mut Steps,
     ) -> Result<Formula, Unknown>
-        ensures { IfOk result (λ p. (index : ℕ) → IsMadeSo (outline self.now) index (Join last.junction before last.operand) → StandsFor (outline self.now) (words self.now) (names_at self.now names.now) index (claim (view p))) }
+        ensures { IfOk result (λ p. (index : ℕ) → HasKind (outline self.now) index (Join last.junction before last.operand) → StandsFor (outline self.now) (words self.now) (names_at self.now names.now) index (claim (view p))) }
     {
         let (first, links) = self.links(before, last)?;
         let mut formula = self.formula(names, first, depth, steps)?;

@@ -1,7 +1,7 @@
 //! Names, and what they stand for.
 
-ghost use Rattle.std.specs.Prelude.{◌≡◌, ◌≢◌, ℕ, map, All, IfOk, IfSome, IfNone};
-ghost use Rattle.rg_outline_meaning.specs.Names.{text_of, piece_of, listed as listed_of, parameters_of, IsNew, Knows, Binds, with_number};
+ghost use Rattle.std.specs.Prelude.{◌≡◌, ◌≢◌, ℕ, map, All, IfOk, OnOk, IfSome, IfNone};
+ghost use Rattle.rg_outline_meaning.specs.Names.{text_of, piece_of, listed as listed_of, parameters_of, IsUnbound, IsNew, IsAt, Binds, with_number};
 ghost use Rattle.rg_outline_meaning.specs.View.{meaning as shown, sense as sense_of, known, bound, outline, names as names_at};
 
 use crate::meaning::{Meaning, Unknown};
@@ -128,9 +128,21 @@ impl<'a> Reader<'a> {
         None
     }
 
-    /// The place of a name of the outline or the part, and what it stands for.
+    /// The place of a name of the outline or the part, and what it stands for. A parameter or an index that is called so goes before it.
     pub(crate) fn known<'s>(&'s self, names: &Names, name: Span) -> Option<(usize, &'s Sense)>
-        ensures some { IfSome result (λ r. Knows (names_at self.now names.now) r.0 (text_of (outline self.now) name) (sense_of (outline self.now) r.1.now)) }
+        ensures some { IfSome result (λ r. IsAt (names_at self.now names.now) r.0 (text_of (outline self.now) name) (sense_of (outline self.now) r.1.now)) }
+        ensures free { IfSome result (λ _. IsUnbound (names_at self.now names.now) (text_of (outline self.now) name)) }
+    {
+        if self.bound(names, name).is_some() {
+            return None;
+        }
+        let (place, sense) = self.find(names, name)?;
+        Some((place, sense))
+    }
+
+    /// The same, whether or not a parameter or an index is called so.
+    fn find<'s>(&'s self, names: &Names, name: Span) -> Option<(usize, &'s Sense)>
+        ensures some { IfSome result (λ r. IsAt (names_at self.now names.now) r.0 (text_of (outline self.now) name) (sense_of (outline self.now) r.1.now)) }
         ensures none { IfNone result (All (λ k. k.name ≢ text_of (outline self.now) name) (names_at self.now names.now).known) }
     {
         let text = self.text(name);
@@ -143,11 +155,21 @@ impl<'a> Reader<'a> {
         None
     }
 
-    /// Wants that a name is new: none hides another.
+    /// Wants that no parameter or index is called so.
+    pub(crate) fn want_unbound(&self, names: &Names, name: Span) -> Result<(), Unknown>
+        ensures { OnOk result (IsUnbound (names_at self.now names.now) (text_of (outline self.now) name)) }
+    {
+        if self.bound(names, name).is_some() {
+            return Err(Unknown::NoRule);
+        }
+        Ok(())
+    }
+
+    /// Wants that nothing is called so.
     pub(crate) fn want_new(&self, names: &Names, name: Span) -> Result<(), Unknown>
         ensures { IfOk result (λ _. IsNew (names_at self.now names.now) (text_of (outline self.now) name)) }
     {
-        if self.bound(names, name).is_some() || self.known(names, name).is_some() {
+        if self.bound(names, name).is_some() || self.find(names, name).is_some() {
             return Err(Unknown::NoRule);
         }
         Ok(())

@@ -148,6 +148,9 @@ impl Reader<'_> {
     fn want_specified(&self, clauses: &Clauses, spec: &Spec) -> Result<(), Unknown>
         ensures { OnOk result (AreSpecified (words self.now) (clauses_of clauses.now) (specification spec.now)) }
     {
+        if clauses.pre.len() > 1 || clauses.post.len() > 1 {
+            return Err(Unknown::NoRule);
+        }
         want_conjunction(self.alloc, &clauses.pre, &spec.pre)?;
         self.want_rely(&clauses.rely, &spec.rely)?;
         want_conjunction(self.alloc, &clauses.guar, &spec.guar)?;
@@ -207,6 +210,9 @@ impl Reader<'_> {
                 self.want_new(&names, index)?;
                 let mut steps = Steps::new();
                 let numbers = self.range(&names, range, DEEPEST, &mut steps)?;
+                if numbers.is_empty() {
+                    return Err(Unknown::NoRule);
+                }
                 let next = self.after_members(written, index, &numbers, parts, first)?;
                 Ok(next)
             }
@@ -272,8 +278,8 @@ impl Reader<'_> {
     {
         self.want_name(written.name, indices, part)?;
         let owned = self.know_part(written.heads)?;
-        let kept = self.kept(owned);
-        self.want_body(written.body, kept, &part.body)?;
+        let waiting_word = self.waiting_word(owned);
+        self.want_body(written.body, waiting_word, &part.body)?;
         Ok(())
     }
 
@@ -289,11 +295,16 @@ impl Reader<'_> {
     }
 
     /// Wants that a block stands for this statement.
-    fn want_body(&self, block: List, kept: Option<usize>, body: &Stmt) -> Result<(), Unknown>
-        ensures { OnOk result (BlockStandsFor (outline self.now) (words self.now) kept (of_outline (knowns self.now)) block (bare_statement (statement_view body.now))) }
+    fn want_body(
+        &self,
+        block: List,
+        waiting_word: Option<usize>,
+        body: &Stmt,
+    ) -> Result<(), Unknown>
+        ensures { OnOk result (BlockStandsFor (outline self.now) (words self.now) waiting_word (of_outline (knowns self.now)) block (bare_statement (statement_view body.now))) }
     {
         let mut steps = Steps::new();
-        let read = self.block(&self.so_far(), block, kept, DEEPEST, &mut steps)?;
+        let read = self.block(&self.so_far(), block, waiting_word, DEEPEST, &mut steps)?;
         if is_statement(&read, body) {
             return Ok(());
         }
@@ -331,7 +342,7 @@ impl Reader<'_> {
     }
 
     /// The word that a wait without assignments keeps: the one that is owned, else the first that isn't fixed.
-    fn kept(&self, owned: Option<usize>) -> Option<usize>
+    fn waiting_word(&self, owned: Option<usize>) -> Option<usize>
         ensures { result ≡ option_or owned (first_changing_of 0 (fixed_of (words self.now))) }
     {
         match owned {

@@ -4,8 +4,8 @@ ghost use Rattle.std.specs.Prelude.{◌≡◌, ◌++◌, map, Some, option_map, 
 ghost use Rattle.rg_outline_meaning.specs.Meanings.{whole};
 ghost use Rattle.rg_outline_meaning.specs.Names.{text_of, with_number};
 ghost use Rattle.rg_outline_meaning.specs.Members.{is_among as is_among_them, without, numbers_from, numbers as numbers_between};
-ghost use Rattle.rg_outline_meaning.specs.Expressions.{StandsFor, AllStandFor, RangeIs, IsInstance, StandForInstances, combined as combination, of_nothing as nothing};
-ghost use Rattle.rg_outline_meaning.specs.Inner.{IsCollectedWith, of_all};
+ghost use Rattle.rg_outline_meaning.specs.Expressions.{StandsFor, AllStandFor, RangeIs, IsInstance, combined as combination, of_nothing as nothing};
+ghost use Rattle.rg_outline_meaning.specs.Inner.{IsCollectedWith, of_all, StandForInstances};
 ghost use Rattle.rg_outline_meaning.specs.View.{meaning as shown, outline, words, names as names_at};
 
 use crate::folded::{joined, operated};
@@ -172,7 +172,7 @@ impl Reader<'_> {
     ) -> Result<Meaning, Unknown>
         ensures { IfOk result (λ m. StandForInstances (outline self.now) (words self.now) (names_at self.now names.now) instances.binder (text_of (outline self.now) instances.index) instances.range instances.body (shown m)) }
     {
-        self.want_new(names, instances.index)?;
+        self.want_unbound(names, instances.index)?;
         let numbers = self.range(names, instances.range, depth, steps)?;
         let mut inner = self.copied(names, steps)?;
         let mut made: Option<Meaning> = None;

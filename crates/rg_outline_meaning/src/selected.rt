@@ -4,10 +4,10 @@ ghost use Rattle.std.specs.Prelude.{◌≡◌, ◌≤◌, ℕ, pos, [], ◌∷�
 ghost use Rattle.rg_words.specs.Layout.{widths_of};
 ghost use Rattle.rg_tree.specs.View.{expression};
 ghost use Rattle.rg_outline_meaning.specs.Names.{text_of, listed as listed_of, family, Knows};
-ghost use Rattle.rg_outline_meaning.specs.Members.{AreWithin, members as members_of, longer as longer_by, IsMember, AreMembers, first_word as first_word_of, fits, AreChoices, chosen_of};
+ghost use Rattle.rg_outline_meaning.specs.Members.{AreWithin, members as members_of, longer as longer_by, IsMember, AreMembers, first_word as first_word_of, fits, chosen_of};
 ghost use Rattle.rg_outline_meaning.specs.Expressions.{Selects, AllStandFor, WordsStandFor};
-ghost use Rattle.rg_outline_meaning.specs.Inner.{AreIndices, AreWordsOf};
-ghost use Rattle.rg_outline_meaning.specs.View.{meaning as shown, outline, words as words_of, names as names_at, choice as choice_of, selected as selection};
+ghost use Rattle.rg_outline_meaning.specs.Inner.{AreIndices, AreWordsOf, AreCandidatesAt};
+ghost use Rattle.rg_outline_meaning.specs.View.{meaning as shown, outline, words as words_of, names as names_at, candidate as candidate_of, selected as selection};
 
 use crate::folded::is_number;
 use crate::meaning::{Meaning, Unknown};
@@ -189,14 +189,7 @@ impl Reader<'_> {
     pub(crate) fn member(&self, name: Span, indices: &[i128]) -> Result<usize, Unknown>
         ensures { IfOk result (λ k. IsMember (words_of self.now) (text_of (outline self.now) name) indices.now k) }
     {
-        let mut text = Vec::from_slice(self.alloc, self.text(name))?;
-        for index in indices {
-            let Ok(index) = u64::try_from(*index) else {
-                return Err(Unknown::NoRule);
-            };
-            text.push(b'_')?;
-            text.extend_from_slice(itoa::Buffer::new().format(index).as_bytes())?;
-        }
+        let text = self.member_text(name, indices)?;
         let Ok(text) = std::str::from_utf8(&text) else {
             return Err(Unknown::NoRule);
         };
@@ -289,7 +282,7 @@ impl Reader<'_> {
         width: u32,
     ) -> Result<Vec<Member>, Unknown>
         requires { width ≤ 64 }
-        ensures { IfOk result (λ ms. AreChoices (words_of self.now) (text_of (outline self.now) name) indices.now place (filter (fits width) numbers.now) (map choice_of ms.items)) }
+        ensures { IfOk result (λ ms. AreCandidatesAt (words_of self.now) (text_of (outline self.now) name) indices.now place (filter (fits width) numbers.now) (map candidate_of ms.items)) }
     {
         let mut members = Vec::new(self.alloc);
         for number in numbers {
@@ -313,7 +306,7 @@ impl Reader<'_> {
         first: &Member,
         rest: &[Member],
     ) -> Result<Expr, Unknown>
-        ensures { IfOk result (λ e. expression e ≡ chosen_of (expression index.now) (choice_of first.now) (map choice_of rest.now)) }
+        ensures { IfOk result (λ e. expression e ≡ chosen_of (expression index.now) (candidate_of first.now) (map candidate_of rest.now)) }
     {
         let Some((next, others)) = rest.split_first() else {
             return Ok(Expr::Word(first.word));

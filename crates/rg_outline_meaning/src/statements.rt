@@ -1,13 +1,14 @@
 //! What statements stand for.
 
-ghost use Rattle.std.specs.Prelude.{◌≡◌, [], ◌∷◌, map, IfOk};
-ghost use Rattle.rg_tree.specs.View.{expression};
+ghost use Rattle.std.specs.Prelude.{◌≡◌, [], ◌∷◌, map, IfOk, OnOk};
+ghost use Rattle.rg_tree.specs.View.{expression, formula as formula_view};
 ghost use Rattle.rg_tree.specs.ConditionTrees.{assignment as assignment_view};
 ghost use Rattle.rg_tree.specs.ProgramView.{statement as statement_view};
 ghost use Rattle.rg_outline_meaning.specs.Names.{piece_of, listed as listed_of};
+ghost use Rattle.rg_outline_meaning.specs.Members.{mentions as mentions_word, mentions_in as mentions_word_in};
 ghost use Rattle.rg_outline_syntax.specs.declared.written.ItemKind.TheVariants.{Use};
-ghost use Rattle.rg_outline_meaning.specs.Statements.{StepStandsFor, Writes, ItemStandsFor, ItemsStandFor, BlockStandsFor, updated as updated_by, assigned as assigned_by, one_step as step_of, IsInSequence};
-ghost use Rattle.rg_outline_meaning.specs.View.{outline, words, names as names_at, choice, selected as selection};
+ghost use Rattle.rg_outline_meaning.specs.Statements.{MentionsNone, IsSteady, StepStandsFor, Writes, ItemStandsFor, ItemsStandFor, BlockStandsFor, updated as updated_by, assigned as assigned_by, one_step as step_of, IsInSequence};
+ghost use Rattle.rg_outline_meaning.specs.View.{outline, words, names as names_at, candidate, selected as selection};
 
 use crate::expressions::DEEPEST;
 use crate::folded::is_number;
@@ -45,7 +46,7 @@ fn sequence(alloc: Global, statements: Vec<Stmt>) -> Result<Stmt, Unknown>
 
 /// The assignment to a member that an index may choose: the value where it does, else what the member was.
 fn updated(alloc: Global, index: &Expr, value: &Expr, member: &Member) -> Result<Assign, Unknown>
-    ensures { IfOk result (λ a. assignment_view a ≡ updated_by (expression index.now) (expression value.now) (choice member.now)) }
+    ensures { IfOk result (λ a. assignment_view a ≡ updated_by (expression index.now) (expression value.now) (candidate member.now)) }
 {
     let test = is_number(copy_expr(alloc, index)?, member.number);
     let copy = copy_expr(alloc, value)?;
@@ -58,6 +59,59 @@ fn updated(alloc: Global, index: &Expr, value: &Expr, member: &Member) -> Result
         word: member.word,
         value,
     })
+}
+
+/// Whether a word stands in a value.
+#[cycle(mentions)]
+fn mentions(word: usize, value: &Expr) -> bool
+    ensures { result ≡ mentions_word word (expression value.now) }
+{
+    match value {
+        Expr::Number(..) => false,
+        Expr::Word(other) | Expr::NextWord(other) => *other == word,
+        Expr::Inverse(_, a) | Expr::Shifted(_, _, a, _) => mentions(word, a),
+        Expr::Binary(_, _, a, b) => mentions(word, a) || mentions(word, b),
+        Expr::If(f, a, b) => mentions_in(word, f) || mentions(word, a) || mentions(word, b),
+    }
+}
+
+/// Whether a word stands in a formula.
+#[cycle(mentions)]
+fn mentions_in(word: usize, formula: &Formula) -> bool
+    ensures { result ≡ mentions_word_in word (formula_view formula.now) }
+{
+    match formula {
+        Formula::Truth(_) => false,
+        Formula::Not(f) => mentions_in(word, f),
+        Formula::Connect(_, f, g) => mentions_in(word, f) || mentions_in(word, g),
+        Formula::Compare(_, a, b) => mentions(word, a) || mentions(word, b),
+    }
+}
+
+/// Wants that the index that chooses what is written mentions none of the words from which it chooses.
+fn want_steady(target: &Selected) -> Result<(), Unknown>
+    ensures { OnOk result (IsSteady (selection target.now)) }
+{
+    let Selected::Among(index, first, rest) = target else {
+        return Ok(());
+    };
+    if mentions(first.word, index) {
+        return Err(Unknown::NoRule);
+    }
+    want_unmentioned(index, rest)?;
+    Ok(())
+}
+
+/// Wants that a value mentions none of the words of members.
+fn want_unmentioned(value: &Expr, members: &[Member]) -> Result<(), Unknown>
+    ensures { OnOk result (MentionsNone (expression value.now) (map candidate members.now)) }
+{
+    for member in members {
+        if mentions(member.word, value) {
+            return Err(Unknown::NoRule);
+        }
+    }
+    Ok(())
 }
 
 /// Assignments as one step: one of them needs no `atomic`.
@@ -83,7 +137,7 @@ fn members_updated(
     first: &Member,
     rest: &[Member],
 ) -> Result<Vec<Assign>, Unknown>
-    ensures { IfOk result (λ step. map assignment_view step.items ≡ map (updated_by (expression index.now) (expression value.now)) (choice first.now ∷ map choice rest.now)) }
+    ensures { IfOk result (λ step. map assignment_view step.items ≡ map (updated_by (expression index.now) (expression value.now)) (candidate first.now ∷ map candidate rest.now)) }
 {
     let mut step = Vec::new(alloc);
     step.push(updated(alloc, index, value, first)?)?;
@@ -110,20 +164,20 @@ fn written_to(alloc: Global, target: Selected, value: Expr) -> Result<Vec<Assign
 }
 
 impl Reader<'_> {
-    /// The statement that a block stands for. `kept` is the word that a wait without assignments keeps.
+    /// The statement that a block stands for. `waiting_word` is the word that a wait without assignments keeps.
     #[cycle(statements)]
     #[tactic(auto, using(crate::proofs::StatementRules::rules))]
     pub(crate) fn block(
         &self,
         names: &Names,
         block: List,
-        kept: Option<usize>,
+        waiting_word: Option<usize>,
         depth: u32,
         steps: &mut Steps,
     ) -> Result<Stmt, Unknown>
-        ensures { IfOk result (λ s. BlockStandsFor (outline self.now) (words self.now) kept (names_at self.now names.now) block (statement_view s)) }
+        ensures { IfOk result (λ s. BlockStandsFor (outline self.now) (words self.now) waiting_word (names_at self.now names.now) block (statement_view s)) }
     {
-        let statements = self.items(names, block, kept, depth, steps)?;
+        let statements = self.items(names, block, waiting_word, depth, steps)?;
         sequence(self.alloc, statements)
     }
 
@@ -134,11 +188,11 @@ impl Reader<'_> {
         &self,
         names: &Names,
         block: List,
-        kept: Option<usize>,
+        waiting_word: Option<usize>,
         depth: u32,
         steps: &mut Steps,
     ) -> Result<Vec<Stmt>, Unknown>
-        ensures { IfOk result (λ ss. ItemsStandFor (outline self.now) (words self.now) kept (names_at self.now names.now) (listed_of (outline self.now) block) (map statement_view ss.items)) }
+        ensures { IfOk result (λ ss. ItemsStandFor (outline self.now) (words self.now) waiting_word (names_at self.now names.now) (listed_of (outline self.now) block) (map statement_view ss.items)) }
     {
         let Some(depth) = depth.checked_sub(1) else {
             return Err(Unknown::NoRule);
@@ -149,7 +203,7 @@ impl Reader<'_> {
             let Some(item) = self.written.items.get(*index) else {
                 return Err(Unknown::NoRule);
             };
-            let mut own = self.item(names, item.kind, kept, depth, steps)?;
+            let mut own = self.item(names, item.kind, waiting_word, depth, steps)?;
             statements.append(&mut own)?;
         }
         Ok(statements)
@@ -162,22 +216,22 @@ impl Reader<'_> {
         &self,
         names: &Names,
         kind: ItemKind,
-        kept: Option<usize>,
+        waiting_word: Option<usize>,
         depth: u32,
         steps: &mut Steps,
     ) -> Result<Vec<Stmt>, Unknown>
-        ensures { IfOk result (λ ss. ItemStandsFor (outline self.now) (words self.now) kept (names_at self.now names.now) kind (map statement_view ss.items)) }
+        ensures { IfOk result (λ ss. ItemStandsFor (outline self.now) (words self.now) waiting_word (names_at self.now names.now) kind (map statement_view ss.items)) }
     {
         match kind {
             ItemKind::Assertion(_) => Ok(Vec::new(self.alloc)),
-            ItemKind::Use(used) => self.use_of(names, used, kept, depth, steps),
-            ItemKind::For { .. } => self.rounds(names, kind, kept, depth, steps),
+            ItemKind::Use(used) => self.use_of(names, used, waiting_word, depth, steps),
+            ItemKind::For { .. } => self.rounds(names, kind, waiting_word, depth, steps),
             ItemKind::If { .. } | ItemKind::While { .. } => {
-                let statement = self.statement(names, kind, kept, depth, steps)?;
+                let statement = self.statement(names, kind, waiting_word, depth, steps)?;
                 self.alone(statement)
             }
             ItemKind::Skip | ItemKind::Assign(_) | ItemKind::Atomic(_) | ItemKind::Await(..) => {
-                let statement = self.step(names, kind, kept, steps)?;
+                let statement = self.step(names, kind, waiting_word, steps)?;
                 self.alone(statement)
             }
         }
@@ -199,16 +253,16 @@ impl Reader<'_> {
         &self,
         names: &Names,
         kind: ItemKind,
-        kept: Option<usize>,
+        waiting_word: Option<usize>,
         depth: u32,
         steps: &mut Steps,
     ) -> Result<Vec<Stmt>, Unknown>
-        ensures { IfOk result (λ ss. ItemStandsFor (outline self.now) (words self.now) kept (names_at self.now names.now) kind (map statement_view ss.items)) }
+        ensures { IfOk result (λ ss. ItemStandsFor (outline self.now) (words self.now) waiting_word (names_at self.now names.now) kind (map statement_view ss.items)) }
     {
         let ItemKind::For { index, range, body } = kind else {
             return Err(Unknown::NoRule);
         };
-        self.want_new(names, index)?;
+        self.want_unbound(names, index)?;
         let numbers = self.range(names, range, DEEPEST, steps)?;
         let mut inner = self.copied(names, steps)?;
         let mut statements = Vec::new(self.alloc);
@@ -217,7 +271,7 @@ impl Reader<'_> {
                 name: index,
                 meaning: Meaning::Whole(*number),
             })?;
-            let mut own = self.items(&inner, body, kept, depth, steps)?;
+            let mut own = self.items(&inner, body, waiting_word, depth, steps)?;
             inner.bound.pop();
             statements.append(&mut own)?;
         }
@@ -231,11 +285,11 @@ impl Reader<'_> {
         &self,
         names: &Names,
         used: usize,
-        kept: Option<usize>,
+        waiting_word: Option<usize>,
         depth: u32,
         steps: &mut Steps,
     ) -> Result<Vec<Stmt>, Unknown>
-        ensures { IfOk result (λ ss. ItemStandsFor (outline self.now) (words self.now) kept (names_at self.now names.now) (Use used) (map statement_view ss.items)) }
+        ensures { IfOk result (λ ss. ItemStandsFor (outline self.now) (words self.now) waiting_word (names_at self.now names.now) (Use used) (map statement_view ss.items)) }
     {
         let ExpressionKind::Name {
             name,
@@ -255,7 +309,7 @@ impl Reader<'_> {
             known: place,
             bound,
         };
-        self.items(&inner, named.body, kept, depth, steps)
+        self.items(&inner, named.body, waiting_word, depth, steps)
     }
 
     /// An `if` or a `while`.
@@ -265,18 +319,18 @@ impl Reader<'_> {
         &self,
         names: &Names,
         kind: ItemKind,
-        kept: Option<usize>,
+        waiting_word: Option<usize>,
         depth: u32,
         steps: &mut Steps,
     ) -> Result<Stmt, Unknown>
-        ensures { IfOk result (λ s. ItemStandsFor (outline self.now) (words self.now) kept (names_at self.now names.now) kind (statement_view s ∷ [])) }
+        ensures { IfOk result (λ s. ItemStandsFor (outline self.now) (words self.now) waiting_word (names_at self.now names.now) kind (statement_view s ∷ [])) }
     {
         match kind {
             ItemKind::If { test, yes, no } => {
                 let test = self.formula(names, test, DEEPEST, steps)?;
-                let first = self.block(names, yes, kept, depth, steps)?;
+                let first = self.block(names, yes, waiting_word, depth, steps)?;
                 let second = match no {
-                    Some(no) => self.block(names, no, kept, depth, steps)?,
+                    Some(no) => self.block(names, no, waiting_word, depth, steps)?,
                     None => Stmt::Skip(0),
                 };
                 let first = Box::new(self.alloc, first)?;
@@ -284,7 +338,7 @@ impl Reader<'_> {
             }
             ItemKind::While { test, body, .. } => {
                 let test = self.formula(names, test, DEEPEST, steps)?;
-                let body = self.block(names, body, kept, depth, steps)?;
+                let body = self.block(names, body, waiting_word, depth, steps)?;
                 Ok(Stmt::While(0, test, Box::new(self.alloc, body)?))
             }
             _ => Err(Unknown::NoRule),
@@ -297,10 +351,10 @@ impl Reader<'_> {
         &self,
         names: &Names,
         kind: ItemKind,
-        kept: Option<usize>,
+        waiting_word: Option<usize>,
         steps: &mut Steps,
     ) -> Result<Stmt, Unknown>
-        ensures { IfOk result (λ s. ItemStandsFor (outline self.now) (words self.now) kept (names_at self.now names.now) kind (statement_view s ∷ [])) }
+        ensures { IfOk result (λ s. ItemStandsFor (outline self.now) (words self.now) waiting_word (names_at self.now names.now) kind (statement_view s ∷ [])) }
     {
         match kind {
             ItemKind::Skip => Ok(Stmt::Skip(0)),
@@ -321,7 +375,7 @@ impl Reader<'_> {
             }
             ItemKind::Await(guard, None) => {
                 let guard = self.formula(names, guard, DEEPEST, steps)?;
-                let Some(word) = kept else {
+                let Some(word) = waiting_word else {
                     return Err(Unknown::NoRule);
                 };
                 let mut step = Vec::new(self.alloc);
@@ -396,6 +450,8 @@ impl Reader<'_> {
                 _ => Err(Unknown::NoRule),
             };
         }
-        self.selected(names, name, listed, DEEPEST, steps)
+        let selected = self.selected(names, name, listed, DEEPEST, steps)?;
+        want_steady(&selected)?;
+        Ok(selected)
     }
 }

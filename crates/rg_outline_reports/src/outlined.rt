@@ -7,6 +7,7 @@ use crate::faults::{printable, refused_expansion, refused_source};
 use crate::files::{Failures, Format, NoFiles, OutlineFiles, OutlineSource, Places};
 use crate::inputs::report_outside_pre;
 use crate::marks::take_marks;
+use crate::operations::{Operation, operations_of};
 use crate::places::{is_added, own_line};
 use crate::questions::{Asks, Outside};
 use crate::reports::Reports;
@@ -73,6 +74,8 @@ pub struct Outlined<'a> {
 }
 
 impl<'a> Outlined<'a> {
+    ghost use Rattle.std.specs.Prelude.{◌≡◌, IfOk};
+
     /// An outline in which this is written, worked out.
     ///
     /// # Errors
@@ -84,7 +87,9 @@ impl<'a> Outlined<'a> {
         alloc: Global,
         outline: OutlineSource<'a>,
         read: &'a ReadOutline,
-    ) -> Result<Outlined<'a>, NoFiles> {
+    ) -> Result<Outlined<'a>, NoFiles>
+        ensures { IfOk result (λ outlined. outlined.read.now ≡ read.now) }
+    {
         let mut expansion = Expansion::new(alloc, outline.source, &read.written);
         let mut files = OutlineFiles {
             text: Vec::new(alloc),
@@ -165,6 +170,12 @@ impl<'a> Outlined<'a> {
             lines,
             added,
         })
+    }
+
+    /// The uses of named statements in its parts, which C has as functions.
+    /// An error comes only where memory is refused.
+    pub fn operations(&self) -> Result<Vec<Operation>, AllocError> {
+        operations_of(&self.expansion)
     }
 
     /// What of the program's pre is false where the words have these values; nothing where they are in the pre.

@@ -5,7 +5,7 @@ use rg_outline_syntax::file_of;
 use std::alloc::AllocError;
 
 /// Adds the statements of a block, the last one first.
-fn push_statements(
+pub(crate) fn push_statements(
     expansion: &Expansion<'_>,
     block: usize,
     open: &mut Vec<usize>,

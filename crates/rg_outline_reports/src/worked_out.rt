@@ -35,11 +35,12 @@ pub struct WorkedOut<'a> {
 
 impl<'a> WorkedOut<'a> {
     ghost use Rattle.std.specs.Prelude.{◌≡◌};
-    ghost use Rattle.rg_outline_reports.specs.WorkedOut.{read_source, worked_source, worked_result};
+    ghost use Rattle.rg_outline_reports.specs.WorkedOut.{read_source, read_result, worked_source, worked_result, IsExpansionOf};
 
     /// That of the outline in which this is written.
     pub fn of(alloc: Global, reading: &'a Reading<'a>) -> WorkedOut<'a>
-        ensures { worked_source result ≡ read_source reading.now }
+        ensures source { worked_source result ≡ read_source reading.now }
+        ensures written { IsExpansionOf (read_result reading.now) (worked_result result) }
     {
         let outline = reading.outline;
         let expanded = match &reading.read {

@@ -9,8 +9,9 @@ use Rattle.rg_outline_meaning.specs.Programs.{ProgramStandsFor}
 use Rattle.rg_outline_reports.specs.declared.files.NoFiles.{NoFiles}
 use Rattle.rg_outline_reports.specs.declared.files.OutlineSource.{OutlineSource}
 use Rattle.rg_outline_reports.specs.declared.outlined.Outlined.{Outlined}
+use Rattle.rg_outline_reports.specs.declared.worked_out.Reading.{Reading}
 use Rattle.rg_outline_reports.specs.declared.worked_out.WorkedOut.{WorkedOut}
-use Rattle.rg_outline_reports.specs.WorkedOut.{worked_source, worked_result}
+use Rattle.rg_outline_reports.specs.WorkedOut.{read_source, read_result, worked_source, worked_result, IsExpansionOf}
 use Rattle.rgc_commands.specs.Meant.{as_read, IsMeant, AreMeant, IsUnmeant}
 use Rattle.rgc_commands.specs.Of.{IsWorkedOut}
 use Rattle.rgc_commands.specs.Inner.Meant.{is_memory}
@@ -27,10 +28,14 @@ meant_for_nothing outline outlined e other accepts = λ p s.
     absurd none
 
 -- an outline is taken for what it was worked out to, or refused
-pub taken_as_worked : (outline : OutlineSource) (worked : WorkedOut) → worked_source worked ≡ outline → AreMeant outline (worked_result worked) → IsWorkedOut outline (worked_result worked)
-taken_as_worked outline worked of meant = record { worked = worked; of = of; taken = inl (refl, meant) }
+pub taken_as_worked : (outline : OutlineSource) (reading : Reading) (worked : WorkedOut) → read_source reading ≡ outline → worked_source worked ≡ read_source reading
+    → IsExpansionOf (read_result reading) (worked_result worked) → AreMeant outline (worked_result worked) → IsWorkedOut outline (worked_result worked)
+taken_as_worked outline reading worked read of written meant =
+    record { reading = reading; read = read; worked = worked; of = of ∙ read; written = written; taken = inl (refl, meant) }
 
-pub taken_as_refused : (outline : OutlineSource) (worked : WorkedOut) (none : NoFiles) → worked_source worked ≡ outline → IsUnmeant outline none → IsWorkedOut outline (Err none)
-taken_as_refused outline worked none of unmeant = record { worked = worked; of = of; taken = inr unmeant }
+pub taken_as_refused : (outline : OutlineSource) (reading : Reading) (worked : WorkedOut) (none : NoFiles) → read_source reading ≡ outline → worked_source worked ≡ read_source reading
+    → IsExpansionOf (read_result reading) (worked_result worked) → IsUnmeant outline none → IsWorkedOut outline (Err none)
+taken_as_refused outline reading worked none read of written unmeant =
+    record { reading = reading; read = read; worked = worked; of = of ∙ read; written = written; taken = inr unmeant }
 
 pub ruleset rules = (meant_as_read, meant_for_nothing, taken_as_worked, taken_as_refused)

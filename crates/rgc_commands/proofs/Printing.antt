@@ -6,6 +6,7 @@ use Rattle.std.specs.Borrow.{Bor}
 use Rattle.std.proofs.Math.Logic.{∥∥₁_map}
 use Rattle.rg_tree.specs.Statements.{ProgramTree}
 use Rattle.rg_code.specs.Code.{BlockTree}
+use Rattle.rg_c.specs.Operations.{OperationTree}
 use Rattle.rg_outline_reports.specs.declared.files.OutlineFiles.{OutlineFiles}
 use Rattle.rgc.specs.Pieces.{bytes_of, IsBuiltInPieces}
 use Rattle.rgc_answers.specs.Accepted.{IsOver}
@@ -30,9 +31,10 @@ coded_over (Whole emitted) = ∥∥₁_map emitted.law (lawful_over emitted.prog
 coded_over (Left erased) = ∥∥₁_map erased.law (lawful_over erased.program erased.code)
 
 -- what is printed for the order that a text says is printed for an equal one
-pub printed_for_equal : (form : Shown) (first second : Option (List ℕ)) (lines : List ℕ) (flags : List Bool) (c : Coded) (text : List ℕ)
-    → first ≡ second → IsPrinted form first lines flags c text → IsPrinted form second lines flags c text
-printed_for_equal form first second lines flags c text same printed = subst (λ (priority : Option (List ℕ)). IsPrinted form priority lines flags c text) same printed
+pub printed_for_equal : (form : Shown) (first second : Option (List ℕ)) (lines : List ℕ) (operations : List OperationTree) (flags : List Bool) (c : Coded) (text : List ℕ)
+    → first ≡ second → IsPrinted form first lines operations flags c text → IsPrinted form second lines operations flags c text
+printed_for_equal form first second lines operations flags c text same printed =
+    subst (λ (priority : Option (List ℕ)). IsPrinted form priority lines operations flags c text) same printed
 
 -- what follows of three files
 of_three : (P Q : List ℕ → List (List ℕ) → List (List ℕ) → Type 0) (files : Files) → ((t : List ℕ) (d p : List (List ℕ)) → P t d p → Q t d p) → OfThree files P → OfThree files Q
@@ -46,10 +48,10 @@ of_three P Q files follows = by_files files.text files.derivation files.proofs
 
 -- the text of the code of files
 pub files_code : (names : Option (Bor (List ℕ))) (priority : Option (List ℕ)) (files : Files) (c : Coded) (form : Shown) (text : List ℕ)
-    → OfThree files (λ t d p. IsLeftOfFiles names t d p (coded_program c) (coded_blocks c)) → (flags : List Bool) → AreAmong flags [] → IsPrinted form priority [] flags c text → OfThree files (λ t d p. HasCode (IsLeftOfFiles names t d p) AsInFiles priority form text)
+    → OfThree files (λ t d p. IsLeftOfFiles names t d p (coded_program c) (coded_blocks c)) → (flags : List Bool) → AreAmong flags [] → IsPrinted form priority [] [] flags c text → OfThree files (λ t d p. HasCode (IsLeftOfFiles names t d p) AsInFiles priority form text)
 files_code names priority files c form text left flags among printed =
     of_three (λ t d p. IsLeftOfFiles names t d p (coded_program c) (coded_blocks c)) (λ t d p. HasCode (IsLeftOfFiles names t d p) AsInFiles priority form text) files
-    (λ t d p l. record { coded = c; left = l; over = coded_over c; apart = flags; lines = []; are = (among_none flags among, refl); printed = printed }) left
+    (λ t d p l. record { coded = c; left = l; over = coded_over c; apart = flags; lines = []; operations = []; are = (among_none flags among, refl, refl); printed = printed }) left
 
 -- code of files that is ready to run
 pub ready_files : (names : Option (Bor (List ℕ))) (files : Files) (ready : Ready) (start moves : Option (Bor (List ℕ))) (limit : ℕ)

@@ -10,6 +10,7 @@ use Rattle.rg_tree.specs.Lines.{LineTree}
 use Rattle.rg_tree.specs.Statements.{ProgramTree}
 use Rattle.rg_tree.specs.Programs.{IsSatisfied}
 use Rattle.rg_code.specs.Code.{BlockTree}
+use Rattle.rg_c.specs.Operations.{OperationTree}
 use Rattle.rg_clauses.specs.ClauseLists.{Cnf}
 use Rattle.rg_clauses.specs.Conditions.{clauses_of_condition}
 use Rattle.rg_find.specs.Judged.{IsJudged}
@@ -136,23 +137,26 @@ pub record IsLeftOfOutline (names : Option (Bor (List ℕ))) (keeps_aux : Bool) 
   pub built : IsBuiltOutline outline program whole
   pub is_left : IsLeftBy (flags_for program.words names (auxiliary_of keeps_aux outline)) program whole left blocks
 
--- of files: no part is apart from another at a word, so what is printed rests on no assertion; and the lines that are printed are those of the text
-abbrev pub AsInFiles : ProgramTree → List Bool → List ℕ → Type 0
-AsInFiles p apart lines = (apart ≡ []) × (lines ≡ [])
+-- of files: no part is apart from another at a word, so what is printed rests on no assertion; the lines that are printed are those of the text; and no named
+-- statements are used
+abbrev pub AsInFiles : ProgramTree → List Bool → List ℕ → List OperationTree → Type 0
+AsInFiles p apart lines operations = (apart ≡ []) × (lines ≡ []) × (operations ≡ [])
 
--- of an outline: its parts are apart at these words; which of its lines are printed for those of the text isn't said
-abbrev pub AsInOutline : ProgramTree → List Bool → List ℕ → Type 0
-AsInOutline p apart lines = PartsAreApart p apart
+-- of an outline: its parts are apart at these words; which of its lines are printed for those of the text, and where it uses named statements, isn't said
+abbrev pub AsInOutline : ProgramTree → List Bool → List ℕ → List OperationTree → Type 0
+AsInOutline p apart lines operations = PartsAreApart p apart
 
--- the text of code that is left so is printed in this form, its parts interrupting each other so, and being apart so, with lines for those of its text
-pub record HasCode (IsLeft : ProgramTree → List (List BlockTree) → Type 0) (Are : ProgramTree → List Bool → List ℕ → Type 0) (priority : Option (List ℕ)) (form : Shown) (text : List ℕ) : Type 0 where
+-- the text of code that is left so is printed in this form, its parts interrupting each other so, and being apart so, with lines for those of its text, and with
+-- uses of named statements
+pub record HasCode (IsLeft : ProgramTree → List (List BlockTree) → Type 0) (Are : ProgramTree → List Bool → List ℕ → List OperationTree → Type 0) (priority : Option (List ℕ)) (form : Shown) (text : List ℕ) : Type 0 where
   pub coded : Coded
   pub left : IsLeft (coded_program coded) (coded_blocks coded)
   pub over : ∥ IsOver (coded_program coded) (coded_code coded) ∥₁
   pub apart : List Bool
   pub lines : List ℕ
-  pub are : Are (coded_program coded) apart lines
-  pub printed : IsPrinted form priority lines apart coded text
+  pub operations : List OperationTree
+  pub are : Are (coded_program coded) apart lines operations
+  pub printed : IsPrinted form priority lines operations apart coded text
 
 -- code that is left so is ready to run, with a start and with moves where the command names such files
 pub record IsReady {A : Type 0} (IsLeft : ProgramTree → List (List BlockTree) → Type 0) (files : Files) (start moves : Option A) (limit : ℕ) (ready : Ready) : Type 0 where

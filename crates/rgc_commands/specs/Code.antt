@@ -12,6 +12,7 @@ use Rattle.rg_c_plan.specs.Sound.{IsSound}
 use Rattle.rg_c_plan.specs.declared.order.Rank.{Rank}
 use Rattle.rg_c_plan.specs.declared.kind.Kind.{Kind}
 use Rattle.rg_c.specs.Headers.{header_text}
+use Rattle.rg_c.specs.Operations.{OperationTree}
 use Rattle.rg_c_report.specs.Reports.{report_text}
 use Rattle.rgc_answers.specs.Listing.{listing_data}
 use Rattle.rgc_line.specs.declared.command.Format.{Format}
@@ -87,14 +88,15 @@ pub record IsPlan (kinds : List Kind) (order : List (Option Rank)) (apart : List
 abbrev pub IsPlanned : Option (List ℕ) → List (Option Rank) → List Kind → List Bool → ProgramTree → Type 0
 IsPlanned priority order kinds apart p = IsOrdered priority p order × IsPlan kinds order apart p
 
--- a program, whose parts interrupt each other as a text says and are apart at these words, and its code are printed so, with these lines for those of its text
-abbrev pub IsPrintedAs : Shown → Option (List ℕ) → List ℕ → List Bool → ProgramTree → Code → List ℕ → Type 0
-IsPrintedAs listing priority lines apart p code text = text ≡ compact_text (listing_data code) ++ codes "\n"
-IsPrintedAs (header name traced) priority lines apart p code text =
-    (order : List (Option Rank)) × (kinds : List Kind) × IsPlanned priority order kinds apart p × (text ≡ header_text name traced lines order kinds p)
-IsPrintedAs accesses priority lines apart p code text =
+-- a program, whose parts interrupt each other as a text says and are apart at these words, and its code are printed so, with these lines for those of its text,
+-- and these uses of named statements
+abbrev pub IsPrintedAs : Shown → Option (List ℕ) → List ℕ → List OperationTree → List Bool → ProgramTree → Code → List ℕ → Type 0
+IsPrintedAs listing priority lines operations apart p code text = text ≡ compact_text (listing_data code) ++ codes "\n"
+IsPrintedAs (header name traced) priority lines operations apart p code text =
+    (order : List (Option Rank)) × (kinds : List Kind) × IsPlanned priority order kinds apart p × (text ≡ header_text name traced lines operations order kinds p)
+IsPrintedAs accesses priority lines operations apart p code text =
     (order : List (Option Rank)) × (kinds : List Kind) × IsPlanned priority order kinds apart p × (text ≡ report_text p order kinds lines)
 
 -- code is printed so
-abbrev pub IsPrinted : Shown → Option (List ℕ) → List ℕ → List Bool → Coded → List ℕ → Type 0
-IsPrinted form priority lines apart c text = IsPrintedAs form priority lines apart (coded_program c) (coded_code c) text
+abbrev pub IsPrinted : Shown → Option (List ℕ) → List ℕ → List OperationTree → List Bool → Coded → List ℕ → Type 0
+IsPrinted form priority lines operations apart c text = IsPrintedAs form priority lines operations apart (coded_program c) (coded_code c) text

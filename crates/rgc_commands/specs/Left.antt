@@ -36,7 +36,7 @@ pub record CantBeErased (erased : List Bool) (p : ProgramTree) (places lines : L
   pub some : list_any (λ b. b) erased ≡ true
   pub fault : Fault
   pub is : fault_of erased p ≡ Some fault
-  pub told : lines ≡ fault_line p.words places fault
+  pub line_is : lines ≡ fault_line p.words places fault
 
 -- words of a program have to stay: one of the names is that of no word, or those that are named and flagged can't be erased
 abbrev pub HaveToStay : Option (Bor (List ℕ)) → List Bool → ProgramTree → List ℕ → List ℕ → Type 0

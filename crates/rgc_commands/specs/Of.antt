@@ -6,8 +6,9 @@ use Rattle.rg_outline_reports.specs.declared.files.NoFiles.TheVariants.{Reported
 use Rattle.rg_outline_reports.specs.declared.files.OutlineFiles.{OutlineFiles}
 use Rattle.rg_outline_reports.specs.declared.files.OutlineSource.{OutlineSource}
 use Rattle.rg_outline_reports.specs.declared.outlined.Outlined.{Outlined}
+use Rattle.rg_outline_reports.specs.declared.worked_out.Reading.{Reading}
 use Rattle.rg_outline_reports.specs.declared.worked_out.WorkedOut.{WorkedOut}
-use Rattle.rg_outline_reports.specs.WorkedOut.{worked_source, worked_result}
+use Rattle.rg_outline_reports.specs.WorkedOut.{read_source, read_result, worked_source, worked_result, IsExpansionOf}
 use Rattle.rgc.specs.Pieces.{bytes_of}
 use Rattle.rgc_commands.specs.Meant.{AreMeant, IsRefusedAsUnmeant}
 use Rattle.rgc_commands.specs.declared.files.Files.{Files}
@@ -68,14 +69,18 @@ IsRead None file bytes = bytes ≡ None
 IsRead (Some name) (Some found) bytes = bytes ≡ Some found
 IsRead (Some name) None bytes = ⊥
 
--- an outline was worked out to this, and no other outline was; where that is files, the outline stands for the program that their text spells. Or it is
--- refused, as that isn't known
+-- an outline is taken for what it was worked out to, where that is files only if the outline stands for the program that their text spells; or it is refused,
+-- as that isn't known
 abbrev pub IsTaken : OutlineSource → Result Outlined NoFiles → Result Outlined NoFiles → Type 0
 IsTaken outline worked expanded = ((expanded ≡ worked) × AreMeant outline worked) ⊎ IsRefusedAsUnmeant outline expanded
 
+-- an outline was read, what was read of it was worked out, and no other outline was; it is taken for what came out, or refused
 pub record IsWorkedOut (outline : OutlineSource) (expanded : Result Outlined NoFiles) : Type 0 where
+  pub reading : Reading
+  pub read : read_source reading ≡ outline
   pub worked : WorkedOut
   pub of : worked_source worked ≡ outline
+  pub written : IsExpansionOf (read_result reading) (worked_result worked)
   pub taken : IsTaken outline (worked_result worked) expanded
 
 -- the same of the outline of a command, where it is over one

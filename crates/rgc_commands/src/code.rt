@@ -1,10 +1,11 @@
 //! The code that a command is about: of files that are accepted or of an outline that is verified, without the words that are erased.
 
-ghost use Rattle.std.specs.Prelude.{◌≡◌, Bool, true, List, [], string_bytes, IfOk, IfErr};
+ghost use Rattle.std.specs.Prelude.{◌≡◌, Bool, true, List, [], map, string_bytes, IfOk, IfErr};
 ghost use Rattle.std.specs.List.{list_any};
 ghost use Rattle.rg_tree.specs.ProgramTrees.{program as program_tree};
 ghost use Rattle.rg_accept.specs.Stages.{emitted_program, emitted_blocks};
 ghost use Rattle.rg_apart.specs.Laws.{IsLeftOf, PartsAreApart};
+ghost use Rattle.rg_c.specs.View.{operation};
 ghost use Rattle.rgc_commands.specs.Flagged.{flags_for};
 ghost use Rattle.rgc_commands.specs.Code.{AreAmong, coded_program, coded_blocks, is_in_c, IsCodeForm, IsPlan, IsPlanned, IsPrinted, IsPrintedAs, shown, title_of};
 ghost use Rattle.rgc_commands.specs.Left.{IsLeftBy, NamesStranger, CantBeErased, HaveToStay, IsUnplanned, LacksPlan};
@@ -20,6 +21,7 @@ use rg_accept::Emitted;
 use rg_apart::laws::parts_stand_where_they_stood;
 use rg_apart::search::{Search, find_apart};
 use rg_c::header::{Options, header};
+use rg_c::operations::Operation;
 use rg_c_plan::kind::Kind;
 use rg_c_plan::order::Rank;
 use rg_c_plan::plan::plan;
@@ -87,10 +89,14 @@ pub(crate) fn code_form<'a>(alloc: Global, settings: &Settings<'a>) -> Result<Fo
     let name = title_of(settings.prefix);
     let is_traced = settings.is_traced;
     if is_title(alloc, name)? {
-        return Ok(Form::C(Options { name, is_traced }));
+        return Ok(Form::C(Options {
+            name,
+            is_traced,
+            operations: &[],
+        }));
     }
     Err(Stop::Usage(
-        "error: --name takes a letter, and then letters, digits and _, a small letter among them; none that C or its headers may use, and without _run and _round, as functions are named so\n",
+        "error: --name takes a letter, and then letters, digits and _, a small letter among them; none that C or its headers may use, and without _run, _round and _perform, as functions are named so\n",
     ))
 }
 
@@ -294,26 +300,39 @@ fn planned(
     Ok((order, kinds))
 }
 
-/// The text of a checked program, whose parts interrupt each other as a text says and are apart at these words, in a form, with these lines for those of its text.
+/// What an outline has of the text whose code is printed, and files have nothing of: the lines that are printed for those of the text, and the uses of named
+/// statements.
+#[derive(Clone, Copy)]
+pub(crate) struct Origins<'a> {
+    pub lines: &'a [u64],
+    pub operations: &'a [Operation],
+}
+
+/// The text of a checked program, whose parts interrupt each other as a text says and are apart at these words, in a form.
 fn form_text<E: Checked>(
     alloc: Global,
     left: &E,
     priority: Option<&str>,
     apart: &[bool],
-    lines: &[u64],
+    origins: Origins<'_>,
     form: Form<'_>,
 ) -> Result<String, Stop>
     ensures printed { IfOk result (λ text. (some : List Bool) × AreAmong some apart.now
-        × IsPrintedAs (shown form.entry) (said priority.entry) lines.now some (program_tree (E.program_of left.now))
-        (E.code_of left.now) (string_bytes text)) }
+        × IsPrintedAs (shown form.entry) (said priority.entry) origins.entry.lines.now (map operation origins.entry.operations.now) some
+        (program_tree (E.program_of left.now)) (E.code_of left.now) (string_bytes text)) }
     ensures stopped { IfErr result (IsFaultStop (λ report. (is_in_c (shown form.entry) ≡ true)
-        × LacksPlan (said priority.entry) (program_tree (E.program_of left.now)) lines.now report)) }
+        × LacksPlan (said priority.entry) (program_tree (E.program_of left.now)) origins.entry.lines.now report)) }
 {
     let program = left.program();
+    let Origins { lines, operations } = origins;
     match form {
         Form::Listing => Ok(listing_text(alloc, left.code())?),
         Form::C(options) => {
             let (order, kinds) = planned(alloc, program, priority, apart, lines)?;
+            let options = Options {
+                operations,
+                ..options
+            };
             Ok(header(alloc, program, &order, &kinds, lines, &options)?)
         }
         Form::Accesses => {
@@ -323,22 +342,23 @@ fn form_text<E: Checked>(
     }
 }
 
-/// The text of code, whose parts interrupt each other as a text says and are apart at these words, in a form, with these lines for those of its text.
+/// The text of code, whose parts interrupt each other as a text says and are apart at these words, in a form.
 pub(crate) fn code_text(
     alloc: Global,
     code: &Coded,
     priority: Option<&str>,
     apart: &[bool],
-    lines: &[u64],
+    origins: Origins<'_>,
     form: Form<'_>,
 ) -> Result<String, Stop>
     ensures printed { IfOk result (λ text. (some : List Bool) × AreAmong some apart.now
-        × IsPrinted (shown form.entry) (said priority.entry) lines.now some code.now (string_bytes text)) }
+        × IsPrinted (shown form.entry) (said priority.entry) origins.entry.lines.now (map operation origins.entry.operations.now) some code.now
+        (string_bytes text)) }
     ensures stopped { IfErr result (IsFaultStop (λ report. (is_in_c (shown form.entry) ≡ true)
-        × LacksPlan (said priority.entry) (coded_program code.now) lines.now report)) }
+        × LacksPlan (said priority.entry) (coded_program code.now) origins.entry.lines.now report)) }
 {
     match code {
-        Coded::Whole(emitted) => form_text(alloc, emitted, priority, apart, lines, form),
-        Coded::Left(erased) => form_text(alloc, erased, priority, apart, lines, form),
+        Coded::Whole(emitted) => form_text(alloc, emitted, priority, apart, origins, form),
+        Coded::Left(erased) => form_text(alloc, erased, priority, apart, origins, form),
     }
 }

@@ -14,8 +14,9 @@ ghost use Rattle.rgc_commands.specs.Stops.{IsStop, LacksCodeOfOutline};
 ghost use Rattle.rgc_commands.specs.declared.files.Files.{Files as AllFiles};
 
 use crate::answers::{Answer, is_plain};
-use crate::code::{Coded, Form, Ready, code_form, code_text, left_with};
+use crate::code::{Coded, Form, Origins, Ready, code_form, code_text, left_with};
 use crate::files::{Files, inputs, three_files};
+use crate::operations::operations_for;
 use crate::outlines::{MOST_STEPS, expanded_of, outlined_of, prove};
 use crate::priority::priority_for;
 use crate::stops::Stop;
@@ -122,8 +123,13 @@ pub(crate) fn proved_text<R: Threads + Wait + Sync, P: Watcher + Copy>(
         LacksCodeOfOutline settings.now (is_in_c (shown form.entry)) lines outlined.now.files)) }
 {
     let (code, apart, lines) = left_of_outline(context, settings, form, outlined, proved, notes)?;
+    let operations = operations_for(context.alloc, form, outlined, &code)?;
     let priority = priority_for(settings, outlined);
-    code_text(context.alloc, &code, priority, &apart, &lines, form)
+    let origins = Origins {
+        lines: &lines,
+        operations: &operations,
+    };
+    code_text(context.alloc, &code, priority, &apart, origins, form)
 }
 
 /// The text of the code of files, in a form.
@@ -140,7 +146,11 @@ fn files_text<R: Threads + Wait + Sync, P>(
     ensures stopped { IfErr result (IsFilesStop settings.now (is_in_c (shown form.entry)) files.now) }
 {
     let code = left_of_files(context, settings, files, notes)?;
-    code_text(context.alloc, &code, settings.priority, &[], &[], form)
+    let origins = Origins {
+        lines: &[],
+        operations: &[],
+    };
+    code_text(context.alloc, &code, settings.priority, &[], origins, form)
 }
 
 /// The text of the code of an outline, in a form.

@@ -14,6 +14,7 @@ mod files;
 mod given;
 mod meaning;
 mod names;
+mod operations;
 mod outlines;
 mod performed;
 mod priority;

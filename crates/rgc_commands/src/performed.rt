@@ -9,6 +9,8 @@ ghost use Rattle.rgc_commands.specs.Of.{IsOutlineOf};
 ghost use Rattle.rgc_commands.specs.Performed.{HasPerformed, IsBelow, IsDone, IsFirst, IsPerformed, IsReported, IsUnverifiedReported, ReportsRefusal, Writes, answer_status, refusal_status, reported_line};
 ghost use Rattle.rgc_commands.specs.Put.{ArePut};
 ghost use Rattle.rgc_commands.specs.Inner.Reported.{IsPassed};
+ghost use Rattle.rgc_commands.specs.declared.files.Files.{Files as AllFiles};
+ghost use Rattle.rgc_commands.specs.declared.sides.Sides.{Sides as AllSides};
 
 use crate::answered::answer;
 use crate::answers::{Answer, has_succeeded};
@@ -23,7 +25,7 @@ use rg_outline_reports::{Reading, WorkedOut};
 use rg_watch::Watcher;
 use rg_words::{Out, Refusal, RefusalNumber, write_all};
 use rgc_answers::{Context, reason, refusal_json};
-use rgc_line::{Format, Line, Settings};
+use rgc_line::{Command, Format, Line, Settings};
 use std::alloc::{AllocError, Global};
 use std::sync::Wait;
 use std::thread::Threads;
@@ -165,6 +167,21 @@ fn first_of<'a>(answer: &'a Answer<'_>, passed: &'a str) -> &'a str
     }
 }
 
+/// Puts the pieces of proofs beside the output of `prove`, on which they stand one after another.
+fn put_proofs(command: Command<'_>, answer: Answer<'_>, sides: &mut Sides)
+    ensures { (files : AllFiles) → (before : AllSides) →
+        ArePut command.entry files before sides.old → ArePut command.entry files before sides.new }
+{
+    match answer {
+        Answer::Proved(_, pieces) => {
+            if matches!(command, Command::Prove { .. }) {
+                sides.proofs = pieces;
+            }
+        }
+        other => drop(other),
+    }
+}
+
 /// The status of an answer that went out.
 fn answer_status(answer: &Answer<'_>) -> u8
     ensures high { result ≤ 1 }
@@ -282,7 +299,7 @@ fn carry_out<R: Threads + Wait + Sync, W: Out, F: Out, P: Watcher + Copy + Sync>
         Ok(passed) => {
             report_both(first_of(&answer, &passed).as_bytes(), &notes, faults);
             let status = answer_status(&answer);
-            drop(answer);
+            put_proofs(line.command, answer, sides);
             status
         }
         Err(refusal) => {

@@ -15,7 +15,7 @@ pub struct Sides {
     pub derivation: Vec<u8>,
     /// The places of the derivation at which a further piece of it begins.
     pub cuts: Vec<usize>,
-    /// The pieces of the proofs that were found of it.
+    /// The pieces of the proofs that were found of it, or by `prove`.
     pub proofs: Vec<String>,
     /// Which place of the outline each line of its derivation and each condition comes from.
     pub map: Vec<u8>,

@@ -37,7 +37,7 @@ fn is_free(alloc: Global, name: &str) -> Result<bool, AllocError>
 }
 
 /// Whether a header of C may be printed under a name: a letter, and then letters, digits and `_`, nothing that C or its headers have a use for, and without
-/// `_run` and `_round`, which stand in the names of its functions.
+/// `_run`, `_round` and `_perform`, which stand in the names of its functions.
 ///
 /// An error comes only where memory was refused.
 pub fn is_title(alloc: Global, name: &str) -> Result<bool, AllocError>

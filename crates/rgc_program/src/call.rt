@@ -8,8 +8,8 @@ use rg_words::{Buffered, Out, write_all};
 use rgc_commands::{Context, Given, Sides, perform};
 use rgc_line::{Command, Format, Line, PLAIN};
 use rgc_system::{
-    Kind, Memory, Output, Screen, Terminal, Time, can_hold, cut_proofs, is_coloured, print_painted,
-    report, report_failure, report_largest, write_outputs, write_pieces,
+    Kind, Memory, Output, Screen, Terminal, Time, can_hold, is_coloured, print_painted, report,
+    report_failure, report_largest, slices_of, write_outputs, write_pieces,
 };
 use std::alloc::AllocError;
 use std::io::IsTerminal;
@@ -140,13 +140,17 @@ fn written<R: Threads + Wait + Sync>(
     call: &Call<'_, '_, '_, R>,
     line: &Line<'_>,
     files: &Given<'_>,
+    sides: &Sides,
     bytes: &[u8],
     status: u8,
 ) -> Result<u8, AllocError> {
     let rt = call.rt;
     let format = line.settings.format;
     match (line.settings.output, line.command) {
-        (Some(_), Command::Prove { .. }) if status == 0 => write_proofs(call, line, files, bytes),
+        (Some(_), Command::Prove { .. }) if status == 0 => match format {
+            Format::Plain => write_proofs(call, line, files, &sides.proofs),
+            Format::Json => write_pieces(rt, call.outputs, &[bytes], "output"),
+        },
         (Some(name), _) if status == 0 => write_outputs(
             rt,
             &[Output {
@@ -209,15 +213,15 @@ fn condition_names<R: Threads + Wait + Sync>(
     Vec::from_slice(alloc, names.bytes())
 }
 
-/// Writes proofs to the files that the output goes to, where these can hold them; the status.
+/// Writes proofs, of which these are the pieces, to the files that the output goes to, where these can hold them; the status.
 fn write_proofs<R: Threads + Wait + Sync>(
     call: &Call<'_, '_, '_, R>,
     line: &Line<'_>,
     files: &Given<'_>,
-    proofs: &[u8],
+    proofs: &[String],
 ) -> Result<u8, AllocError> {
     let rt = call.rt;
-    let pieces = cut_proofs(rt.alloc(), proofs)?;
+    let pieces = slices_of(rt.alloc(), proofs)?;
     if can_hold(rt, call.outputs, &pieces, "output") {
         return write_pieces(rt, call.outputs, &pieces, "output");
     }
@@ -235,22 +239,6 @@ pub(crate) fn report_faults(rt: &HostRuntime, line: &Line<'_>, status: u8, fault
     status
 }
 
-/// Writes the output and the faults of a command, which stand in memory; the status.
-fn write_memory<R: Threads + Wait + Sync>(
-    call: &Call<'_, '_, '_, R>,
-    line: &Line<'_>,
-    files: &Given<'_>,
-    status: u8,
-    out: &Memory,
-    faults: &Memory,
-) -> Result<u8, AllocError> {
-    if out.is_refused() || faults.is_refused() {
-        return Err(AllocError);
-    }
-    let status = written(call, line, files, out.bytes(), status)?;
-    Ok(report_faults(call.rt, line, status, faults.bytes()))
-}
-
 /// Does the command with its output and its faults in memory, and writes these; the status.
 fn whole<R: Threads + Wait + Sync>(
     call: &Call<'_, '_, '_, R>,
@@ -262,7 +250,11 @@ fn whole<R: Threads + Wait + Sync>(
     let mut out = Memory::new(rt.alloc());
     let mut faults = Memory::new(rt.alloc());
     let status = performed(call, line, files, &mut out, &mut faults, sides);
-    write_memory(call, line, files, status, &out, &faults)
+    if out.is_refused() || faults.is_refused() {
+        return Err(AllocError);
+    }
+    let status = written(call, line, files, sides, out.bytes(), status)?;
+    Ok(report_faults(rt, line, status, faults.bytes()))
 }
 
 /// Does the command over its files, and writes what it printed; the status. What it writes beside that is put into `sides`.

@@ -19,7 +19,7 @@ pub use faults::{report, report_failure};
 pub use input::{INPUT, read};
 pub use largest::{Kind, report_largest};
 pub use memory::Memory;
-pub use pieces::{can_hold, cut_proofs, slices_of};
+pub use pieces::{can_hold, slices_of};
 pub use place::{INPUT_FILE, Identity, identity_of};
 pub use replace::{Output, add_output, add_pieces, write_outputs, write_pieces};
 pub use screen::Screen;

@@ -1,7 +1,6 @@
 //! How a derivation, or proofs, that are too long for one file are cut into pieces, each for a file of its own.
 
 use itoa::Buffer;
-use rg_words::limits::MOST_PROOF_BYTES;
 use std::alloc::{AllocError, Global};
 
 /// How the head of a section of proofs begins.
@@ -11,37 +10,6 @@ pub const SECTION: &[u8] = b"section ";
 pub fn begins_line(bytes: &[u8], place: usize, head: &[u8]) -> bool {
     let (before, rest) = bytes.split_at(place.min(bytes.len()));
     rest.starts_with(head) && (before.is_empty() || before.ends_with(b"\n"))
-}
-
-/// The last place, up to the limit of a file, at which a section begins; none where there is none after the first byte.
-fn last_section(bytes: &[u8]) -> Option<usize> {
-    let most = MOST_PROOF_BYTES.min(bytes.len());
-    for back in 0..most {
-        let place = most - back;
-        if begins_line(bytes, place, SECTION) {
-            return Some(place);
-        }
-    }
-    None
-}
-
-/// Proofs in pieces that are no longer than a file may be, each of whole sections.
-pub fn cut_proofs(alloc: Global, bytes: &[u8]) -> Result<Vec<&[u8]>, AllocError> {
-    let mut pieces = Vec::new(alloc);
-    let mut rest = bytes;
-    for _ in 0..bytes.len() {
-        if rest.len() <= MOST_PROOF_BYTES {
-            break;
-        }
-        let Some(place) = last_section(rest) else {
-            break;
-        };
-        let (piece, after) = rest.split_at(place.min(rest.len()));
-        pieces.push(piece)?;
-        rest = after;
-    }
-    pieces.push(rest)?;
-    Ok(pieces)
 }
 
 /// Whether there are as many files as pieces or more; else it is reported how many are needed.

@@ -25,8 +25,9 @@ returns-clause-text g c =
       over = coded_over c.in_ok-code.code;
       apart = printed.0;
       lines = _;
-      are = apart_at_fewer _ printed.0 c.in_ok-code.apart.items (subst (λ (those : List Bool). AreAmong printed.0 those) c.deref.ensures.value printed.1) c.in_ok-code.ensures.apart;
-      printed = printed_for_equal (shown c.args.form) _ _ _ printed.0 c.in_ok-code.code (string_bytes text) c.priority_for-priority.ensures printed.2;
+      operations = _;
+      are = apart_at_fewer _ printed.0 c.in_ok-code.apart.items (subst (λ (those : List Bool). AreAmong printed.0 those) c.deref-3.ensures.value printed.1) c.in_ok-code.ensures.apart;
+      printed = printed_for_equal (shown c.args.form) _ _ _ _ printed.0 c.in_ok-code.code (string_bytes text) c.priority_for-priority.ensures printed.2;
     }) c.code_text.ensures.printed
 
 pub returns-clause-stopped : goal.returns-clause-stopped

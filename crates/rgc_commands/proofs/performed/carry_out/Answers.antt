@@ -12,4 +12,4 @@ returns-in-Ok-deliver-clause-done g c = λ zero. record {
 }
 
 pub returns-in-Ok-deliver-clause-sides : goal.returns-in-Ok-deliver-clause-sides
-returns-in-Ok-deliver-clause-sides g c = λ zero. c.in-Ok.ensures.put
+returns-in-Ok-deliver-clause-sides g c = λ zero. c.put_proofs.ensures c.args.files.now c.args.sides.now c.in-Ok.ensures.put

@@ -7,7 +7,7 @@ use Rattle.std.proofs.lemmas.Result.{IfOk-weaker}
 use Rattle.rg_tree.specs.View.{expression, formula}
 use Rattle.rg_outline_syntax.specs.declared.written.ExpressionKind.TheVariants.{Name, Unchanged, UnchangedBut, Bound, Compare, Operate}
 use Rattle.rg_outline_meaning.specs.Meanings.{Meaning, whole, value, claim, same_word, IsConjunction, IsUsed}
-use Rattle.rg_outline_meaning.specs.Names.{text_of, listed, piece_of, parameters_of, tree, IsMadeSo, Knows, Binds, with_number, inside, bound_to}
+use Rattle.rg_outline_meaning.specs.Names.{text_of, listed, piece_of, parameters_of, tree, HasKind, Knows, Binds, with_number, inside, bound_to}
 use Rattle.rg_outline_meaning.specs.Members.{numbers, without}
 use Rattle.rg_outline_meaning.specs.Expressions as rule
 use Rattle.rg_outline_meaning.specs.Expressions.{StandsFor, AllStandFor, WordsStandFor, InstancesStandFor, RangeIs, IsUnchanged, no_words, none}
@@ -80,7 +80,7 @@ claim-returns-in_ok-second-in-Compare t c =
     let ws = words c.args.self.now in
     let ns = names c.args.self.now c.args.names.now in
     let k = c.in-Compare in
-    let made : IsMadeSo o c.args.index (Compare k.comparison k.left k.right) = subst (λ kind. IsMadeSo o c.args.index kind) k.is c.in_ok-inner.ensures in
+    let made : HasKind o c.args.index (Compare k.comparison k.left k.right) = subst (λ kind. HasKind o c.args.index kind) k.is c.in_ok-inner.ensures in
     IfOk-weaker c.compared.result _ _
     (λ p is. rule.comparison ns c.args.index k.left k.right k.comparison (meaning c.in_ok-first-in-Compare.first) (meaning c.in_ok-second-in-Compare.second) (formula p) made c.in_ok-first-in-Compare.ensures c.in_ok-second-in-Compare.ensures is)
     c.compared.ensures
@@ -91,7 +91,7 @@ claim-returns-in_ok-words-in-Unchanged t c =
     let ws = words c.args.self.now in
     let ns = names c.args.self.now c.args.names.now in
     let k = c.in-Unchanged in
-    let made : IsMadeSo o c.args.index (Unchanged k.listed) = subst (λ kind. IsMadeSo o c.args.index kind) k.is c.in_ok-inner.ensures in
+    let made : HasKind o c.args.index (Unchanged k.listed) = subst (λ kind. HasKind o c.args.index kind) k.is c.in_ok-inner.ensures in
     IfOk-weaker c.same_words.result _ _
     (λ p is. rule.unchanged ns c.args.index k.listed c.in_ok-words-in-Unchanged.words.items (formula p) made c.in_ok-words-in-Unchanged.ensures (subst (λ ks. IsConjunction (map same_word ks) (formula p)) c.deref.ensures.value is))
     c.same_words.ensures
@@ -102,7 +102,7 @@ claim-returns-in_ok-words-in-UnchangedBut t c =
     let ws = words c.args.self.now in
     let ns = names c.args.self.now c.args.names.now in
     let k = c.in-UnchangedBut in
-    let made : IsMadeSo o c.args.index (UnchangedBut k.listed) = subst (λ kind. IsMadeSo o c.args.index kind) k.is c.in_ok-inner.ensures in
+    let made : HasKind o c.args.index (UnchangedBut k.listed) = subst (λ kind. HasKind o c.args.index kind) k.is c.in_ok-inner.ensures in
     IfOk-weaker c.all_same_but.result _ _
     (λ p is. rule.unchanged_but ns c.args.index k.listed c.in_ok-words-in-UnchangedBut.words.items (formula p) made c.in_ok-words-in-UnchangedBut.ensures (subst (λ ks. IsUnchanged ws ks (formula p)) c.deref-in-UnchangedBut.ensures.value is))
     c.all_same_but.ensures
@@ -149,7 +149,7 @@ collected-returns t c =
     record {
       zs = c.in_ok-numbers.numbers.items;
       ms = so.1;
-      fresh = c.in_ok-want_new.ensures;
+      fresh = c.in_ok-want_unbound.ensures;
       numbers = c.in_ok-numbers.ensures;
       each = subst (λ zs. InstancesStandFor o ws ns i.binder (text_of o i.index) i.body zs so.1) all so.2;
       made = all_together i.binder so.1 (option_map meaning c.loop-number.made) (meaning c.all_of.result) so.3 c.all_of.ensures;
@@ -175,7 +175,7 @@ meaning-returns-in_ok-second-in-Operate t c =
     let ws = words c.args.self.now in
     let ns = names c.args.self.now c.args.names.now in
     let k = c.in-Operate in
-    let made : IsMadeSo o c.args.index (Operate k.operator k.left k.right) = subst (λ kind. IsMadeSo o c.args.index kind) k.is c.in_ok-number.ensures in
+    let made : HasKind o c.args.index (Operate k.operator k.left k.right) = subst (λ kind. HasKind o c.args.index kind) k.is c.in_ok-number.ensures in
     IfOk-weaker c.operated.result _ _
     (λ m is. rule.operation ns c.args.index k.left k.right k.operator (meaning c.in_ok-first-in-Operate.first) (meaning c.in_ok-second-in-Operate.second) (meaning m) made c.in_ok-first-in-Operate.ensures c.in_ok-second-in-Operate.ensures is)
     c.operated.ensures
@@ -186,7 +186,7 @@ meaning-returns-in-Bound t c =
     let ws = words c.args.self.now in
     let ns = names c.args.self.now c.args.names.now in
     let k = c.in-Bound in
-    let made : IsMadeSo o c.args.index (Bound k.binder k.index k.range k.body) = subst (λ kind. IsMadeSo o c.args.index kind) k.is c.in_ok-number.ensures in
+    let made : HasKind o c.args.index (Bound k.binder k.index k.range k.body) = subst (λ kind. HasKind o c.args.index kind) k.is c.in_ok-number.ensures in
     IfOk-weaker c.collected.result _ _ (λ m h. of_instances o ws ns c.args.index k.binder k.index k.range k.body (meaning m) made h) c.collected.ensures
 
 pub meanings-loop-index-init : goal.meanings-loop-index-init
@@ -211,7 +211,7 @@ named-returns-in-Some t c =
     let n = c.in-Name in
     let there = c.in-Some.ensures.some in
     let m = meaning c.in_ok-copy.copy in
-    let made : IsMadeSo o c.args.index (Name n.name n.listed false n.is_primed) = subst (λ kind. IsMadeSo o c.args.index kind) (n.is ∙ ap (λ b. Name n.name n.listed b n.is_primed) c.if-has_arguments.false) c.in_ok-name.ensures in
+    let made : HasKind o c.args.index (Name n.name n.listed false n.is_primed) = subst (λ kind. HasKind o c.args.index kind) (n.is ∙ ap (λ b. Name n.name n.listed b n.is_primed) c.if-has_arguments.false) c.in_ok-name.ensures in
     let empty : listed o n.listed ≡ [] = sym c.listed.ensures ∙ nothing_left c.listed.result.now c.if-not-is_empty.ensures in
     let binds : Binds ns there.0 (text_of o n.name) m = subst (λ x. Binds ns there.0 (text_of o n.name) x) (sym c.in_ok-copy.ensures) there.1 in
     IfOk-weaker c.used_bound.result _ _
@@ -228,10 +228,10 @@ named-returns-in_ok-meaning-in-Let t c =
     let l = c.in-Let.named in
     let bs = map (bound o) c.in_ok-bound-in-Let.bound.items in
     let m = meaning c.in_ok-meaning-in-Let.meaning in
-    let made : IsMadeSo o c.args.index (Name n.name n.listed n.has_arguments n.is_primed) = subst (λ kind. IsMadeSo o c.args.index kind) n.is c.in_ok-name.ensures in
-    let knows : Knows ns k (text_of o n.name) (tree (parameters_of o l.parameters) l.body) = subst (λ s. Knows ns k (text_of o n.name) (sense o s)) c.in-Let.is c.in-Some-known.ensures.some in
+    let made : HasKind o c.args.index (Name n.name n.listed n.has_arguments n.is_primed) = subst (λ kind. HasKind o c.args.index kind) n.is c.in_ok-name.ensures in
+    let knows : Knows ns k (text_of o n.name) (tree (parameters_of o l.parameters) l.body) = subst (λ s. Knows ns k (text_of o n.name) (sense o s)) c.in-Let.is (c.in-Some-known.ensures.some, c.in-Some-known.ensures.free) in
     let given : AreArguments o ws ns (listed o n.listed) (parameters_of o l.parameters) bs = subst (λ ps. AreArguments o ws ns (listed o n.listed) (map (text_of o) ps) bs) (c.piece-parameters.ensures ∙ ap (λ xs. piece_of xs l.parameters) c.as_slice.ensures.value) c.in_ok-bound-in-Let.ensures in
-    let same = before (known o) c.args.self.now.known.items c.args.names.now.known k _ knows in
+    let same = before (known o) c.args.self.now.known.items c.args.names.now.known k _ knows.0 in
     let there : StandsFor o ws (record { known = take k ns.known; bound = bs }) l.body m = subst (λ xs. StandsFor o ws (record { known = xs; bound = bs }) l.body m) same c.in_ok-meaning-in-Let.ensures in
     let stands : StandsFor o ws (inside ns k (bound_to (parameters_of o l.parameters) given.0)) l.body m = subst (λ b. StandsFor o ws (record { known = take k ns.known; bound = b }) l.body m) given.3 there in
     IfOk-weaker c.used.result _ _
@@ -245,7 +245,7 @@ named-returns-in_ok-value_of-in-Family t c =
     let ns = names c.args.self.now c.args.names.now in
     let n = c.in-Name in
     let s = selected c.in_ok-selected-in-Family.selected in
-    let made : IsMadeSo o c.args.index (Name n.name n.listed false n.is_primed) = subst (λ kind. IsMadeSo o c.args.index kind) (cc (n.is, c.if-not-has_arguments.true)) c.in_ok-name.ensures in
+    let made : HasKind o c.args.index (Name n.name n.listed false n.is_primed) = subst (λ kind. HasKind o c.args.index kind) (cc (n.is, c.if-not-has_arguments.true)) c.in_ok-name.ensures in
     IfOk-weaker c.used-in-Family.result _ _
     (λ r is. rule.selection ns c.args.index n.name n.listed n.is_primed s (meaning r) made c.in_ok-selected-in-Family.ensures (subst (λ e. IsUsed n.is_primed (value e) (meaning r)) c.in_ok-value_of-in-Family.ensures is))
     c.used-in-Family.ensures
@@ -256,10 +256,10 @@ named-returns-in-Number t c =
     let ws = words c.args.self.now in
     let ns = names c.args.self.now c.args.names.now in
     let n = c.in-Name in
-    let made : IsMadeSo o c.args.index (Name n.name n.listed false false) = subst (λ kind. IsMadeSo o c.args.index kind) (cc (n.is, c.if-not-has_arguments-2.true, c.if-not-is_primed.true)) c.in_ok-name.ensures in
+    let made : HasKind o c.args.index (Name n.name n.listed false false) = subst (λ kind. HasKind o c.args.index kind) (cc (n.is, c.if-not-has_arguments-2.true, c.if-not-is_primed.true)) c.in_ok-name.ensures in
     let empty : listed o n.listed ≡ [] = sym c.listed-then-not-is_primed.ensures ∙ nothing_left c.listed-then-not-is_primed.result.now c.if-is_empty.ensures in
     let fits : SFits w128 c.in-Number.number = search rules in
-    subst (λ z. StandsFor o ws ns c.args.index (whole z)) (sym (to_z-of_z w128 c.in-Number.number fits)) (rule.member_number ns c.args.index c.in-Some-known.place n.name n.listed c.in-Number.number made (subst (λ s. Knows ns c.in-Some-known.place (text_of o n.name) (sense o s)) c.in-Number.is c.in-Some-known.ensures.some) empty)
+    subst (λ z. StandsFor o ws ns c.args.index (whole z)) (sym (to_z-of_z w128 c.in-Number.number fits)) (rule.number_of_part ns c.args.index c.in-Some-known.place n.name n.listed c.in-Number.number made (subst (λ s. Knows ns c.in-Some-known.place (text_of o n.name) (sense o s)) c.in-Number.is (c.in-Some-known.ensures.some, c.in-Some-known.ensures.free)) empty)
 
 pub range-returns : goal.range-returns
 range-returns t c =
@@ -296,7 +296,7 @@ words_named-returns t c =
     let ns = names c.args.self.now c.args.names.now in
     let n = c.in-Name-default-default-false-false in
     let zs = c.in_ok-given.given.items in
-    let made : IsMadeSo o c.args.index (Name n.name n.listed false false) = subst (λ kind. IsMadeSo o c.args.index kind) (cc (n.is, n.has_arguments-is, n.is_primed-is)) c.in_ok-kind.ensures in
+    let made : HasKind o c.args.index (Name n.name n.listed false false) = subst (λ kind. HasKind o c.args.index kind) (cc (n.is, n.has_arguments-is, n.is_primed-is)) c.in_ok-kind.ensures in
     let all : AllStandFor o ws ns (listed o n.listed) (map (λ z. whole z) zs) = subst (λ is. AllStandFor o ws ns is (map (λ z. whole z) zs)) c.listed.ensures c.in_ok-given.ensures in
     IfOk-weaker c.words_of.result _ _
     (λ ks h. words_of_name o ws ns c.args.index n.name n.listed zs ks.items made all (rw c.deref.ensures.value at h))

@@ -3,7 +3,7 @@ use Rattle.std.specs.Prelude.{option_map}
 use Rattle.rg_tree.specs.View.{formula}
 use Rattle.rg_outline_syntax.specs.declared.written.ExpressionKind.TheVariants.{Join}
 use Rattle.rg_outline_meaning.specs.Meanings.{Meaning, claim}
-use Rattle.rg_outline_meaning.specs.Names.{text_of, IsMadeSo}
+use Rattle.rg_outline_meaning.specs.Names.{text_of, HasKind}
 use Rattle.rg_outline_meaning.specs.Expressions.{StandsFor, AllStandFor, InstancesStandFor, WordsStandFor}
 use Rattle.rg_outline_meaning.specs.Inner.{Descends}
 use Rattle.rg_outline_meaning.proofs.Collections.{IsCollectedSoFar}
@@ -75,7 +75,7 @@ invariant-arguments-loop-place l =
 -- what the operands so far make stands where the links that are left lead to
 abbrev pub invariant-chain-loop-place : goal.invariant-chain-loop-place
 invariant-chain-loop-place l =
-    (index : ℕ) → IsMadeSo (outline l.self) index (Join l.fn.last.junction l.fn.before l.fn.last.operand) → (node : ℕ) × Descends (outline l.self) index (map (λ k. (k.junction, k.operand)) (take (length l.links.items - l.place) l.links.items)) node × StandsFor (outline l.self) (words l.self) (names l.self l.names) node (claim (formula l.formula))
+    (index : ℕ) → HasKind (outline l.self) index (Join l.fn.last.junction l.fn.before l.fn.last.operand) → (node : ℕ) × Descends (outline l.self) index (map (λ k. (k.junction, k.operand)) (take (length l.links.items - l.place) l.links.items)) node × StandsFor (outline l.self) (words l.self) (names l.self l.names) node (claim (formula l.formula))
 
 -- what the instances so far make
 abbrev pub invariant-collected-loop-number : goal.invariant-collected-loop-number

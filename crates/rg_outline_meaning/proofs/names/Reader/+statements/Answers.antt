@@ -6,7 +6,7 @@ use Rattle.rg_tree.specs.ProgramView.{statement}
 use Rattle.rg_outline_meaning.specs.declared.meaning.Meaning.TheVariants.{Whole}
 use Rattle.rg_outline_meaning.specs.declared.names.Bound.{Bound}
 use Rattle.rg_outline_syntax.specs.declared.written.ExpressionKind.TheVariants.{Name}
-use Rattle.rg_outline_meaning.specs.Names.{text_of, listed, piece_of, parameters_of, IsMadeSo, Knows, statements}
+use Rattle.rg_outline_meaning.specs.Names.{text_of, listed, piece_of, parameters_of, HasKind, IsAt, IsUnbound, statements}
 use Rattle.rg_outline_meaning.specs.Inner.{AreArguments}
 use Rattle.rg_outline_meaning.specs.View.{outline, words, names, bound}
 use Rattle.rg_outline_meaning.proofs.Placed.{at_place}
@@ -17,7 +17,7 @@ pub items-loop-index-preserved : goal.items-loop-index-preserved
 items-loop-index-preserved t c =
     let r = c.args.self.now in
     let found = c.in-Some-get.ensures.lookup in
-    items_next (outline r) (words r) c.args.kept (names r c.args.names.now) c.listed-index-items.result.now c.loop-index.index-index _ _ c.in-Some-get.item.now c.loop-index.statements.items c.in_ok-own.own.items c.append.new.self.items
+    items_next (outline r) (words r) c.args.waiting_word (names r c.args.names.now) c.listed-index-items.result.now c.loop-index.index-index _ _ c.in-Some-get.item.now c.loop-index.statements.items c.in_ok-own.own.items c.append.new.self.items
     refl c.loop-index-test.true (rw c.deref.ensures.value at (at_place c.deref.result.now _ c.in-Some-get.item.now found.1 found.3.0)) c.in_ok-append.ensures.items c.loop-index.invariant c.in_ok-own.ensures
 
 pub rounds-loop-number-preserved : goal.rounds-loop-number-preserved
@@ -31,15 +31,15 @@ rounds-loop-number-preserved t c =
     let b : Bound = record { name = c.in-For.index; meaning = Whole z } in
     let pushed : c.push.new.self.items ≡ inner.bound.items ++ b ∷ [] = rw (to_z-of_z w128 z fits) at c.in_ok-push.ensures.items in (
       no_more_bound r inner.known n inner.bound.items c.push.new.self.items c.pop.new.self.items b c.push.new.self.len c.loop-number.invariant.0 pushed (omega (arith, c.push.new.self.ok.0)) c.pop.ensures.rest,
-      rounds_next (outline r) (words r) c.args.kept n (names_with r inner.known c.push.new.self.items) (text_of (outline r) c.in-For.index) c.in-For.body c.deref-number-items.result.now k (pos 0) z c.loop-number.statements.items c.in_ok-own.own.items c.append.new.self.items
+      rounds_next (outline r) (words r) c.args.waiting_word n (names_with r inner.known c.push.new.self.items) (text_of (outline r) c.in-For.index) c.in-For.body c.deref-number-items.result.now k (pos 0) z c.loop-number.statements.items c.in_ok-own.own.items c.append.new.self.items
           refl c.loop-number-test.true c.in_ok-append.ensures.items (one_more_bound r inner.known n inner.bound.items c.push.new.self.items b c.loop-number.invariant.0 pushed) c.loop-number.invariant.1 c.in_ok-own.ensures,
     )
 
 pub rounds-returns : goal.rounds-returns
 rounds-returns t c =
     let r = c.args.self.now in
-    of_rounds (outline r) (words r) c.args.kept (names r c.args.names.now) c.args.kind c.in-For.index c.in-For.range c.in-For.body c.in_ok-numbers.numbers.items c.deref-number-items.result.now c.loop-number.number-index (map statement c.loop-number.statements.items)
-    c.in-For.is c.in_ok-want_new.ensures c.in_ok-numbers.ensures c.deref-number-items.ensures.value c.loop-number-test.false c.loop-number.invariant.1
+    of_rounds (outline r) (words r) c.args.waiting_word (names r c.args.names.now) c.args.kind c.in-For.index c.in-For.range c.in-For.body c.in_ok-numbers.numbers.items c.deref-number-items.result.now c.loop-number.number-index (map statement c.loop-number.statements.items)
+    c.in-For.is c.in_ok-want_unbound.ensures c.in_ok-numbers.ensures c.deref-number-items.ensures.value c.loop-number-test.false c.loop-number.invariant.1
 
 pub use_of-returns : goal.use_of-returns
 use_of-returns t c =
@@ -51,9 +51,10 @@ use_of-returns t c =
     let parameters = parameters_of o p.named.parameters in
     let body = listed o p.named.body in
     let bs = c.in_ok-bound.bound.items in
-    let made : IsMadeSo o c.args.used (Name a.name a.listed a.has_arguments false) = search rules in
-    let is_known : Knows n p.place (text_of o a.name) (statements parameters body) = search rules in
+    let made : HasKind o c.args.used (Name a.name a.listed a.has_arguments false) = search rules in
+    let is_at : IsAt n p.place (text_of o a.name) (statements parameters body) = search rules in
+    let is_free : IsUnbound n (text_of o a.name) = search rules in
     let same : map (text_of o) c.piece-parameters.result.now ≡ parameters = ap (λ ss. map (text_of o) ss) (c.piece-parameters.ensures ∙ ap (λ xs. piece_of xs p.named.parameters) c.as_slice.ensures.value) in
     let given : AreArguments o (words r) n (listed o a.listed) parameters (map (bound o) bs) = subst (λ ps. AreArguments o (words r) n (listed o a.listed) ps (map (bound o) bs)) same c.in_ok-bound.ensures in
-    let inner = inside_names r c.args.names.now.known p.place bs c.args.names.now.bound.items _ _ is_known given.3 in
-    IfOk-weaker c.items.result _ _ (λ ss all. of_use o (words r) c.args.kept n (names_with r p.place bs) c.args.used p.place a.name a.listed a.has_arguments parameters body given.0 (map statement ss.items) made is_known given.1 given.2 inner all) c.items.ensures
+    let inner = inside_names r c.args.names.now.known p.place bs c.args.names.now.bound.items _ _ is_at given.3 in
+    IfOk-weaker c.items.result _ _ (λ ss all. of_use o (words r) c.args.waiting_word n (names_with r p.place bs) c.args.used p.place a.name a.listed a.has_arguments parameters body given.0 (map statement ss.items) made (is_at, is_free) given.1 given.2 inner all) c.items.ensures

@@ -26,8 +26,8 @@ decreases-item l = l.depth * 10 + 3
 
 -- those so far
 abbrev pub invariant-items-loop-index : goal.invariant-items-loop-index
-invariant-items-loop-index l = ItemsStandFor (outline l.self) (words l.self) l.kept (names l.self l.names) (take l.index-index l.index-items) (map statement l.statements.items)
+invariant-items-loop-index l = ItemsStandFor (outline l.self) (words l.self) l.waiting_word (names l.self l.names) (take l.index-index l.index-items) (map statement l.statements.items)
 
 -- the rounds so far, and the names as they were
 abbrev pub invariant-rounds-loop-number : goal.invariant-rounds-loop-number
-invariant-rounds-loop-number l = (names l.self l.inner ≡ names l.self l.names) × RoundsStandFor (outline l.self) (words l.self) l.kept (names l.self l.names) (text_of (outline l.self) l.index) l.body (take l.number-index l.number-items) (map statement l.statements.items)
+invariant-rounds-loop-number l = (names l.self l.inner ≡ names l.self l.names) × RoundsStandFor (outline l.self) (words l.self) l.waiting_word (names l.self l.names) (text_of (outline l.self) l.index) l.body (take l.number-index l.number-items) (map statement l.statements.items)

@@ -6,12 +6,13 @@ use Rattle.std.proofs.lemmas.List.{length-map}
 use Rattle.rg_tree.specs.View.{expression}
 use Rattle.rg_outline_meaning.specs.Meanings.{whole}
 use Rattle.rg_outline_meaning.specs.Names.{text_of, listed}
-use Rattle.rg_outline_meaning.specs.Members.{numbers, fits, AreWithin, IsMember, AreChoices}
+use Rattle.rg_outline_meaning.specs.Members.{numbers, fits, AreWithin, IsMember}
 use Rattle.rg_outline_meaning.specs.Expressions as rule
 use Rattle.rg_outline_meaning.specs.Expressions.{AllStandFor}
-use Rattle.rg_outline_meaning.specs.View.{meaning, choice, outline, words, names}
-use Rattle.rg_outline_meaning.specs.Inner.{AreIndices}
+use Rattle.rg_outline_meaning.specs.View.{meaning, candidate, outline, words, names}
+use Rattle.rg_outline_meaning.specs.Inner.{AreIndices, AreCandidatesAt}
 use Rattle.rg_outline_meaning.proofs.Placed.{at_place}
+use Rattle.rg_outline_meaning.proofs.Several.{several_at}
 use Rattle.rg_outline_meaning.proofs.Indices.{as_many}
 use Rattle.rg_outline_meaning.proofs.names.Reader.select.Goals as goal
 
@@ -54,10 +55,10 @@ returns c = λ all.
     let least : SFits w128 range.0 = search rules in
     let most : SFits w128 range.1 = search rules in
     let numbered : c.in_ok-all-in-Some.all.items ≡ numbers range.0 range.1 = rw (to_z-of_z w128 range.0 least, to_z-of_z w128 range.1 most) at c.in_ok-all-in-Some.ensures in
-    let placed : AreChoices ws name zs place (filter (fits width) c.deref-in-Some-2.result.now) (map choice made) = subst (λ is. AreChoices ws name is place (filter (fits width) c.deref-in-Some-2.result.now) (map choice made)) c.deref-in-Some.ensures.value c.in_ok-members-in-Some.ensures in
-    let chosen : AreChoices ws name zs place (filter (fits width) (numbers range.0 range.1)) (map choice made) = subst (λ xs. AreChoices ws name zs place (filter (fits width) xs) (map choice made)) (c.deref-in-Some-2.ensures.value ∙ numbered) placed in
+    let placed : AreCandidatesAt ws name zs place (filter (fits width) c.deref-in-Some-2.result.now) (map candidate made) = subst (λ is. AreCandidatesAt ws name is place (filter (fits width) c.deref-in-Some-2.result.now) (map candidate made)) c.deref-in-Some.ensures.value c.in_ok-members-in-Some.ensures in
+    let chosen : AreCandidatesAt ws name zs place (filter (fits width) (numbers range.0 range.1)) (map candidate made) = subst (λ xs. AreCandidatesAt ws name zs place (filter (fits width) xs) (map candidate made)) (c.deref-in-Some-2.ensures.value ∙ numbered) placed in
     let split : made ≡ c.in-Some-split_first.first.now ∷ c.in_ok-rest-in-Some.rest.items = sym c.deref-in-Some-3.ensures.value ∙ c.in-Some-split_first.ensures.cases.0 ∙ ap (λ xs. c.in-Some-split_first.first.now ∷ xs) (sym c.in_ok-rest-in-Some.ensures.items) in
-    rule.several ns c.in_ok-ranges.field-0-0 place first.0 c.args.name c.args.listed ranges zs e range width (choice c.in-Some-split_first.first.now) (map choice c.in_ok-rest-in-Some.rest.items) c.in_ok-ranges.ensures
+    several_at o ws ns c.in_ok-ranges.field-0-0 place first.0 c.args.name c.args.listed ranges zs e range width (candidate c.in-Some-split_first.first.now) (map candidate c.in_ok-rest-in-Some.rest.items) c.in_ok-ranges.ensures
     (subst (λ xs. AllStandFor o ws ns (listed o c.args.listed) xs) are.1 all) count
     (subst (λ is. AreWithin ranges is) c.deref.ensures.value c.in_ok-want_within.ensures) at first.1 first.2
-    (subst (λ xs. AreChoices ws name zs place (filter (fits width) (numbers range.0 range.1)) (map choice xs)) split chosen)
+    (subst (λ xs. AreCandidatesAt ws name zs place (filter (fits width) (numbers range.0 range.1)) (map candidate xs)) split chosen)

@@ -14,4 +14,4 @@ returns-clause-part c =
     let t = c.args.part.now in
     let same = c.in_ok-owned.ensures.same in
     part_known (outline r) (words r) (knowns r) (knowns s) p (member_name (text_of (outline r) p.name) c.args.indices.now) (part t) c.in_ok-owned.owned c.in_ok-want_name.ensures c.in_ok-owned.ensures.owned
-    (body_known (outline r) (outline s) (words r) (words s) c.in_ok-owned.owned c.kept-kept.result (of_outline (knowns s)) p.body (bare_statement (statement t.body)) same.0 same.1 c.kept-kept.ensures c.in_ok-want_body.ensures)
+    (body_known (outline r) (outline s) (words r) (words s) c.in_ok-owned.owned c.waiting_word-waiting_word.result (of_outline (knowns s)) p.body (bare_statement (statement t.body)) same.0 same.1 c.waiting_word-waiting_word.ensures c.in_ok-want_body.ensures)

@@ -2,7 +2,7 @@ use Rattle.std.proofs.Common.{◌≡◌, ◌≢◌, sym, ◌∙◌, ap, map, sub
 use Rattle.rg_outline_meaning.specs.Names.{text_of}
 use Rattle.rg_outline_meaning.specs.View.{known, sense, outline}
 use Rattle.rg_outline_meaning.proofs.Placed.{all_next, all_of, placed, same_text, other_text, first_of}
-use Rattle.rg_outline_meaning.proofs.names.Reader.known.Goals as goal
+use Rattle.rg_outline_meaning.proofs.names.Reader.find.Goals as goal
 
 pub returns-then-eq-clause-some : goal.returns-then-eq-clause-some
 returns-then-eq-clause-some c =
