@@ -1,9 +1,9 @@
 -- Elements of lists by their places, and facts of all elements so far.
-use Rattle.std.proofs.Common.{◌≡◌, ◌≢◌, ℕ, ◌+◌, ◌<◌, ◌≤◌, true, false, Bool, sym, ◌∙◌, ap, subst, min, List, [], ◌∷◌, ◌++◌, map, take, length, All, Some, option_map, slice_get, slice_index_or}
+use Rattle.std.proofs.Common.{◌≡◌, ◌≢◌, ℕ, ◌+◌, ◌<◌, ◌≤◌, true, false, sym, ◌∙◌, ap, subst, List, [], ◌∷◌, ◌++◌, map, take, length, All, Some, option_map, slice_get, slice_index_or}
 use Rattle.std.specs.Str.{bytes_eq}
 use Rattle.std.proofs.lemmas.Option.{slice_get-map, slice_get-get_or}
 use Rattle.std.proofs.lemmas.Slice.Eq.{bytes_eq-Decides}
-use Rattle.std.proofs.lemmas.List.{take_more, take_min, take_all, map-append}
+use Rattle.std.proofs.lemmas.List.{take_more, take_all, map-append}
 use Rattle.std.proofs.lemmas.List.Elements.{All-push}
 
 -- the elements up to one, and that one
@@ -31,10 +31,6 @@ same_text xs ys a b p q is = sym p ∙ (bytes_eq-Decides xs ys).0 (sym is) ∙ q
 
 pub other_text : (xs ys a b : List ℕ) → xs ≡ a → ys ≡ b → false ≡ bytes_eq xs ys → a ≢ b
 other_text xs ys a b p q is = λ same. cc (is ∙ (bytes_eq-Decides xs ys).1 (p ∙ same ∙ sym q))
-
--- the first so many, of which there may be fewer
-pub first_of : {X : Type 0} (xs ys : List X) (n m l : ℕ) → xs ≡ ys → m ≡ min n l → l ≡ length xs → take m xs ≡ take n ys
-first_of xs ys n m l same few all = ap (λ k. take k xs) (few ∙ ap (λ k. min n k) all) ∙ take_min n xs ∙ ap (λ zs. take n zs) same
 
 pub at_place : {X : Type 0} (xs : List X) (k : ℕ) (x : X) → x ≡ slice_index_or xs k x → k < length xs → slice_get xs k ≡ Some x
 at_place xs k x is low = slice_get-get_or xs k x low ∙ ap (λ y. Some y) (sym is)

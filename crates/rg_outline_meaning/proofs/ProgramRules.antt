@@ -24,15 +24,15 @@ use Rattle.rg_outline_meaning.specs.Meanings.{claim, IsConjunction}
 use Rattle.rg_outline_meaning.specs.Expressions.{StandsFor, RangeIs, IsUnchanged}
 use Rattle.rg_outline_meaning.specs.Statements.{BlockStandsFor}
 use Rattle.rg_outline_meaning.specs.Programs as rule
-use Rattle.rg_outline_meaning.specs.Programs.{of_outline, known_of, KnownAfter, IsIndexRange, AreIndexRanges, declared_words, AreDeclared, Clauses, with_clause, ClausesStandFor, first_of, first_changing, PartKnows, PartStandsFor, MembersStandFor, PartsStandFor, IsRely, AreSpecified, ProgramStandsFor}
+use Rattle.rg_outline_meaning.specs.Programs.{of_outline, known_of, KnownAfter, IsIndexRange, AreIndexRanges, declared_words, AreDeclared, Clauses, with_clause, ClausesStandFor, first_of, first_changing, PartKnows, PartStandsFor, MembersStandFor, PartsStandFor, IsRely, AreSpecified, OutlineStandsFor}
 use Rattle.rg_outline_meaning.specs.Reading.{ReadsSame, LearnsHead, Declares, with_one, both, IsClauseOf, OwnsFirst, ArePartsOf, IsPartOf, AreMembersOf, PartKnown}
 use Rattle.rg_outline_meaning.specs.View.{outline, known, knowns}
 use Rattle.rg_outline_meaning.specs.declared.names.Known as declared
 use Rattle.rg_outline_meaning.specs.declared.names.Reader.{Reader}
 
 -- all names so far
-pub all_known : (r : Reader) (n : ℕ) (bs : List Bound) → n ≡ length r.known.items → bs ≡ [] → record { known = map (known (outline r)) (take n r.known.items); bound = bs } ≡ of_outline (map (known (outline r)) r.known.items)
-all_known r n bs all none = ap (λ (m : ℕ). record { known = map (known (outline r)) (take m r.known.items); bound = bs }) all ∙ ap (λ (ks : _). record { known = map (known (outline r)) ks; bound = bs }) (take_all (length r.known.items) r.known.items (omega arith)) ∙ ap (λ (xs : List Bound). record { known = map (known (outline r)) r.known.items; bound = xs }) none
+pub none_bound : (ks : List Known) (bs : List Bound) → bs ≡ [] → record { known = ks; bound = bs } ≡ of_outline ks
+none_bound ks bs none = ap (λ (xs : List Bound). record { known = ks; bound = xs }) none
 
 -- a list of some elements
 pub some_of : (zs : List ℤ) (b : Bool) → b ≡ (length zs == 0) → b ≡ false → zs ≢ []
@@ -55,15 +55,14 @@ learned o before all kind k is new others same = (k, is, (new, others), same)
 
 module _ (o : Outline) where
   -- one more head
-  pub heads_from : (before after all : List Known) (h : Head) (hs : List Head) (b : Bool) → LearnsHead o before h.kind after b → KnownAfter o after hs all → KnownAfter o before (h ∷ hs) all
-  heads_from before after all h hs true (k, is, new, same) rest = rule.name_and_more before all h hs k is new (subst (λ ks. KnownAfter o ks hs all) same rest)
-  heads_from before after all h hs false (is, same) rest = rule.other_and_more before all h hs is (subst (λ ks. KnownAfter o ks hs all) same rest)
+  pub heads_from : (before after all : List Known) (h : Head) (hs : List Head) → LearnsHead o before h.kind after true → KnownAfter o after hs all → KnownAfter o before (h ∷ hs) all
+  heads_from before after all h hs (k, is, new, same) rest = rule.name_and_more before all h hs k is new (subst (λ ks. KnownAfter o ks hs all) same rest)
 
-  pub heads_next : (first before after : List Known) (hs : List Head) (k : ℕ) (d : Head) (b : Bool) → k < length hs → ((all : List Known) → KnownAfter o before (drop k hs) all → KnownAfter o first hs all) → LearnsHead o before (slice_index_or hs k d).kind after b → (all : List Known) → KnownAfter o after (drop (k + 1) hs) all → KnownAfter o first hs all
-  heads_next first before after hs k d b low so_far learns all rest = so_far all (rw (drop_more hs k d low) (heads_from before after all (slice_index_or hs k d) (drop (k + 1) hs) b learns rest))
+  pub heads_next : (first before after : List Known) (hs : List Head) (k : ℕ) (d : Head) → k < length hs → ((all : List Known) → KnownAfter o before (drop k hs) all → KnownAfter o first hs all) → LearnsHead o before (slice_index_or hs k d).kind after true → (all : List Known) → KnownAfter o after (drop (k + 1) hs) all → KnownAfter o first hs all
+  heads_next first before after hs k d low so_far learns all rest = so_far all (rw (drop_more hs k d low) (heads_from before after all (slice_index_or hs k d) (drop (k + 1) hs) learns rest))
 
-  pub heads_step : (q : Outline) (first before after : List Known) (hs : List Head) (k : ℕ) (d : Head) (b : Bool) → q ≡ o → k < length hs → ((all : List Known) → KnownAfter o before (drop k hs) all → KnownAfter o first hs all) → LearnsHead q before (slice_index_or hs k d).kind after b → (all : List Known) → KnownAfter o after (drop (k + 1) hs) all → KnownAfter o first hs all
-  heads_step q first before after hs k d b is low so_far learns = heads_next first before after hs k d b low so_far (subst (λ x. LearnsHead x before (slice_index_or hs k d).kind after b) is learns)
+  pub heads_step : (q : Outline) (first before after : List Known) (hs : List Head) (k : ℕ) (d : Head) (b : Bool) → q ≡ o → k < length hs → ((all : List Known) → KnownAfter o before (drop k hs) all → KnownAfter o first hs all) → LearnsHead q before (slice_index_or hs k d).kind after b → b ≡ true → (all : List Known) → KnownAfter o after (drop (k + 1) hs) all → KnownAfter o first hs all
+  heads_step q first before after hs k d b is low so_far learns so = heads_next first before after hs k d low so_far (subst₂ (λ x y. LearnsHead x before (slice_index_or hs k d).kind after y) is so learns)
 
   pub heads_all : (first before : List Known) (hs : List Head) (k : ℕ) → length hs ≤ k → ((all : List Known) → KnownAfter o before (drop k hs) all → KnownAfter o first hs all) → KnownAfter o first hs before
   heads_all first before hs k far so_far = so_far before (rw (at_drop_all (λ xs. xs) hs k far) (rule.no_heads before))
@@ -217,29 +216,29 @@ one_part parts k n p at is =
     rw is (take_more (map part parts) k (part p) (slice_get_within (map part parts) k (part p) there) ∙ ap (λ x. take k (map part parts) ++ x ∷ []) (get_or_from_slice_get (map part parts) k (part p) (part p) there))
 
 module _ (o : Outline) (words : List Word) where
-  pub members_and_one : (before : List Known) (p : PartWritten) (index : List ℕ) (zs : List ℤ) (ts : List PartTree) (z : ℤ) (t : PartTree) → MembersStandFor o words before p index zs ts → PartStandsFor o words (before ++ record { name = index; sense = part_number z } ∷ []) p (member_name (text_of o p.name) (z ∷ [])) t → MembersStandFor o words before p index (zs ++ z ∷ []) (ts ++ t ∷ [])
+  pub members_and_one : (before : List Known) (p : PartWritten) (index : Span) (zs : List ℤ) (ts : List PartTree) (z : ℤ) (t : PartTree) → MembersStandFor o words before p index zs ts → PartStandsFor o words (before ++ record { name = text_of o index; since = index.end; sense = part_number z } ∷ []) p (member_name (text_of o p.name) (z ∷ [])) t → MembersStandFor o words before p index (zs ++ z ∷ []) (ts ++ t ∷ [])
   members_and_one before p index [] [] z t all one = (one, tt)
   members_and_one before p index (y ∷ zs) (u ∷ ts) z t all one = (all.0, members_and_one before p index zs ts z t all.1 one)
   members_and_one before p index [] (u ∷ ts) z t all one = absurd all
   members_and_one before p index (y ∷ zs) [] z t all one = absurd all
 
-  pub members_next : (before inner : List Known) (p : PartWritten) (index : List ℕ) (zs : List ℤ) (k : ℕ) (d z : ℤ) (parts : List Part) (first place next : ℕ) → z ≡ slice_index_or zs k d → k < length zs → AreMembersOf o words before p index (take k zs) parts first place → inner ≡ before ++ record { name = index; sense = part_number z } ∷ [] → IsPartOf o words inner p (z ∷ []) parts place next → AreMembersOf o words before p index (take (k + 1) zs) parts first next
+  pub members_next : (before inner : List Known) (p : PartWritten) (index : Span) (zs : List ℤ) (k : ℕ) (d z : ℤ) (parts : List Part) (first place next : ℕ) → z ≡ slice_index_or zs k d → k < length zs → AreMembersOf o words before p index (take k zs) parts first place → inner ≡ before ++ record { name = text_of o index; since = index.end; sense = part_number z } ∷ [] → IsPartOf o words inner p (z ∷ []) parts place next → AreMembersOf o words before p index (take (k + 1) zs) parts first next
   members_next before inner p index zs k d z parts first place next at low (ts, all, stand) is (t, one, own) = (
     ts ++ t ∷ [],
     one ∙ ap (λ x. x ++ t ∷ []) all ∙ append_assoc (take first (map part parts)) ts (t ∷ []),
     rw (take_more zs k d low, ← at) (members_and_one before p index (take k zs) ts z t stand (subst (λ ks. PartStandsFor o words ks p (member_name (text_of o p.name) (z ∷ [])) t) is own)),
   )
 
-  pub no_members : (before : List Known) (p : PartWritten) (index : List ℕ) (parts : List Part) (first : ℕ) → AreMembersOf o words before p index [] parts first first
+  pub no_members : (before : List Known) (p : PartWritten) (index : Span) (parts : List Part) (first : ℕ) → AreMembersOf o words before p index [] parts first first
   no_members before p index parts first = ([], sym (append-nil (take first (map part parts))), tt)
 
-  pub all_members : (before : List Known) (p : PartWritten) (index : List ℕ) (zs : List ℤ) (k : ℕ) (parts : List Part) (first next : ℕ) → length zs ≤ k → AreMembersOf o words before p index (take k zs) parts first next → AreMembersOf o words before p index zs parts first next
+  pub all_members : (before : List Known) (p : PartWritten) (index : Span) (zs : List ℤ) (k : ℕ) (parts : List Part) (first next : ℕ) → length zs ≤ k → AreMembersOf o words before p index (take k zs) parts first next → AreMembersOf o words before p index zs parts first next
   all_members before p index zs k parts first next far all = subst (λ ys. AreMembersOf o words before p index ys parts first next) (take_all k zs far) all
 
   pub single : (before : List Known) (p : PartWritten) (parts : List Part) (first next : ℕ) → p.index ≡ None → IsPartOf o words before p [] parts first next → ArePartsOf o words before p parts first next
   single before p parts first next none (t, is, own) = (t ∷ [], is, λ ps us rest. rule.part_and_more p ps t us none own rest)
 
-  pub family_of : (before : List Known) (p : PartWritten) (parts : List Part) (first next : ℕ) (index : Span) (range : ℕ) (zs : List ℤ) → p.index ≡ Some (index, range) → IsNew (of_outline before) (text_of o index) → RangeIs o words (of_outline before) range zs → zs ≢ [] → AreMembersOf o words before p (text_of o index) zs parts first next → ArePartsOf o words before p parts first next
+  pub family_of : (before : List Known) (p : PartWritten) (parts : List Part) (first next : ℕ) (index : Span) (range : ℕ) (zs : List ℤ) → p.index ≡ Some (index, range) → IsNew (of_outline before) (text_of o index) → RangeIs o words (of_outline before) range zs → zs ≢ [] → AreMembersOf o words before p index zs parts first next → ArePartsOf o words before p parts first next
   family_of before p parts first next index range zs some new numbers one (ts, is, all) = (ts, is, λ ps us rest. rule.members_and_more p ps index range zs ts us some new numbers one all rest)
 
   pub parts_next : (before : List Known) (ps : List PartWritten) (k : ℕ) (d p : PartWritten) (parts : List Part) (place next : ℕ) → p ≡ slice_index_or ps k d → k < length ps → ((ts : List PartTree) → PartsStandFor o words before (drop k ps) ts → PartsStandFor o words before ps (take place (map part parts) ++ ts)) → ArePartsOf o words before p parts place next → (ts : List PartTree) → PartsStandFor o words before (drop (k + 1) ps) ts → PartsStandFor o words before ps (take next (map part parts) ++ ts)
@@ -279,8 +278,8 @@ pub cut_back : (n : ℕ) (xs before : List Known) (k : Known) → xs ≡ before 
 cut_back n xs before k is all = rw (all, is) (take-append_seam before (k ∷ []))
 
 -- the index of a family of parts is known
-pub index_known : (o q : Outline) (before so_far inner : List Known) (index : Span) (z : ℤ) → inner ≡ so_far ++ record { name = text_of q index; sense = part_number z } ∷ [] → q ≡ o → so_far ≡ before → inner ≡ before ++ record { name = text_of o index; sense = part_number z } ∷ []
-index_known o q before so_far inner index z is same known_is = is ∙ ap (λ (ks : List Known). ks ++ record { name = text_of q index; sense = part_number z } ∷ []) known_is ∙ ap (λ (x : Outline). before ++ record { name = text_of x index; sense = part_number z } ∷ []) same
+pub index_known : (o q : Outline) (before so_far inner : List Known) (index : Span) (z : ℤ) → inner ≡ so_far ++ record { name = text_of q index; since = index.end; sense = part_number z } ∷ [] → q ≡ o → so_far ≡ before → inner ≡ before ++ record { name = text_of o index; since = index.end; sense = part_number z } ∷ []
+index_known o q before so_far inner index z is same known_is = is ∙ ap (λ (ks : List Known). ks ++ record { name = text_of q index; since = index.end; sense = part_number z } ∷ []) known_is ∙ ap (λ (x : Outline). before ++ record { name = text_of x index; since = index.end; sense = part_number z } ∷ []) same
 
 pub program_of : (o q₁ q₂ q₃ : Outline) (p : ProgramTree) (v₁ v₂ v₃ : List Word) (first before all : List Known) (clauses : Clauses) → q₁ ≡ o → q₂ ≡ o → q₃ ≡ o → v₁ ≡ p.words → v₂ ≡ p.words → v₃ ≡ p.words
     → KnownAfter o [] (piece_of o.written.heads.items o.written.before_words) first
@@ -288,7 +287,7 @@ pub program_of : (o q₁ q₂ q₃ : Outline) (p : ProgramTree) (v₁ v₂ v₃ 
     → ClausesStandFor q₂ v₂ before (piece_of q₂.written.heads.items q₂.written.following_words) all clauses
     → AreSpecified v₃ clauses p.spec
     → PartsStandFor q₃ v₃ all q₃.written.parts.items p.parts
-    → ProgramStandsFor o p
+    → OutlineStandsFor o p
 program_of o q₁ q₂ q₃ p v₁ v₂ v₃ first before all clauses o₁ o₂ o₃ w₁ w₂ w₃ names declared given specified parts = record {
   before_words = first;
   with_words = before;

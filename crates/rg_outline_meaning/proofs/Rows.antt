@@ -26,5 +26,5 @@ module _ (o : Outline) (words : List Word) where
   -- words of lists, and those of more
   pub words_and_words : (names : Names) (is js ks ls : List ℕ) → WordsStandFor o words names is ks → WordsStandFor o words names js ls → WordsStandFor o words names (is ++ js) (ks ++ ls)
   words_and_words _ _ js _ ls (no_words names) h = h
-  words_and_words _ _ js _ ls (words_and_more names i k is name l ranges zs ks rest made known given within members others) h =
-      subst (λ ns. WordsStandFor o words names (i ∷ (is ++ js)) ns) (sym (append_assoc ks rest ls)) (words_and_more names i k (is ++ js) name l ranges zs ks (rest ++ ls) made known given within members (words_and_words names is js rest ls others h))
+  words_and_words _ _ js _ ls (words_and_more names i is name l ranges zs ks rest made known given within members others) h =
+      subst (λ ns. WordsStandFor o words names (i ∷ (is ++ js)) ns) (sym (append_assoc ks rest ls)) (words_and_more names i (is ++ js) name l ranges zs ks (rest ++ ls) made known given within members (words_and_words names is js rest ls others h))

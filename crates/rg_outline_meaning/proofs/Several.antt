@@ -43,8 +43,8 @@ cut_meanings zs place e low =
     ∙ ap (λ (xs : List Meaning). wholes (take place zs) ++ value e ∷ xs) (drop-map (λ z. whole z) (suc place) zs)
 
 module _ (o : Outline) (words : List Word) where
-  pub several_at : (names : Names) (k place v : ℕ) (name : Span) (l : written.List) (ranges : List (ℤ × ℤ)) (zs : List ℤ) (e : Expression) (range : ℤ × ℤ) (width : ℕ) (c : Candidate) (cs : List Candidate)
-      → Knows names k (text_of o name) (family ranges)
+  pub several_at : (names : Names) (place v : ℕ) (name : Span) (l : written.List) (ranges : List (ℤ × ℤ)) (zs : List ℤ) (e : Expression) (range : ℤ × ℤ) (width : ℕ) (c : Candidate) (cs : List Candidate)
+      → Knows o names name (family ranges)
       → AllStandFor o words names (listed o l) (slice_set (wholes zs) place (value e))
       → length zs ≡ length ranges
       → AreWithin ranges zs
@@ -53,13 +53,13 @@ module _ (o : Outline) (words : List Word) where
       → slice_get (widths_of words) v ≡ Some width
       → AreCandidatesAt words (text_of o name) zs place (filter (fits width) (numbers range.0 range.1)) (c ∷ cs)
       → Selects o words names name l (among e c cs)
-  several_at names k place v name l ranges zs e range width c cs knows all count within at first wide candidates =
+  several_at names place v name l ranges zs e range width c cs knows all count within at first wide candidates =
       let inside : place < length ranges = slice_get_within ranges place range at in
       let low : place < length zs = omega (arith, count, inside) in
       let cut : ranges ≡ take place ranges ++ range ∷ drop (suc place) ranges = split_at ranges place range inside ∙ ap (λ r. take place ranges ++ r ∷ drop (suc place) ranges) (get_or_from_slice_get ranges place range range at) in
       let before : length (take place zs) ≡ length (take place ranges) = length-take place zs ∙ ap (λ n. min place n) count ∙ sym (length-take place ranges) in
       let after : length (drop (suc place) zs) ≡ length (drop (suc place) ranges) = length-drop (suc place) zs ∙ ap (λ n. n - suc place) count ∙ sym (length-drop (suc place) ranges) in
-      rule.several names k v name l (take place ranges) (drop (suc place) ranges) range (take place zs) (drop (suc place) zs) e width c cs
-      (subst (λ rs. Knows names k (text_of o name) (family rs)) cut knows)
+      rule.several names v name l (take place ranges) (drop (suc place) ranges) range (take place zs) (drop (suc place) zs) e width c cs
+      (subst (λ rs. Knows o names name (family rs)) cut knows)
       (subst (λ ms. AllStandFor o words names (listed o l) ms) (cut_meanings zs place e low) all)
       before after (within_before place ranges zs within) (within_after (suc place) ranges zs within) first wide (candidates_cut words (text_of o name) zs place (filter (fits width) (numbers range.0 range.1)) (c ∷ cs) low candidates)

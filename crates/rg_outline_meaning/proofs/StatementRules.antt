@@ -1,5 +1,5 @@
 -- The rules of statements, with what they stand for up to equations, and rows of statements, one by one.
-use Rattle.std.proofs.Common.{◌≡◌, ◌≢◌, ℕ, zero, suc, ◌+◌, ◌-◌, ◌<◌, ◌≤◌, ℤ, Bool, true, refl, sym, ◌∙◌, ap, subst, List, [], ◌∷◌, ◌++◌, map, take, length, slice_get, slice_index_or, Option, Some, None, false, add-one, ◌==◌, rules as std_rules, tests, arith, length-append}
+use Rattle.std.proofs.Common.{◌≡◌, ◌≢◌, ℕ, ◌+◌, ◌-◌, ◌<◌, ◌≤◌, ℤ, Bool, true, refl, sym, ◌∙◌, ap, subst, List, [], ◌∷◌, ◌++◌, map, take, length, slice_get, slice_index_or, Option, Some, None, false, add-one, ◌==◌, rules as std_rules, tests, arith, length-append}
 use Rattle.std.proofs.lemmas.List.Elements.{All-cons}
 use Rattle.std.proofs.lemmas.List.{map-append, append_assoc, append-nil, take_more, take_all}
 use Rattle.std.proofs.Math.Seq.{take-append_seam}
@@ -18,10 +18,10 @@ use Rattle.rg_outline_syntax.specs.declared.written.ItemKind.{ItemKind}
 use Rattle.rg_outline_syntax.specs.declared.written.ItemKind.TheVariants.{Use, Assign as Assigning, For}
 use Rattle.rg_outline_syntax.specs.declared.written.ExpressionKind.TheVariants.{Name}
 use Rattle.rg_outline_meaning.specs.Meanings.{Meaning, value, value_of}
-use Rattle.rg_outline_meaning.specs.Names.{Outline, text_of, listed, piece_of, HasKind, statements, Known, Bound, Names, Knows, Binds, with_number, inside, bound_to, IsUnbound}
+use Rattle.rg_outline_meaning.specs.Names.{Outline, text_of, listed, piece_of, HasKind, statements, Bound, Names, Knows, Binds, with_number, HasArguments, inside, bound_to, IsUnbound}
 use Rattle.rg_outline_meaning.specs.Members.{Candidate, mentions}
 use Rattle.rg_outline_meaning.specs.Expressions.{AllStandFor, RangeIs, Selected, StandsFor}
-use Rattle.rg_outline_meaning.specs.View.{outline, known, bound}
+use Rattle.rg_outline_meaning.specs.View.{outline, knowns, bound}
 use Rattle.rg_outline_meaning.specs.declared.names.Bound as declared
 use Rattle.rg_outline_meaning.specs.declared.names.Reader.{Reader}
 use Rattle.rg_outline_meaning.specs.Expressions as expressions
@@ -115,37 +115,30 @@ module _ (o : Outline) (words : List Word) (waiting_word : Option ℕ) where
   of_rounds names kind index range body zs xs k ss is new numbers same far rounds =
       rw is (rule.repeated names index range body zs ss new numbers (subst (λ ys. RoundsStandFor o words waiting_word names (text_of o index) body ys ss) (take_all k xs far ∙ same) rounds))
 
-  pub of_use : (names inner : Names) (i k : ℕ) (name : Span) (l : written.List) (has_arguments : Bool) (parameters : List (List ℕ)) (body : List ℕ) (ms : List Meaning) (ss : List Statement) → HasKind o i (Name name l has_arguments false) → Knows names k (text_of o name) (statements parameters body) → AllStandFor o words names (listed o l) ms → length ms ≡ length parameters → inner ≡ inside names k (bound_to parameters ms) → ItemsStandFor o words waiting_word inner body ss → ItemStandsFor o words waiting_word names (Use i) ss
-  of_use names inner i k name l has_arguments parameters body ms ss made known all count is stand = rule.used names i k name l has_arguments parameters body ms ss made known all count (rw is at stand)
+  pub of_use : (names inner : Names) (i : ℕ) (name : Span) (l : written.List) (has_arguments : Bool) (parameters : List (List ℕ)) (body : List ℕ) (ms : List Meaning) (ss : List Statement) → HasKind o i (Name name l has_arguments false) → Knows o names name (statements parameters body) → HasArguments o has_arguments l → AllStandFor o words names (listed o l) ms → length ms ≡ length parameters → inner ≡ inside names (bound_to parameters ms) → ItemsStandFor o words waiting_word inner body ss → ItemStandsFor o words waiting_word names (Use i) ss
+  of_use names inner i name l has_arguments parameters body ms ss made known called all count is stand = rule.used names i name l has_arguments parameters body ms ss made known called all count (rw is at stand)
 
 -- ---- names
 
 -- the names that are known where these are bound
-abbrev pub names_with : Reader → ℕ → List declared.Bound → Names
-names_with r k bs = record { known = map (known (outline r)) (take k r.known.items); bound = map (bound (outline r)) bs }
+abbrev pub names_with : Reader → List declared.Bound → Names
+names_with r bs = record { known = knowns r; bound = map (bound (outline r)) bs }
 
 -- one more is bound
-pub one_more_bound : (r : Reader) (k : ℕ) (n : Names) (old pushed : List declared.Bound) (b : declared.Bound) → names_with r k old ≡ n → pushed ≡ old ++ b ∷ [] → names_with r k pushed ≡ record { known = n.known; bound = n.bound ++ bound (outline r) b ∷ [] }
-one_more_bound r k n old pushed b same is =
-    ap (λ (bs : List declared.Bound). names_with r k bs) is ∙ ap (λ (bs : List Bound). record { known = map (known (outline r)) (take k r.known.items); bound = bs }) (map-append (bound (outline r)) old (b ∷ []))
+pub one_more_bound : (r : Reader) (n : Names) (old pushed : List declared.Bound) (b : declared.Bound) → names_with r old ≡ n → pushed ≡ old ++ b ∷ [] → names_with r pushed ≡ record { known = n.known; bound = n.bound ++ bound (outline r) b ∷ [] }
+one_more_bound r n old pushed b same is =
+    ap (λ (bs : List declared.Bound). names_with r bs) is ∙ ap (λ (bs : List Bound). record { known = knowns r; bound = bs }) (map-append (bound (outline r)) old (b ∷ []))
     ∙ ap (λ (m : Names). record { known = m.known; bound = m.bound ++ bound (outline r) b ∷ [] }) same
 
 -- and no more
-pub no_more_bound : (r : Reader) (k : ℕ) (n : Names) (old pushed new : List declared.Bound) (b : declared.Bound) (len : ℕ) → names_with r k old ≡ n → pushed ≡ old ++ b ∷ [] → len ≡ length pushed → new ≡ take (len - 1) pushed → names_with r k new ≡ n
-no_more_bound r k n old pushed new b len same is all cut =
+pub no_more_bound : (r : Reader) (n : Names) (old pushed new : List declared.Bound) (b : declared.Bound) (len : ℕ) → names_with r old ≡ n → pushed ≡ old ++ b ∷ [] → len ≡ length pushed → new ≡ take (len - 1) pushed → names_with r new ≡ n
+no_more_bound r n old pushed new b len same is all cut =
     let few : len - 1 ≡ length old = omega (arith, all, ap length is, length-append old (b ∷ [])) in
-    ap (λ (bs : List declared.Bound). names_with r k bs) (cut ∙ ap (λ m. take m pushed) few ∙ ap (λ xs. take (length old) xs) is ∙ take-append_seam old (b ∷ [])) ∙ same
+    ap (λ (bs : List declared.Bound). names_with r bs) (cut ∙ ap (λ m. take m pushed) few ∙ ap (λ xs. take (length old) xs) is ∙ take-append_seam old (b ∷ [])) ∙ same
 
--- the names before one of those that are known
-pub known_before : {X Y : Type 0} (f : X → Y) (xs : List X) (n k : ℕ) (y : Y) → slice_get (map f (take n xs)) k ≡ Some y → map f (take k xs) ≡ take k (map f (take n xs))
-known_before f xs n zero y at = refl
-known_before f [] zero (suc k) y at = refl
-known_before f [] (suc n) (suc k) y at = refl
-known_before f (x ∷ xs) zero (suc k) y at = cc
-known_before f (x ∷ xs) (suc n) (suc k) y at = ap (λ ys. f x ∷ ys) (known_before f xs n k y at)
-
-pub inside_names : (r : Reader) (n k : ℕ) (bs : List declared.Bound) (outer : List declared.Bound) (y : Known) (all : List Bound) → slice_get (names_with r n outer).known k ≡ Some y → map (bound (outline r)) bs ≡ all → names_with r k bs ≡ inside (names_with r n outer) k all
-inside_names r n k bs outer y all at is = ap (λ (ks : List Known). record { known = ks; bound = map (bound (outline r)) bs }) (known_before (known (outline r)) r.known.items n k y at) ∙ ap (λ (xs : List Bound). record { known = take k (map (known (outline r)) (take n r.known.items)); bound = xs }) is
+-- those of named statements
+pub inside_names : (r : Reader) (bs : List declared.Bound) (outer : List declared.Bound) (all : List Bound) → map (bound (outline r)) bs ≡ all → names_with r bs ≡ inside (names_with r outer) all
+inside_names r bs outer all is = ap (λ (xs : List Bound). record { known = knowns r; bound = xs }) is
 
 -- none of the members is mentioned
 pub steady : (e : Expression) (c : Candidate) (cs : List Candidate) → mentions c.word e ≡ false → MentionsNone e cs → IsSteady (expressions.among e c cs)

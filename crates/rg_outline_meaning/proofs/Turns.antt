@@ -24,4 +24,4 @@ module _ (o : Outline) (words : List Word) (names : Names) where
   -- the words of one name
   pub words_of_name : (i : ℕ) (name : Span) (l : written.List) (zs : List ℤ) (ks : List ℕ) → HasKind o i (Name name l false false) → AllStandFor o words names (listed o l) (map (λ z. whole z) zs) → AreWordsOf o words names name zs ks → WordsStandFor o words names (i ∷ []) ks
   words_of_name i name l zs ks made all are =
-      subst (λ ls. WordsStandFor o words names (i ∷ []) ls) (append-nil ks) (words_and_more names i are.0 [] name l are.1 zs ks [] made are.2 all are.3 are.4 (no_words names))
+      subst (λ ls. WordsStandFor o words names (i ∷ []) ls) (append-nil ks) (words_and_more names i [] name l are.0 zs ks [] made are.1 all are.2 are.3 (no_words names))

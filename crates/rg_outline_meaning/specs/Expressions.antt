@@ -14,7 +14,7 @@ use Rattle.rg_outline_syntax.specs.declared.written.Operator as operator
 use Rattle.rg_outline_syntax.specs.declared.written.List as written
 use Rattle.rg_outline_syntax.specs.declared.written.ExpressionKind.TheVariants.{Number, Truth, Name, Group, Not, Keeps, Inverse, Unchanged, UnchangedBut, Bound, Choice, Compare, Operate, Join, Imply}
 use Rattle.rg_outline_meaning.specs.Meanings.{Meaning, whole, value, claim, value_of, negated, joined, implied, keeping, operated, comparing, choosing, is_primed, IsUsed, same_word, IsConjunction}
-use Rattle.rg_outline_meaning.specs.Names.{Outline, text_of, listed, parameters_of, HasKind, family, tree, part_number, Names, IsUnbound, Knows, Binds, with_number, inside, bound_to}
+use Rattle.rg_outline_meaning.specs.Names.{Outline, text_of, listed, parameters_of, HasKind, family, tree, part_number, Names, IsUnbound, Knows, Binds, with_number, HasArguments, inside, bound_to}
 use Rattle.rg_outline_meaning.specs.Members.{numbers, without, AreWithin, members, IsMember, AreMembers, first_word, fits, Candidate, AreCandidates, chosen_of}
 
 -- a value: no formula
@@ -154,19 +154,20 @@ mutual
         → IsUsed is_next m r
         → StandsFor o words names i r
     -- the number of a part in its family
-    number_of_part : (names : Names) (i k : ℕ) (name : Span) (l : written.List) (z : ℤ)
+    number_of_part : (names : Names) (i : ℕ) (name : Span) (l : written.List) (z : ℤ)
         → HasKind o i (Name name l false false)
-        → Knows names k (text_of o name) (part_number z)
+        → Knows o names name (part_number z)
         → listed o l ≡ []
         → StandsFor o words names i (whole z)
     -- a name for a tree, with arguments for its parameters
     named : (names : Names)
-        → (i k body : ℕ) (name : Span) (l : written.List) (has_arguments is_next : Bool) (parameters : List (List ℕ)) (ms : List Meaning) (m r : Meaning)
+        → (i body : ℕ) (name : Span) (l : written.List) (has_arguments is_next : Bool) (parameters : List (List ℕ)) (ms : List Meaning) (m r : Meaning)
         → HasKind o i (Name name l has_arguments is_next)
-        → Knows names k (text_of o name) (tree parameters body)
+        → Knows o names name (tree parameters body)
+        → HasArguments o has_arguments l
         → AllStandFor o words names (listed o l) ms
         → length ms ≡ length parameters
-        → StandsFor o words (inside names k (bound_to parameters ms)) body m
+        → StandsFor o words (inside names (bound_to parameters ms)) body m
         → IsUsed is_next m r
         → StandsFor o words names i r
     -- a word, or the member of a family that an index over words chooses
@@ -179,17 +180,17 @@ mutual
   -- what a name with indices selects
   pub data Selects (o : Outline) (words : List Word) : Names → Span → written.List → Selected → Type 0 where
     -- a word, with numbers for its indices
-    single : (names : Names) (k w : ℕ) (name : Span) (l : written.List) (ranges : List (ℤ × ℤ)) (zs : List ℤ)
-        → Knows names k (text_of o name) (family ranges)
+    single : (names : Names) (w : ℕ) (name : Span) (l : written.List) (ranges : List (ℤ × ℤ)) (zs : List ℤ)
+        → Knows o names name (family ranges)
         → AllStandFor o words names (listed o l) (map (λ z. whole z) zs)
         → length zs ≡ length ranges
         → AreWithin ranges zs
         → IsMember words (text_of o name) zs w
         → Selects o words names name l (one w)
     -- the members that one index over words may choose, in the width of the index; the indices before it and after it are numbers
-    several : (names : Names) (k v : ℕ) (name : Span) (l : written.List) (earlier later : List (ℤ × ℤ)) (range : ℤ × ℤ)
+    several : (names : Names) (v : ℕ) (name : Span) (l : written.List) (earlier later : List (ℤ × ℤ)) (range : ℤ × ℤ)
         → (before after : List ℤ) (e : Expression) (width : ℕ) (c : Candidate) (cs : List Candidate)
-        → Knows names k (text_of o name) (family (earlier ++ range ∷ later))
+        → Knows o names name (family (earlier ++ range ∷ later))
         → AllStandFor o words names (listed o l) (map (λ z. whole z) before ++ value e ∷ map (λ z. whole z) after)
         → length before ≡ length earlier
         → length after ≡ length later
@@ -229,9 +230,9 @@ mutual
   -- the words of a list in their order: a family without its last indices stands for all its members with the first ones
   pub data WordsStandFor (o : Outline) (words : List Word) : Names → List ℕ → List ℕ → Type 0 where
     no_words : (names : Names) → WordsStandFor o words names [] []
-    words_and_more : (names : Names) (i k : ℕ) (is : List ℕ) (name : Span) (l : written.List) (ranges : List (ℤ × ℤ)) (zs : List ℤ) (ks rest : List ℕ)
+    words_and_more : (names : Names) (i : ℕ) (is : List ℕ) (name : Span) (l : written.List) (ranges : List (ℤ × ℤ)) (zs : List ℤ) (ks rest : List ℕ)
         → HasKind o i (Name name l false false)
-        → Knows names k (text_of o name) (family ranges)
+        → Knows o names name (family ranges)
         → AllStandFor o words names (listed o l) (map (λ z. whole z) zs)
         → AreWithin ranges zs
         → AreMembers words (text_of o name) (members (drop (length zs) ranges) (zs ∷ [])) ks

@@ -42,8 +42,8 @@ of_all b (Some m) = m
 -- the words of a family with these first indices
 abbrev pub AreWordsOf : Outline → List Word → Names → Span → List ℤ → List ℕ → Type 0
 AreWordsOf o words names name zs ks =
-    (k : ℕ) × (ranges : List (ℤ × ℤ))
-    × Knows names k (text_of o name) (family ranges)
+    (ranges : List (ℤ × ℤ))
+    × Knows o names name (family ranges)
     × AreWithin ranges zs
     × AreMembers words (text_of o name) (members (drop (length zs) ranges) (zs ∷ [])) ks
 

@@ -1,5 +1,7 @@
--- Names of an outline, and what they stand for.
-use Rattle.std.specs.Prelude.{◌≡◌, ◌≢◌, ℕ, ◌-◌, ℤ, List, [], ◌∷◌, ◌++◌, length, take, drop, map, All, Some, slice_get}
+-- Names of an outline, and what they stand for. A name of the outline or of a part is new where it is declared, and known from there on, in the order of the
+-- bytes. A parameter or an index is known in its tree alone, and there it goes before a name that is the same. The tree of a name, and its statements, know no
+-- parameters and indices but their own.
+use Rattle.std.specs.Prelude.{◌≡◌, ◌≢◌, ℕ, ◌-◌, ◌≤◌, ℤ, Bool, false, List, [], ◌∷◌, ◌++◌, take, drop, map, All, Some, slice_get}
 use Rattle.rg_outline_syntax.specs.declared.span.Span.{Span}
 use Rattle.rg_outline_syntax.specs.declared.written.List as written
 use Rattle.rg_outline_syntax.specs.declared.written.Written.{Written}
@@ -38,8 +40,10 @@ pub data Sense : Type 0 where
   statements : List (List ℕ) → List ℕ → Sense
   part_number : ℤ → Sense
 
+-- with the place of the outline after which it is known
 pub record Known : Type 0 where
   pub name : List ℕ
+  pub since : ℕ
   pub sense : Sense
 
 -- a parameter or an index
@@ -72,14 +76,16 @@ parameters_in (tree parameters body) = parameters
 parameters_in (statements parameters body) = parameters
 parameters_in (part_number z) = []
 
--- the name at a place of those of the outline and the part
-abbrev pub IsAt : Names → ℕ → List ℕ → Sense → Type 0
-IsAt names k name sense = slice_get names.known k ≡ Some (record { name = name; sense = sense })
+-- a name of the outline or the part stands for this
+abbrev pub IsAmong : List Known → List ℕ → ℕ → Sense → Type 0
+IsAmong known name since sense = (k : ℕ) × (slice_get known k ≡ Some (record { name = name; since = since; sense = sense }))
 
--- what such a name stands for, with its place: a parameter or an index that is called so goes before it. This happens where a file that is used has a
--- parameter or an index with the name of a word of the file that uses it
-abbrev pub Knows : Names → ℕ → List ℕ → Sense → Type 0
-Knows names k name sense = IsAt names k name sense × IsUnbound names name
+-- the same where it is used: after its declaration, and not where a parameter or an index is called so. The bytes of used files stand first, so that they may
+-- have a parameter with the name of a word of the file that uses them
+abbrev pub Knows : Outline → Names → Span → Sense → Type 0
+Knows o names name sense =
+    ((since : ℕ) × IsAmong names.known (text_of o name) since sense × (since ≤ name.start))
+    × IsUnbound names (text_of o name)
 
 -- the name at a place of the parameters and indices
 abbrev pub Binds : Names → ℕ → List ℕ → Meaning → Type 0
@@ -89,9 +95,13 @@ Binds names k name m = slice_get names.bound k ≡ Some (record { name = name; m
 abbrev pub with_number : Names → List ℕ → ℤ → Names
 with_number names name z = record { known = names.known; bound = names.bound ++ record { name = name; meaning = whole z } ∷ [] }
 
--- what is known in the tree of a name at a place: the names before it, and its parameters
-abbrev pub inside : Names → ℕ → List Bound → Names
-inside names k bound = record { known = take k names.known; bound = bound }
+-- arguments stand in `(..)`: what stands in `[..]` are indices
+abbrev pub HasArguments : Outline → Bool → written.List → Type 0
+HasArguments o has_arguments l = has_arguments ≡ false → listed o l ≡ []
+
+-- what is known in the tree of a name: of parameters and indices only its own
+abbrev pub inside : Names → List Bound → Names
+inside names bound = record { known = names.known; bound = bound }
 
 -- parameters with their arguments, one by one
 abbrev pub bound_to : List (List ℕ) → List Meaning → List Bound

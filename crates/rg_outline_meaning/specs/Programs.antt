@@ -1,4 +1,4 @@
--- The program that an outline stands for: its words, the formulas at its head, and its parts. `ProgramStandsFor`, at the end, is the definition.
+-- The program that an outline stands for: its words, the formulas at its head, and its parts. `OutlineStandsFor`, at the end, is the definition.
 -- It is read in this order: Meanings, Names, Members, Expressions, Statements, Programs. View, Reading and Inner serve the proofs alone.
 use Rattle.std.specs.Prelude.{◌≡◌, ◌≢◌, ℕ, suc, ◌≤◌, ℤ, pos, ◌≤ℤ◌, Bool, true, false, List, [], ◌∷◌, ◌++◌, length, map, Option, Some, None, slice_get}
 use Rattle.std.specs.Option.{option_or}
@@ -64,8 +64,9 @@ of_outline known = record { known = known; bound = [] }
 
 -- what a head makes known: a name for a tree or for statements; nothing else does
 abbrev pub known_of : Outline → HeadKind → Option Known
-known_of o (Let l) = Some (record { name = text_of o l.name; sense = tree (parameters_of o l.parameters) l.body })
-known_of o (Procedure p) = Some (record { name = text_of o p.name; sense = statements (parameters_of o p.parameters) (listed o p.body) })
+known_of o (Let l) = Some (record { name = text_of o l.name; since = l.span.end; sense = tree (parameters_of o l.parameters) l.body })
+known_of o (Procedure p) =
+    Some (record { name = text_of o p.name; since = p.span.end; sense = statements (parameters_of o p.parameters) (listed o p.body) })
 known_of o (Owns l) = None
 known_of o (Interrupts n l) = None
 known_of o (Clause c f) = None
@@ -74,7 +75,7 @@ known_of o (Clause c f) = None
 abbrev pub IsNewHead : List Known → Known → Type 0
 IsNewHead known k = IsNew (of_outline known) k.name × AreDifferent (k.name ∷ parameters_in k.sense)
 
--- the names that are known after heads
+-- the names that are known after heads, each of which makes one known
 pub data KnownAfter (o : Outline) : List Known → List Head → List Known → Type 0 where
   no_heads : (known : List Known) → KnownAfter o known [] known
   name_and_more : (known all : List Known) (h : Head) (hs : List Head) (k : Known)
@@ -82,14 +83,10 @@ pub data KnownAfter (o : Outline) : List Known → List Head → List Known → 
       → IsNewHead known k
       → KnownAfter o (known ++ k ∷ []) hs all
       → KnownAfter o known (h ∷ hs) all
-  other_and_more : (known all : List Known) (h : Head) (hs : List Head)
-      → known_of o h.kind ≡ None
-      → KnownAfter o known hs all
-      → KnownAfter o known (h ∷ hs) all
 
 -- ---- words
 
--- the first and the last number of an index of a family
+-- the first and the last number of an index of a family, of which none is left out
 pub record IsIndexRange (o : Outline) (words : List Word) (known : List Known) (i : ℕ) (r : ℤ × ℤ) : Type 0 where
   pub first : ℕ
   pub last : ℕ
@@ -98,6 +95,7 @@ pub record IsIndexRange (o : Outline) (words : List Word) (known : List Known) (
   pub range : slice_get o.written.ranges.items i ≡ Some (record { first = first; last = last; without = but; span = span })
   pub from : StandsFor o words (of_outline known) first (whole r.0)
   pub to : StandsFor o words (of_outline known) last (whole r.1)
+  pub whole_range : listed o but ≡ []
   pub low : pos 0 ≤ℤ r.0
   pub some : r.0 ≤ℤ r.1
 
@@ -124,7 +122,7 @@ pub data AreDeclared (o : Outline) (words : List Word) : List Known → List Dec
       → AreIndexRanges o words known (listed o d.ranges) ranges
       → StandsFor o words (of_outline known) d.width (whole (pos width))
       → IsNew (of_outline known) (text_of o d.name)
-      → AreDeclared o words (known ++ record { name = text_of o d.name; sense = family ranges } ∷ []) ds all rest
+      → AreDeclared o words (known ++ record { name = text_of o d.name; since = d.name.end; sense = family ranges } ∷ []) ds all rest
       → AreDeclared o words known (d ∷ ds) all (declared_words o d ranges width ++ rest)
 
 -- ---- formulas
@@ -212,10 +210,10 @@ pub record PartStandsFor (o : Outline) (words : List Word) (known : List Known) 
   pub body : BlockStandsFor o words (option_or owned (first_changing 0 (fixed_of words))) (of_outline all) p.body (bare_statement t.body)
 
 -- the members of a family of parts: of each its index is its number
-abbrev pub MembersStandFor : Outline → List Word → List Known → PartWritten → List ℕ → List ℤ → List PartTree → Type 0
+abbrev pub MembersStandFor : Outline → List Word → List Known → PartWritten → Span → List ℤ → List PartTree → Type 0
 MembersStandFor o words known p index [] [] = Unit {0}
 MembersStandFor o words known p index (z ∷ zs) (t ∷ ts) =
-    PartStandsFor o words (known ++ record { name = index; sense = part_number z } ∷ []) p (member_name (text_of o p.name) (z ∷ [])) t
+    PartStandsFor o words (known ++ record { name = text_of o index; since = index.end; sense = part_number z } ∷ []) p (member_name (text_of o p.name) (z ∷ [])) t
     × MembersStandFor o words known p index zs ts
 MembersStandFor o words known p index [] (t ∷ ts) = ⊥
 MembersStandFor o words known p index (z ∷ zs) [] = ⊥
@@ -232,16 +230,16 @@ pub data PartsStandFor (o : Outline) (words : List Word) (known : List Known) : 
       → IsNew (of_outline known) (text_of o index)
       → RangeIs o words (of_outline known) range zs
       → zs ≢ []
-      → MembersStandFor o words known p (text_of o index) zs ts
+      → MembersStandFor o words known p index zs ts
       → PartsStandFor o words known ps us
       → PartsStandFor o words known (p ∷ ps) (ts ++ us)
 
 -- ---- the program
 
 -- an outline stands for a program: for its words, the formulas at its head, and the names and the bodies of its parts. What its parts rely on and promise
--- serves the proof alone. It says nothing of how the bytes were read as trees. The names that are known are those of the heads before the words, then the
--- words too, then also those of the heads after the words
-pub record ProgramStandsFor (o : Outline) (p : ProgramTree) : Type 0 where
+-- serves the proof alone. It says nothing of how the bytes were read as trees. Names are made known in three rounds: those of the heads that stand before
+-- words, in all files, then the words, then those of the other heads; but each is known only after its place in the bytes (`Knows`)
+pub record OutlineStandsFor (o : Outline) (p : ProgramTree) : Type 0 where
   pub before_words : List Known
   pub with_words : List Known
   pub with_lets : List Known

@@ -72,7 +72,7 @@ pub record Declares (o : Outline) (words : List Word) (known all : List Known) (
   pub indices : AreIndexRanges o words known (listed o d.ranges) ranges
   pub stands : StandsFor o words (of_outline known) d.width (whole (pos width))
   pub new : IsNew (of_outline known) (text_of o d.name)
-  pub learned : all ≡ known ++ record { name = text_of o d.name; sense = family ranges } ∷ []
+  pub learned : all ≡ known ++ record { name = text_of o d.name; since = d.name.end; sense = family ranges } ∷ []
   pub words_are : take next words ≡ take first words ++ declared_words o d ranges width
 
 -- a part, of which all these names are known inside
@@ -88,7 +88,7 @@ IsPartOf o words known p zs parts place next =
     × PartStandsFor o words known p (member_name (text_of o p.name) zs) t
 
 -- the parts from one place to another are the members of a family with these numbers
-abbrev pub AreMembersOf : Outline → List Word → List Known → PartWritten → List ℕ → List ℤ → List Part → ℕ → ℕ → Type 0
+abbrev pub AreMembersOf : Outline → List Word → List Known → PartWritten → Span → List ℤ → List Part → ℕ → ℕ → Type 0
 AreMembersOf o words known p index zs parts first next =
     (ts : List PartTree)
     × (take next (map part parts) ≡ take first (map part parts) ++ ts)

@@ -11,7 +11,7 @@ use Rattle.rg_outline_syntax.specs.declared.written.ItemKind.{ItemKind}
 use Rattle.rg_outline_syntax.specs.declared.written.ItemKind.TheVariants.{Assertion, Skip, Use, Assign, Atomic, Await, If, While, For}
 use Rattle.rg_outline_syntax.specs.declared.written.ExpressionKind.TheVariants.{Name}
 use Rattle.rg_outline_meaning.specs.Meanings.{Meaning, value, claim, value_of, equals}
-use Rattle.rg_outline_meaning.specs.Names.{Outline, text_of, listed, piece_of, HasKind, statements, Names, IsUnbound, Knows, Binds, with_number, inside, bound_to}
+use Rattle.rg_outline_meaning.specs.Names.{Outline, text_of, listed, piece_of, HasKind, statements, Names, IsUnbound, Knows, Binds, with_number, HasArguments, inside, bound_to}
 use Rattle.rg_outline_meaning.specs.Members.{Candidate, mentions}
 use Rattle.rg_outline_meaning.specs.Expressions as expressions
 use Rattle.rg_outline_meaning.specs.Expressions.{StandsFor, AllStandFor, RangeIs, Selects, Selected, IsValue, among}
@@ -113,12 +113,13 @@ mutual
         → RoundsStandFor o words waiting_word names (text_of o index) body zs ss
         → ItemStandsFor o words waiting_word names (For index range body) ss
     used : (names : Names)
-        → (i k : ℕ) (name : Span) (l : written.List) (has_arguments : Bool) (parameters : List (List ℕ)) (body : List ℕ) (ms : List Meaning) (ss : List Statement)
+        → (i : ℕ) (name : Span) (l : written.List) (has_arguments : Bool) (parameters : List (List ℕ)) (body : List ℕ) (ms : List Meaning) (ss : List Statement)
         → HasKind o i (Name name l has_arguments false)
-        → Knows names k (text_of o name) (statements parameters body)
+        → Knows o names name (statements parameters body)
+        → HasArguments o has_arguments l
         → AllStandFor o words names (listed o l) ms
         → length ms ≡ length parameters
-        → ItemsStandFor o words waiting_word (inside names k (bound_to parameters ms)) body ss
+        → ItemsStandFor o words waiting_word (inside names (bound_to parameters ms)) body ss
         → ItemStandsFor o words waiting_word names (Use i) ss
 
   -- the statements of items, in their order

@@ -1,5 +1,5 @@
 -- What is read of an outline by the code, without where it lies in memory.
-use Rattle.std.specs.Prelude.{ℕ, List, map, take}
+use Rattle.std.specs.Prelude.{List, map}
 use Rattle.rg_words.specs.Layout.{Word}
 use Rattle.rg_tree.specs.View.{expression, formula}
 use Rattle.rg_outline_meaning.specs.Meanings as spec
@@ -37,7 +37,7 @@ sense o (Procedure p) = statements (parameters_of o p.parameters) (listed o p.bo
 sense o (Number z) = part_number z
 
 abbrev pub known : Outline → Known → name.Known
-known o k = record { name = text_of o k.name; sense = sense o k.sense }
+known o k = record { name = text_of o k.name; since = k.since; sense = sense o k.sense }
 
 abbrev pub bound : Outline → Bound → name.Bound
 bound o b = record { name = text_of o b.name; meaning = meaning b.meaning }
@@ -49,9 +49,13 @@ outline r = record { source = r.source.now; written = r.written.now }
 abbrev pub words : Reader → List Word
 words r = r.layout.now
 
+-- the names of the outline and the part so far
+abbrev pub knowns : Reader → List name.Known
+knowns r = map (known (outline r)) r.known.items
+
 -- the names that are known at a place
 abbrev pub names : Reader → Names → name.Names
-names r n = record { known = map (known (outline r)) (take n.known r.known.items); bound = map (bound (outline r)) n.bound.items }
+names r n = record { known = knowns r; bound = map (bound (outline r)) n.bound.items }
 
 -- what is selected
 abbrev pub candidate : Member → family.Candidate
@@ -60,10 +64,6 @@ candidate m = record { number = m.number; word = m.word }
 abbrev pub selected : Selected → expressions.Selected
 selected (SelectedWord k) = one k
 selected (Among e c cs) = among (expression e) (candidate c) (map candidate cs.items)
-
--- the names of the outline and the part so far
-abbrev pub knowns : Reader → List name.Known
-knowns r = map (known (outline r)) r.known.items
 
 -- the formulas of clauses
 abbrev pub clauses : Clauses → programs.Clauses

@@ -27,25 +27,24 @@ fn is_fixed(standing: Standing) -> bool
 
 impl Reader<'_> {
     /// The names of the outline and the part so far, and no others.
-    #[tactic(auto, using(crate::proofs::ProgramRules::all_known))]
+    #[tactic(auto, using(crate::proofs::ProgramRules::none_bound))]
     pub(crate) fn so_far(&self) -> Names
         ensures { names_at self.now result ≡ of_outline (knowns self.now) }
     {
         Names {
-            known: self.known.len(),
             bound: Vec::new(self.alloc),
         }
     }
 
-    /// Makes a name known from here on.
-    pub(crate) fn know(&mut self, name: Span, sense: Sense) -> Result<(), Unknown>
+    /// Makes a name known after a place.
+    pub(crate) fn know(&mut self, name: Span, since: usize, sense: Sense) -> Result<(), Unknown>
         ensures same { OnOk result (ReadsSame self.old self.new) }
         ensures new { OnOk result (IsNew (of_outline (knowns self.old)) (text_of (outline self.old) name)) }
-        ensures known { OnOk result (knowns self.new ≡ knowns self.old ++ record { name = text_of (outline self.old) name; sense = sense_of (outline self.old) sense } ∷ []) }
+        ensures known { OnOk result (knowns self.new ≡ knowns self.old ++ record { name = text_of (outline self.old) name; since = since; sense = sense_of (outline self.old) sense } ∷ []) }
     {
         let names = self.so_far();
         self.want_new(&names, name)?;
-        self.known.push(Known { name, sense })?;
+        self.known.push(Known { name, since, sense })?;
         Ok(())
     }
 
@@ -90,19 +89,19 @@ impl Reader<'_> {
         match kind {
             HeadKind::Let(named) => {
                 self.want_different(named.name, named.parameters)?;
-                self.know(named.name, Sense::Let(named))?;
+                self.know(named.name, named.span.end, Sense::Let(named))?;
                 Ok(true)
             }
             HeadKind::Procedure(named) => {
                 self.want_different(named.name, named.parameters)?;
-                self.know(named.name, Sense::Procedure(named))?;
+                self.know(named.name, named.span.end, Sense::Procedure(named))?;
                 Ok(true)
             }
             HeadKind::Owns(_) | HeadKind::Interrupts(..) | HeadKind::Clause(..) => Ok(false),
         }
     }
 
-    /// Makes the names of heads known.
+    /// Makes the names of heads known, each of which gives one.
     #[tactic(auto, using(crate::proofs::ProgramRules::rules))]
     pub(crate) fn know_heads(&mut self, list: List) -> Result<(), Unknown>
         ensures same { OnOk result (ReadsSame self.old self.new) }
@@ -110,7 +109,9 @@ impl Reader<'_> {
     {
         let heads = piece(self.written.heads.as_slice(), list);
         for head in heads {
-            self.know_head(head.kind)?;
+            if !self.know_head(head.kind)? {
+                return Err(Unknown::NoRule);
+            }
         }
         Ok(())
     }
@@ -144,7 +145,11 @@ impl Reader<'_> {
             return Err(Unknown::NoRule);
         };
         let next = self.after_words(declaration, &ranges, width, first)?;
-        self.know(declaration.name, Sense::Family(ranges))?;
+        self.know(
+            declaration.name,
+            declaration.name.end,
+            Sense::Family(ranges),
+        )?;
         Ok(next)
     }
 
@@ -168,6 +173,7 @@ impl Reader<'_> {
         let Some(range) = self.written.ranges.get(index) else {
             return Err(Unknown::NoRule);
         };
+        self.want_none(range.without)?;
         let names = self.so_far();
         let first = self.whole(&names, range.first, DEEPEST, steps)?;
         let last = self.whole(&names, range.last, DEEPEST, steps)?;

@@ -1,8 +1,8 @@
 //! Names, and what they stand for.
 
-ghost use Rattle.std.specs.Prelude.{◌≡◌, ◌≢◌, ℕ, map, All, IfOk, OnOk, IfSome, IfNone};
-ghost use Rattle.rg_outline_meaning.specs.Names.{text_of, piece_of, listed as listed_of, parameters_of, IsUnbound, IsNew, IsAt, Binds, with_number};
-ghost use Rattle.rg_outline_meaning.specs.View.{meaning as shown, sense as sense_of, known, bound, outline, names as names_at};
+ghost use Rattle.std.specs.Prelude.{◌≡◌, ◌≢◌, ℕ, [], map, All, IfOk, OnOk, IfSome, IfNone};
+ghost use Rattle.rg_outline_meaning.specs.Names.{text_of, piece_of, listed as listed_of, parameters_of, IsUnbound, IsNew, IsAmong, Knows, Binds, HasArguments, with_number};
+ghost use Rattle.rg_outline_meaning.specs.View.{meaning as shown, sense as sense_of, known, bound, outline, knowns, names as names_at};
 
 use crate::meaning::{Meaning, Unknown};
 use rg_outline_syntax::{Let, List, Procedure, Span, Written};
@@ -28,6 +28,8 @@ pub(crate) enum Sense {
 #[derive(Drop)]
 pub(crate) struct Known {
     pub(crate) name: Span,
+    /// The place of the outline after which it is known.
+    pub(crate) since: usize,
     pub(crate) sense: Sense,
 }
 
@@ -38,11 +40,9 @@ pub(crate) struct Bound {
     pub(crate) meaning: Meaning,
 }
 
-/// The names that are known at a place.
+/// The names that are known at a place, besides those of the outline and the part.
 #[derive(Drop)]
 pub(crate) struct Names {
-    /// How many of the names of the outline and the part.
-    pub(crate) known: usize,
     pub(crate) bound: Vec<Bound>,
 }
 
@@ -128,31 +128,55 @@ impl<'a> Reader<'a> {
         None
     }
 
-    /// The place of a name of the outline or the part, and what it stands for. A parameter or an index that is called so goes before it.
-    pub(crate) fn known<'s>(&'s self, names: &Names, name: Span) -> Option<(usize, &'s Sense)>
-        ensures some { IfSome result (λ r. IsAt (names_at self.now names.now) r.0 (text_of (outline self.now) name) (sense_of (outline self.now) r.1.now)) }
-        ensures free { IfSome result (λ _. IsUnbound (names_at self.now names.now) (text_of (outline self.now) name)) }
+    /// What a name of the outline or the part stands for where it is used, after its declaration. A parameter or an index that is called so goes before it.
+    #[tactic(auto, using(crate::proofs::Known::rules))]
+    pub(crate) fn known<'s>(&'s self, names: &Names, name: Span) -> Option<&'s Sense>
+        ensures { IfSome result (λ s. Knows (outline self.now) (names_at self.now names.now) name (sense_of (outline self.now) s.now)) }
     {
         if self.bound(names, name).is_some() {
             return None;
         }
-        let (place, sense) = self.find(names, name)?;
-        Some((place, sense))
+        let (since, sense) = self.find(name)?;
+        if since > name.start {
+            return None;
+        }
+        Some(sense)
     }
 
-    /// The same, whether or not a parameter or an index is called so.
-    fn find<'s>(&'s self, names: &Names, name: Span) -> Option<(usize, &'s Sense)>
-        ensures some { IfSome result (λ r. IsAt (names_at self.now names.now) r.0 (text_of (outline self.now) name) (sense_of (outline self.now) r.1.now)) }
-        ensures none { IfNone result (All (λ k. k.name ≢ text_of (outline self.now) name) (names_at self.now names.now).known) }
+    /// From where on a name of the outline or the part is known, and what it stands for.
+    fn find<'s>(&'s self, name: Span) -> Option<(usize, &'s Sense)>
+        ensures some { IfSome result (λ r. IsAmong (knowns self.now) (text_of (outline self.now) name) r.0 (sense_of (outline self.now) r.1.now)) }
+        ensures none { IfNone result (All (λ k. k.name ≢ text_of (outline self.now) name) (knowns self.now)) }
     {
         let text = self.text(name);
-        let all = &self.known[..names.known.min(self.known.len())];
+        let all = self.known.as_slice();
         for (place, known) in all.iter().enumerate() {
             if self.text(known.name) == text {
-                return Some((place, &known.sense));
+                return Some((known.since, &known.sense));
             }
         }
         None
+    }
+
+    /// Wants that what stands after a name in `[..]`, and so are no arguments, is nothing.
+    pub(crate) fn want_arguments(&self, has_arguments: bool, listed: List) -> Result<(), Unknown>
+        ensures { OnOk result (HasArguments (outline self.now) has_arguments listed) }
+    {
+        if has_arguments {
+            return Ok(());
+        }
+        self.want_none(listed)
+    }
+
+    /// Wants that a list is empty.
+    #[tactic(auto, using(crate::proofs::Known::nothing_left))]
+    pub(crate) fn want_none(&self, listed: List) -> Result<(), Unknown>
+        ensures { OnOk result (listed_of (outline self.now) listed ≡ []) }
+    {
+        if self.listed(listed).is_empty() {
+            return Ok(());
+        }
+        Err(Unknown::NoRule)
     }
 
     /// Wants that no parameter or index is called so.
@@ -169,7 +193,7 @@ impl<'a> Reader<'a> {
     pub(crate) fn want_new(&self, names: &Names, name: Span) -> Result<(), Unknown>
         ensures { IfOk result (λ _. IsNew (names_at self.now names.now) (text_of (outline self.now) name)) }
     {
-        if self.bound(names, name).is_some() || self.find(names, name).is_some() {
+        if self.bound(names, name).is_some() || self.find(name).is_some() {
             return Err(Unknown::NoRule);
         }
         Ok(())
@@ -187,9 +211,6 @@ impl<'a> Reader<'a> {
                 meaning,
             })?;
         }
-        Ok(Names {
-            known: names.known,
-            bound,
-        })
+        Ok(Names { bound })
     }
 }

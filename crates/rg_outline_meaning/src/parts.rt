@@ -10,7 +10,7 @@ ghost use Rattle.rg_outline_meaning.specs.Meanings.{IsConjunction};
 ghost use Rattle.rg_outline_meaning.specs.Names.{text_of, piece_of};
 ghost use Rattle.rg_outline_meaning.specs.Members.{member_name};
 ghost use Rattle.rg_outline_meaning.specs.Statements.{BlockStandsFor};
-ghost use Rattle.rg_outline_meaning.specs.Programs.{of_outline, bare_claim, bare_statement, first_changing as first_changing_of, ClausesStandFor, IsRely, AreSpecified, PartKnows, PartsStandFor, ProgramStandsFor};
+ghost use Rattle.rg_outline_meaning.specs.Programs.{of_outline, bare_claim, bare_statement, first_changing as first_changing_of, ClausesStandFor, IsRely, AreSpecified, PartKnows, PartsStandFor, OutlineStandsFor};
 ghost use Rattle.rg_outline_meaning.specs.Reading.{ReadsSame, with_one, IsClauseOf, OwnsFirst, ArePartsOf, AreMembersOf, IsPartOf, PartKnown};
 ghost use Rattle.rg_outline_meaning.specs.View.{outline, words, knowns, clauses as clauses_of};
 
@@ -59,7 +59,7 @@ pub fn stands_for(
     written: &Written,
     program: &Program,
 ) -> Result<bool, AllocError>
-    ensures stands { IfOk result (λ is. is ≡ true → ProgramStandsFor (record { source = source.now; written = written.now }) (program_tree program.now)) }
+    ensures stands { IfOk result (λ is. is ≡ true → OutlineStandsFor (record { source = source.now; written = written.now }) (program_tree program.now)) }
 {
     let mut reader = Reader {
         alloc,
@@ -92,7 +92,7 @@ impl Reader<'_> {
     fn want_program(&mut self, program: &Program) -> Result<(), Unknown>
         requires words { words self.old ≡ program.now.layout }
         requires known { knowns self.old ≡ [] }
-        ensures { OnOk result (ProgramStandsFor (outline self.old) (program_tree program.now)) }
+        ensures { OnOk result (OutlineStandsFor (outline self.old) (program_tree program.now)) }
     {
         self.know_heads(self.written.before_words)?;
         self.know_words()?;
@@ -231,12 +231,12 @@ impl Reader<'_> {
     ) -> Result<usize, Unknown>
         ensures same { OnOk result (ReadsSame self.old self.new) }
         ensures known { OnOk result (knowns self.new ≡ knowns self.old) }
-        ensures parts { IfOk result (λ next. AreMembersOf (outline self.old) (words self.old) (knowns self.old) written.now (text_of (outline self.old) index) numbers.now parts.now first next) }
+        ensures parts { IfOk result (λ next. AreMembersOf (outline self.old) (words self.old) (knowns self.old) written.now index numbers.now parts.now first next) }
     {
         let count = self.known.len();
         let mut place = first;
         for number in numbers {
-            self.know(index, Sense::Number(*number))?;
+            self.know(index, index.end, Sense::Number(*number))?;
             place = self.after_part(written, &[*number], parts, place)?;
             self.known.truncate(count);
         }

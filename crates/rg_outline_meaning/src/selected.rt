@@ -175,12 +175,12 @@ fn indices_of(
 }
 
 impl Reader<'_> {
-    /// The place of the name of a family, and its ranges.
-    fn family(&self, names: &Names, name: Span) -> Result<(usize, &[(i128, i128)]), Unknown>
-        ensures { IfOk result (λ r. Knows (names_at self.now names.now) r.0 (text_of (outline self.now) name) (family r.1.now)) }
+    /// The ranges of a family's name.
+    fn family(&self, names: &Names, name: Span) -> Result<&[(i128, i128)], Unknown>
+        ensures { IfOk result (λ r. Knows (outline self.now) (names_at self.now names.now) name (family r.now)) }
     {
         match self.known(names, name) {
-            Some((place, Sense::Family(ranges))) => Ok((place, ranges.as_slice())),
+            Some(Sense::Family(ranges)) => Ok(ranges.as_slice()),
             _ => Err(Unknown::NoRule),
         }
     }
@@ -237,7 +237,7 @@ impl Reader<'_> {
     ) -> Result<Selected, Unknown>
         ensures { IfOk result (λ s. AllStandFor (outline self.now) (words_of self.now) (names_at self.now names.now) (listed_of (outline self.now) listed) (map shown meanings.now) → Selects (outline self.now) (words_of self.now) (names_at self.now names.now) name listed (selection s)) }
     {
-        let (_, ranges) = self.family(names, name)?;
+        let ranges = self.family(names, name)?;
         if meanings.len() != ranges.len() {
             return Err(Unknown::NoRule);
         }
@@ -369,7 +369,7 @@ impl Reader<'_> {
     fn words_of(&self, names: &Names, name: Span, given: &[i128]) -> Result<Vec<usize>, Unknown>
         ensures { IfOk result (λ ks. AreWordsOf (outline self.now) (words_of self.now) (names_at self.now names.now) name given.now ks.items) }
     {
-        let (_, ranges) = self.family(names, name)?;
+        let ranges = self.family(names, name)?;
         want_within(ranges, given)?;
         if given.len() > ranges.len() {
             return Err(Unknown::NoRule);

@@ -278,7 +278,7 @@ impl Reader<'_> {
         Ok(statements)
     }
 
-    /// The statements for which a use of named statements stands: they know the names before theirs, and their parameters.
+    /// The statements for which a use of named statements stands: of parameters and indices they know their own.
     #[cycle(statements)]
     #[tactic(auto, using(crate::proofs::StatementRules::rules))]
     fn use_of(
@@ -294,21 +294,19 @@ impl Reader<'_> {
         let ExpressionKind::Name {
             name,
             listed,
+            has_arguments,
             is_primed: false,
-            ..
         } = self.kind(used)?
         else {
             return Err(Unknown::NoRule);
         };
-        let Some((place, Sense::Procedure(named))) = self.known(names, name) else {
+        let Some(Sense::Procedure(named)) = self.known(names, name) else {
             return Err(Unknown::NoRule);
         };
+        self.want_arguments(has_arguments, listed)?;
         let parameters = piece(self.written.names.as_slice(), named.parameters);
         let bound = self.arguments(names, parameters, listed, DEEPEST, steps)?;
-        let inner = Names {
-            known: place,
-            bound,
-        };
+        let inner = Names { bound };
         self.items(&inner, named.body, waiting_word, depth, steps)
     }
 

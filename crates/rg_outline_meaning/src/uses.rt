@@ -71,17 +71,15 @@ impl Reader<'_> {
             let copy = steps.copy(self.alloc, meaning)?;
             return used_bound(self.alloc, is_primed, copy);
         }
-        let Some((place, sense)) = self.known(names, name) else {
+        let Some(sense) = self.known(names, name) else {
             return Err(Unknown::NoRule);
         };
         match sense {
             Sense::Let(named) => {
+                self.want_arguments(has_arguments, listed)?;
                 let parameters = piece(self.written.names.as_slice(), named.parameters);
                 let bound = self.arguments(names, parameters, listed, depth, steps)?;
-                let inner = Names {
-                    known: place,
-                    bound,
-                };
+                let inner = Names { bound };
                 let meaning = self.meaning(&inner, named.body, depth, steps)?;
                 used(self.alloc, is_primed, meaning)
             }

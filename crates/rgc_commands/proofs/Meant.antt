@@ -5,7 +5,7 @@ use Rattle.rg_words.specs.Refusals.{no_memory}
 use Rattle.rg_tree.specs.Statements.{ProgramTree}
 use Rattle.rg_parse.specs.Programs.{SpellsProgram}
 use Rattle.rg_parse.proofs.ProgramMeanings.{one_spelled_program}
-use Rattle.rg_outline_meaning.specs.Programs.{ProgramStandsFor}
+use Rattle.rg_outline_meaning.specs.Programs.{OutlineStandsFor}
 use Rattle.rg_outline_reports.specs.declared.files.NoFiles.{NoFiles}
 use Rattle.rg_outline_reports.specs.declared.files.OutlineSource.{OutlineSource}
 use Rattle.rg_outline_reports.specs.declared.outlined.Outlined.{Outlined}
@@ -17,9 +17,9 @@ use Rattle.rgc_commands.specs.Of.{IsWorkedOut}
 use Rattle.rgc_commands.specs.Inner.Meant.{is_memory}
 
 -- the text spells a program, and no other
-pub meant_as_read : (outline : OutlineSource) (outlined : Outlined) (t : ProgramTree) (is : Bool) → SpellsProgram outlined.files.text.items t → (is ≡ true → ProgramStandsFor (as_read outline outlined) t) → is ≡ true → IsMeant outline outlined
+pub meant_as_read : (outline : OutlineSource) (outlined : Outlined) (t : ProgramTree) (is : Bool) → SpellsProgram outlined.files.text.items t → (is ≡ true → OutlineStandsFor (as_read outline outlined) t) → is ≡ true → IsMeant outline outlined
 meant_as_read outline outlined t is spells stands so = λ p s.
-    subst (λ (x : ProgramTree). ProgramStandsFor (as_read outline outlined) x) (one_spelled_program outlined.files.text.items t p spells s) (stands so)
+    subst (λ (x : ProgramTree). OutlineStandsFor (as_read outline outlined) x) (one_spelled_program outlined.files.text.items t p spells s) (stands so)
 
 -- the text spells none
 pub meant_for_nothing : (outline : OutlineSource) (outlined : Outlined) (e : Refusal) → is_memory e.number ≡ false → ((t : ProgramTree) → SpellsProgram outlined.files.text.items t → e ≡ no_memory) → IsMeant outline outlined

@@ -3,7 +3,7 @@ use Rattle.std.specs.Prelude.{◌≡◌, ℕ, List, Result, Ok, Err, codes}
 use Rattle.rg_tree.specs.Statements.{ProgramTree}
 use Rattle.rg_parse.specs.Programs.{SpellsProgram}
 use Rattle.rg_outline_meaning.specs.Names.{Outline}
-use Rattle.rg_outline_meaning.specs.Programs.{ProgramStandsFor}
+use Rattle.rg_outline_meaning.specs.Programs.{OutlineStandsFor}
 use Rattle.rg_outline_reports.specs.declared.files.Format.{Format}
 use Rattle.rg_outline_reports.specs.declared.files.Format.TheVariants.{Plain, Json}
 use Rattle.rg_outline_reports.specs.declared.files.NoFiles.{NoFiles}
@@ -17,7 +17,7 @@ as_read outline outlined = record { source = outline.source.now; written = outli
 
 -- whatever program the text of an outline spells, the outline stands for it
 abbrev pub IsMeant : OutlineSource → Outlined → Type 0
-IsMeant outline outlined = (p : ProgramTree) → SpellsProgram outlined.files.text.items p → ProgramStandsFor (as_read outline outlined) p
+IsMeant outline outlined = (p : ProgramTree) → SpellsProgram outlined.files.text.items p → OutlineStandsFor (as_read outline outlined) p
 
 -- the same of what an outline was worked out to, where that is files
 abbrev pub AreMeant : OutlineSource → Result Outlined NoFiles → Type 0

@@ -19,7 +19,7 @@ use Rattle.rg_outline_meaning.proofs.Collections.{one_more, all_together}
 use Rattle.rg_outline_meaning.proofs.Placed.{at_place}
 use Rattle.rg_outline_meaning.proofs.Rules.{of_instances}
 use Rattle.rg_outline_meaning.proofs.Turns.{next_instance, next_words, words_of_name}
-use Rattle.rg_outline_meaning.proofs.Known.{nothing_left, both, before}
+use Rattle.rg_outline_meaning.proofs.Known.{nothing_left, both}
 use Rattle.rg_outline_meaning.proofs.names.Reader.+reading.Goals as goal
 
 pub arguments-loop-place-init : goal.arguments-loop-place-init
@@ -224,18 +224,15 @@ named-returns-in_ok-meaning-in-Let t c =
     let ws = words c.args.self.now in
     let ns = names c.args.self.now c.args.names.now in
     let n = c.in-Name in
-    let k = c.in-Some-known.place in
     let l = c.in-Let.named in
     let bs = map (bound o) c.in_ok-bound-in-Let.bound.items in
     let m = meaning c.in_ok-meaning-in-Let.meaning in
     let made : HasKind o c.args.index (Name n.name n.listed n.has_arguments n.is_primed) = subst (λ kind. HasKind o c.args.index kind) n.is c.in_ok-name.ensures in
-    let knows : Knows ns k (text_of o n.name) (tree (parameters_of o l.parameters) l.body) = subst (λ s. Knows ns k (text_of o n.name) (sense o s)) c.in-Let.is (c.in-Some-known.ensures.some, c.in-Some-known.ensures.free) in
+    let knows : Knows o ns n.name (tree (parameters_of o l.parameters) l.body) = subst (λ s. Knows o ns n.name (sense o s)) c.in-Let.is c.in-Some-known.ensures in
     let given : AreArguments o ws ns (listed o n.listed) (parameters_of o l.parameters) bs = subst (λ ps. AreArguments o ws ns (listed o n.listed) (map (text_of o) ps) bs) (c.piece-parameters.ensures ∙ ap (λ xs. piece_of xs l.parameters) c.as_slice.ensures.value) c.in_ok-bound-in-Let.ensures in
-    let same = before (known o) c.args.self.now.known.items c.args.names.now.known k _ knows.0 in
-    let there : StandsFor o ws (record { known = take k ns.known; bound = bs }) l.body m = subst (λ xs. StandsFor o ws (record { known = xs; bound = bs }) l.body m) same c.in_ok-meaning-in-Let.ensures in
-    let stands : StandsFor o ws (inside ns k (bound_to (parameters_of o l.parameters) given.0)) l.body m = subst (λ b. StandsFor o ws (record { known = take k ns.known; bound = b }) l.body m) given.3 there in
+    let stands : StandsFor o ws (inside ns (bound_to (parameters_of o l.parameters) given.0)) l.body m = subst (λ b. StandsFor o ws (record { known = ns.known; bound = b }) l.body m) given.3 c.in_ok-meaning-in-Let.ensures in
     IfOk-weaker c.used.result _ _
-    (λ r is. rule.named ns c.args.index k l.body n.name n.listed n.has_arguments n.is_primed (parameters_of o l.parameters) given.0 m (meaning r) made knows given.1 given.2 stands is)
+    (λ r is. rule.named ns c.args.index l.body n.name n.listed n.has_arguments n.is_primed (parameters_of o l.parameters) given.0 m (meaning r) made knows c.in_ok-want_arguments-in-Let.ensures given.1 given.2 stands is)
     c.used.ensures
 
 pub named-returns-in_ok-value_of-in-Family : goal.named-returns-in_ok-value_of-in-Family
@@ -259,7 +256,7 @@ named-returns-in-Number t c =
     let made : HasKind o c.args.index (Name n.name n.listed false false) = subst (λ kind. HasKind o c.args.index kind) (cc (n.is, c.if-not-has_arguments-2.true, c.if-not-is_primed.true)) c.in_ok-name.ensures in
     let empty : listed o n.listed ≡ [] = sym c.listed-then-not-is_primed.ensures ∙ nothing_left c.listed-then-not-is_primed.result.now c.if-is_empty.ensures in
     let fits : SFits w128 c.in-Number.number = search rules in
-    subst (λ z. StandsFor o ws ns c.args.index (whole z)) (sym (to_z-of_z w128 c.in-Number.number fits)) (rule.number_of_part ns c.args.index c.in-Some-known.place n.name n.listed c.in-Number.number made (subst (λ s. Knows ns c.in-Some-known.place (text_of o n.name) (sense o s)) c.in-Number.is (c.in-Some-known.ensures.some, c.in-Some-known.ensures.free)) empty)
+    subst (λ z. StandsFor o ws ns c.args.index (whole z)) (sym (to_z-of_z w128 c.in-Number.number fits)) (rule.number_of_part ns c.args.index n.name n.listed c.in-Number.number made (subst (λ s. Knows o ns n.name (sense o s)) c.in-Number.is c.in-Some-known.ensures) empty)
 
 pub range-returns : goal.range-returns
 range-returns t c =

@@ -6,7 +6,7 @@ use Rattle.rg_tree.specs.ProgramView.{statement}
 use Rattle.rg_outline_meaning.specs.declared.meaning.Meaning.TheVariants.{Whole}
 use Rattle.rg_outline_meaning.specs.declared.names.Bound.{Bound}
 use Rattle.rg_outline_syntax.specs.declared.written.ExpressionKind.TheVariants.{Name}
-use Rattle.rg_outline_meaning.specs.Names.{text_of, listed, piece_of, parameters_of, HasKind, IsAt, IsUnbound, statements}
+use Rattle.rg_outline_meaning.specs.Names.{text_of, listed, piece_of, parameters_of, HasKind, Knows, statements}
 use Rattle.rg_outline_meaning.specs.Inner.{AreArguments}
 use Rattle.rg_outline_meaning.specs.View.{outline, words, names, bound}
 use Rattle.rg_outline_meaning.proofs.Placed.{at_place}
@@ -30,9 +30,9 @@ rounds-loop-number-preserved t c =
     let fits : SFits w128 z = search rules in
     let b : Bound = record { name = c.in-For.index; meaning = Whole z } in
     let pushed : c.push.new.self.items ≡ inner.bound.items ++ b ∷ [] = rw (to_z-of_z w128 z fits) at c.in_ok-push.ensures.items in (
-      no_more_bound r inner.known n inner.bound.items c.push.new.self.items c.pop.new.self.items b c.push.new.self.len c.loop-number.invariant.0 pushed (omega (arith, c.push.new.self.ok.0)) c.pop.ensures.rest,
-      rounds_next (outline r) (words r) c.args.waiting_word n (names_with r inner.known c.push.new.self.items) (text_of (outline r) c.in-For.index) c.in-For.body c.deref-number-items.result.now k (pos 0) z c.loop-number.statements.items c.in_ok-own.own.items c.append.new.self.items
-          refl c.loop-number-test.true c.in_ok-append.ensures.items (one_more_bound r inner.known n inner.bound.items c.push.new.self.items b c.loop-number.invariant.0 pushed) c.loop-number.invariant.1 c.in_ok-own.ensures,
+      no_more_bound r n inner.bound.items c.push.new.self.items c.pop.new.self.items b c.push.new.self.len c.loop-number.invariant.0 pushed (omega (arith, c.push.new.self.ok.0)) c.pop.ensures.rest,
+      rounds_next (outline r) (words r) c.args.waiting_word n (names_with r c.push.new.self.items) (text_of (outline r) c.in-For.index) c.in-For.body c.deref-number-items.result.now k (pos 0) z c.loop-number.statements.items c.in_ok-own.own.items c.append.new.self.items
+          refl c.loop-number-test.true c.in_ok-append.ensures.items (one_more_bound r n inner.bound.items c.push.new.self.items b c.loop-number.invariant.0 pushed) c.loop-number.invariant.1 c.in_ok-own.ensures,
     )
 
 pub rounds-returns : goal.rounds-returns
@@ -47,14 +47,13 @@ use_of-returns t c =
     let o = outline r in
     let n = names r c.args.names.now in
     let a = c.in-Name-default-default-default-false in
-    let p = c.in-Some-default-Procedure in
+    let p = c.in-Some-Procedure in
     let parameters = parameters_of o p.named.parameters in
     let body = listed o p.named.body in
     let bs = c.in_ok-bound.bound.items in
     let made : HasKind o c.args.used (Name a.name a.listed a.has_arguments false) = search rules in
-    let is_at : IsAt n p.place (text_of o a.name) (statements parameters body) = search rules in
-    let is_free : IsUnbound n (text_of o a.name) = search rules in
+    let knows : Knows o n a.name (statements parameters body) = search (rules, p.in-Some-ensures) in
     let same : map (text_of o) c.piece-parameters.result.now ≡ parameters = ap (λ ss. map (text_of o) ss) (c.piece-parameters.ensures ∙ ap (λ xs. piece_of xs p.named.parameters) c.as_slice.ensures.value) in
     let given : AreArguments o (words r) n (listed o a.listed) parameters (map (bound o) bs) = subst (λ ps. AreArguments o (words r) n (listed o a.listed) ps (map (bound o) bs)) same c.in_ok-bound.ensures in
-    let inner = inside_names r c.args.names.now.known p.place bs c.args.names.now.bound.items _ _ is_at given.3 in
-    IfOk-weaker c.items.result _ _ (λ ss all. of_use o (words r) c.args.waiting_word n (names_with r p.place bs) c.args.used p.place a.name a.listed a.has_arguments parameters body given.0 (map statement ss.items) made (is_at, is_free) given.1 given.2 inner all) c.items.ensures
+    let inner = inside_names r bs c.args.names.now.bound.items _ given.3 in
+    IfOk-weaker c.items.result _ _ (λ ss all. of_use o (words r) c.args.waiting_word n (names_with r bs) c.args.used a.name a.listed a.has_arguments parameters body given.0 (map statement ss.items) made knows c.in_ok-want_arguments.ensures given.1 given.2 inner all) c.items.ensures

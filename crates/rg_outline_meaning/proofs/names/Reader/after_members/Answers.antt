@@ -2,7 +2,6 @@ use Rattle.std.proofs.Common.{◌≡◌, refl, ◌∙◌, [], ◌∷◌, subst�
 use Rattle.std.proofs.lemmas.List.{length-map}
 use Rattle.std.specs.Int.{w128}
 use Rattle.std.proofs.lemmas.Int.{to_z-of_z}
-use Rattle.rg_outline_meaning.specs.Names.{text_of}
 use Rattle.rg_outline_meaning.specs.Reading.{IsPartOf}
 use Rattle.rg_outline_meaning.specs.View.{outline, words, known, knowns}
 use Rattle.rg_outline_meaning.proofs.ProgramRules.{members_next, truncated, cut_back, index_known}
@@ -28,6 +27,6 @@ loop-number-preserved c =
     let part : IsPartOf (outline u) (words u) (knowns u) c.args.written.now (z ∷ []) c.args.parts.now c.loop-number.place c.in_ok-place.place = rw back at own.part in (
       (own.same.0 ∙ to_one, own.same.1 ∙ words_to_one),
       truncated v c.len-count.result c.truncate.new.self.items (knowns r) c.truncate.ensures.items (cut_back c.len-count.result (knowns v) (knowns r) _ (own.known ∙ inner) (omega (arith, r.known.ok.0, length-map r.known.items (known (outline r))))),
-      members_next (outline r) (words r) (knowns r) (knowns u) c.args.written.now (text_of (outline r) c.args.index) zs k (pos 0) z c.args.parts.now c.args.first c.loop-number.place c.in_ok-place.place refl c.loop-number-test.true h.2 inner
+      members_next (outline r) (words r) (knowns r) (knowns u) c.args.written.now c.args.index zs k (pos 0) z c.args.parts.now c.args.first c.loop-number.place c.in_ok-place.place refl c.loop-number-test.true h.2 inner
           (subst₂ (λ o ws. IsPartOf o ws (knowns u) c.args.written.now (z ∷ []) c.args.parts.now c.loop-number.place c.in_ok-place.place) to_one words_to_one part),
     )

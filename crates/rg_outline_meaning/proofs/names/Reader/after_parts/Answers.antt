@@ -20,4 +20,4 @@ returns-in_ok-next-in-Some-clause-parts c =
     (subst (λ n. IsNew n (text_of o index)) c.so_far-names.ensures c.in_ok-want_new-in-Some.ensures)
     (subst (λ n. RangeIs o (words r) n range zs) c.so_far-names.ensures c.in_ok-numbers-in-Some.ensures)
     (some_of zs c.is_empty.result (c.is_empty.ensures ∙ ap (λ n. n == 0) (sym c.deref.ensures.len ∙ ap length c.deref.ensures.value)) c.if-is_empty.false)
-    (subst (λ ys. AreMembersOf o (words r) (knowns r) p (text_of o index) ys parts c.args.first next) c.deref.ensures.value c.in_ok-next-in-Some.ensures.parts)
+    (subst (λ ys. AreMembersOf o (words r) (knowns r) p index ys parts c.args.first next) c.deref.ensures.value c.in_ok-next-in-Some.ensures.parts)

@@ -18,6 +18,7 @@ returns c =
       range = rw c.deref.ensures.value at (at_place c.deref.result.now c.args.index range found.1 found.3.0);
       from = rw c.so_far-names.ensures at c.in_ok-first.ensures;
       to = rw c.so_far-names.ensures at c.in_ok-last.ensures;
+      whole_range = c.in_ok-want_none.ensures;
       low = omega (arith, ints);
       some = omega (arith, ints);
     })

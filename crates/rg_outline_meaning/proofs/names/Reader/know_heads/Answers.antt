@@ -12,7 +12,7 @@ loop-head-preserved c =
     let h = c.loop-head.invariant in
     let same = c.in_ok-know_head.ensures.same in (
       (same.0 ∙ h.0.0, same.1 ∙ h.0.1),
-      heads_step (outline r) (outline s) (knowns r) (knowns s) (knowns c.know_head.new.self) c.piece-heads.result.now c.loop-head.head-index _ _ h.0.0 c.loop-head-test.true h.1 c.in_ok-know_head.ensures.head,
+      heads_step (outline r) (outline s) (knowns r) (knowns s) (knowns c.know_head.new.self) c.piece-heads.result.now c.loop-head.head-index _ _ h.0.0 c.loop-head-test.true h.1 c.in_ok-know_head.ensures.head c.if-not-branch.false,
     )
 
 pub returns-clause-known : goal.returns-clause-known

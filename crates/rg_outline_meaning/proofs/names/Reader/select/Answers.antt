@@ -27,7 +27,7 @@ returns-in-None c = λ all.
     let are : map meaning ms ≡ map (λ z. whole z) zs = rw c.in-None.is at c.in_ok-indices.ensures in
     let same : length ms ≡ length ranges = omega arith in
     let count : length zs ≡ length ranges = as_many (map meaning ms) zs (option_map (λ p. (p.0, expression p.1)) c.in_ok-indices.choosing) c.in_ok-indices.ensures ∙ length-map ms meaning ∙ same in
-    rule.single ns c.in_ok-ranges.field-0-0 c.in_ok-member-in-None.field-0 c.args.name c.args.listed ranges zs c.in_ok-ranges.ensures (subst (λ xs. AllStandFor o ws ns (listed o c.args.listed) xs) are all) count
+    rule.single ns c.in_ok-member-in-None.field-0 c.args.name c.args.listed ranges zs c.in_ok-ranges.ensures (subst (λ xs. AllStandFor o ws ns (listed o c.args.listed) xs) are all) count
     (subst (λ is. AreWithin ranges is) c.deref.ensures.value c.in_ok-want_within.ensures)
     (subst (λ is. IsMember ws (text_of o c.args.name) is c.in_ok-member-in-None.field-0) c.deref-in-None.ensures.value c.in_ok-member-in-None.ensures)
 
@@ -58,7 +58,7 @@ returns c = λ all.
     let placed : AreCandidatesAt ws name zs place (filter (fits width) c.deref-in-Some-2.result.now) (map candidate made) = subst (λ is. AreCandidatesAt ws name is place (filter (fits width) c.deref-in-Some-2.result.now) (map candidate made)) c.deref-in-Some.ensures.value c.in_ok-members-in-Some.ensures in
     let chosen : AreCandidatesAt ws name zs place (filter (fits width) (numbers range.0 range.1)) (map candidate made) = subst (λ xs. AreCandidatesAt ws name zs place (filter (fits width) xs) (map candidate made)) (c.deref-in-Some-2.ensures.value ∙ numbered) placed in
     let split : made ≡ c.in-Some-split_first.first.now ∷ c.in_ok-rest-in-Some.rest.items = sym c.deref-in-Some-3.ensures.value ∙ c.in-Some-split_first.ensures.cases.0 ∙ ap (λ xs. c.in-Some-split_first.first.now ∷ xs) (sym c.in_ok-rest-in-Some.ensures.items) in
-    several_at o ws ns c.in_ok-ranges.field-0-0 place first.0 c.args.name c.args.listed ranges zs e range width (candidate c.in-Some-split_first.first.now) (map candidate c.in_ok-rest-in-Some.rest.items) c.in_ok-ranges.ensures
+    several_at o ws ns place first.0 c.args.name c.args.listed ranges zs e range width (candidate c.in-Some-split_first.first.now) (map candidate c.in_ok-rest-in-Some.rest.items) c.in_ok-ranges.ensures
     (subst (λ xs. AllStandFor o ws ns (listed o c.args.listed) xs) are.1 all) count
     (subst (λ is. AreWithin ranges is) c.deref.ensures.value c.in_ok-want_within.ensures) at first.1 first.2
     (subst (λ xs. AreCandidatesAt ws name zs place (filter (fits width) (numbers range.0 range.1)) (map candidate xs)) split chosen)

@@ -15,5 +15,5 @@ returns c =
     c.words_at.result
     _
     _
-    (λ ks are. (c.in_ok-ranges.field-0-0, rs, c.in_ok-ranges.ensures, c.in_ok-want_within.ensures, rw (c.deref.ensures.value, c.in_ok-all.ensures, rest) at are))
+    (λ ks are. (rs, c.in_ok-ranges.ensures, c.in_ok-want_within.ensures, rw (c.deref.ensures.value, c.in_ok-all.ensures, rest) at are))
     c.words_at.ensures
