@@ -23,8 +23,8 @@ CRATES = "docs/ARCHITECTURE.md"
 # Refusals that no row meets, and why.
 NOT_BY_ROWS = {
     63: "a row's output can always be written",
-    64: "the threads would have to break what they promise to each other",
-    65: "the threads would have to break what they promise to each other",
+    64: "only a fault of the threads would lead to it",
+    65: "only a fault of the threads would lead to it",
     66: "only a caller of the library can ask for it",
     99: "scripts/refuse_memory refuses each call for memory",
 }

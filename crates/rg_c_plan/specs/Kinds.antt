@@ -68,7 +68,7 @@ abbrev pub failing : List ViewTree → Option Unplanned
 failing [] = None
 failing (v ∷ vs) = option_map_or (λ u. Some u) (failing_step v.kinds v.steps) (failing vs)
 
--- why there is no C of this form for a program whose parts interrupt each other so, where the assertions keep them apart as these flags say: o e that interrupts another
+-- why there is no C of this form for a program whose parts interrupt each other so, where the assertions keep them apart as these flags say: one that interrupts another
 -- may wait; or the first step that isn't done at once
 abbrev pub unplanned : ProgramTree → List (Option Rank) → List Bool → Option Unplanned
 unplanned p order apart = option_map_or (λ row. Some (Wait row)) (waiting p order) (failing (views p order (kinds_of p order apart)))

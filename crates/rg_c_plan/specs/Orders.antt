@@ -49,7 +49,7 @@ abbrev mutual
 abbrev pub is_handler : List (Option Rank) → ℕ → ℕ → Bool
 is_handler order n i = list_any (interrupts order i) (range_with_len 0 n)
 
--- of the parts from the i-th one on, of n parts, the line of the first await that may wait in o e that interrupts another
+-- of the parts from the i-th one on, of n parts, the line of the first await that may wait in one that interrupts another
 abbrev pub waiting_from : List (Option Rank) → ℕ → ℕ → List PartTree → Option ℕ
 waiting_from order n i [] = None
 waiting_from order n i (part ∷ parts) =

@@ -72,7 +72,7 @@ const RULE_DOES_NOT_FIT: Entry = Entry {
     when: "the rule isn't for that kind of statement, or the count of premises is wrong",
     meaning: "`basic` is for `skip` and assignments, `atomic` for `await`, `seq` for a sequence, `if` and\n\
 `loop` for their statements, `conseq` for any. `basic` and `atomic` have no premise, `loop`\n\
-and `conseq` one, `seq` and `if` two.",
+and `conseq` one, `if` two, and `seq` one for each item.",
     remedy: "See with `rgc number` which statement has which number and kind.",
     example: "\n\
 An example: `rgc conditions text derivation` with\n\
@@ -92,11 +92,11 @@ derivation\n\
 
 const WRONG_STATEMENT: Entry = Entry {
     name: "WrongStatement",
-    when: "no such statement, or a premise of another statement than the rule asks",
+    when: "no such statement, or a premise about another statement than the one that the rule asks for",
     meaning: "The line names a statement that the program doesn't have, or one of its premises speaks of\n\
 another statement than the rule asks for.",
     remedy: "See with `rgc number` which statement has which number. The premises of a\n\
-sequence are of its first and its second statement, those of an `if` of its two branches,\n\
+sequence are of its items in their order, those of an `if` of its two branches,\n\
 that of a loop of its body, that of `conseq` of the same statement.",
     example: "\n\
 An example: `rgc conditions text derivation` with\n\
@@ -116,11 +116,12 @@ derivation\n\
 
 const FORMULA_DIFFERS: Entry = Entry {
     name: "FormulaDiffers",
-    when: "a formula tree that isn't as the rule asks",
+    when: "a formula tree that isn't the one that the rule asks for",
     meaning: "The rules ask that some formulas are equal as trees: rely and guarantee of a premise are\n\
-those of its line, but for `conseq`; the first statement of a sequence ends where the second\n\
-begins; a branch begins with the pre and the test, or with the pre and `not` of it; the body\n\
-of a loop begins with the pre and the test and ends in the pre. RULES.md lists them.",
+those of its line, but for `conseq`; the items of a sequence lead from the pre to the post, and\n\
+each ends where the next begins; a branch begins with the pre and the test, or with the pre and\n\
+`not` of it, and ends in the post; the body of a loop begins with the pre and the test and ends\n\
+in the pre. RULES.md lists them.",
     remedy: "Write the same formula, in the same order of operands, or put a `conseq` line\n\
 between.",
     example: "\n\

@@ -68,8 +68,8 @@ output.",
 const MISMATCH: Entry = Entry {
     name: "Mismatch",
     when: "the printed records aren't the history",
-    meaning: "The threads of a run didn't do what they promise to each other. The proofs say that it can't\n\
-come.",
+    meaning: "What the threads of a run printed isn't its history, or moves weren't made where they were due.\n\
+No proof rules this out, but only a fault of `rgc` itself leads to it, and no test has met it.",
     remedy: "Please report it with the files.",
     example: "",
 };
@@ -77,8 +77,8 @@ come.",
 const STRANGER: Entry = Entry {
     name: "Stranger",
     when: "a record whose number was already taken",
-    meaning: "The threads of a run didn't do what they promise to each other. The proofs say that it can't\n\
-come.",
+    meaning: "Two records of a run had one number. No proof rules this out, but only a fault of `rgc` itself\n\
+leads to it, and no test has met it.",
     remedy: "Please report it with the files.",
     example: "",
 };

@@ -91,7 +91,8 @@ text\n\
 const WIDTHS_DIFFER: Entry = Entry {
     name: "WidthsDiffer",
     when: "a word whose width isn't its group's",
-    meaning: "All words of one comparison, or of one assignment, have the width of the first word in it.",
+    meaning: "All words of one comparison, or of one assignment, have the width of the first word in it, but for\n\
+the formulas inside an `(if ..)`, whose comparisons have widths of their own.",
     remedy: "Give both words one width. There is no conversion.",
     example: "\n\
 An example: `rgc clauses text` with\n\
@@ -155,9 +156,9 @@ text\n\
 const LIMIT: Entry = Entry {
     name: "Limit",
     when: "another limit of the language is passed",
-    meaning: "There are at most 64 words, 32 parts, 4,000 statements, 20,000 lines of a derivation,\n\
-1,048,576 bytes of a text and 16,777,216 of proofs; a condition has a limit of variables; a\n\
-search and a run have limits of steps.",
+    meaning: "There are at most 64 words, 32 parts, 4,000 statements, 16 assignments in an `await`,\n\
+20,000 lines of a derivation file, 1,048,576 bytes of a text and 16,777,216 of proofs; a\n\
+condition has a limit of variables; a search and a run have limits of steps.",
     remedy: "The named file and place say which limit it is; LANGUAGE.md lists all. Without a\n\
 file and a place it is a number on the command line.",
     example: "\n\

@@ -68,7 +68,7 @@ const OVERVIEW: &str = "Tasks:
       rgc verify lock.rgo                prove it, or see where it isn't so, and in which states
       rgc verify lock.rgo --runs-only    look for a run that breaks it, without assertions
       rgc complete lock.rgo              find the assertions that it lacks
-      rgc challenge lock.rgo             see which small changes its specification doesn't see
+      rgc challenge lock.rgo             list small changes that its specification doesn't notice
   See a run
       rgc run --outline lock.rgo         each step, and whose guarantee it is inside
   C for a device
@@ -86,9 +86,9 @@ const OVERVIEW: &str = "Tasks:
   What a refusal means
       rgc explain 45
 
-Statuses: 0 done; 1 refused, not verified, or no proof found; 2 the words don't fit; 3 a file
-can't be read or written, or memory is refused. A file named `-` is standard input.
-`rgc help NAME` and `rgc NAME --help` say more of a command.";
+Statuses: 0 done; 1 refused, not verified, or no proof found; 2 the command line is wrong; 3 a
+file can't be read or written, or memory is refused. A file named `-` is standard input.
+`rgc help NAME` and `rgc NAME --help` say more about a command.";
 
 /// What is said of a file or an option wherever its command says nothing else.
 static SHARED: [(&str, &str); 19] = [
@@ -144,12 +144,12 @@ static SHARED: [(&str, &str); 19] = [
     ),
     (
         "explain",
-        "show below a refusal the line of the file, and what could stand there",
+        "show the line of the file below a refusal, and what could stand there",
     ),
     (
         "erase",
-        "leave out the words A,B,.., by their names in the text, of which\n\
-         nothing that stays has need",
+        "leave out the words A,B,.. (their names in the text); nothing that\n\
+         stays may need them",
     ),
     (
         "keep-aux",
@@ -157,9 +157,9 @@ static SHARED: [(&str, &str); 19] = [
     ),
     (
         "priority",
-        "parts of one core, the one that interrupts the others first, as\n\
-         \"isr > main\"; a comma before those of another core. While a part runs\n\
-         that interrupts others they stand still, so its steps need no section",
+        "parts of one core, the one that interrupts the others first, such as\n\
+         \"isr > main\"; a comma before those of another core. The others stand\n\
+         still while it runs, so it needs fewer sections",
     ),
     ("text", "write the program's text to the file"),
     (
@@ -183,9 +183,9 @@ Example:
 
 static CHECK: Help = Help {
     about: "Says whether a derivation and proofs are accepted for a program",
-    more: "Where they are accepted, every run of the program meets its specification. Else the first fault is
-on standard error, as `refused 45 proofs line 12`, and the status is 1; `rgc explain 45` says what
-that means.
+    more: "Where they are accepted, every run of the program meets its specification. Otherwise the first fault
+is on standard error, such as `refused 45 proofs line 12`, and the status is 1; `rgc explain 45`
+says what that means.
 
 Example:
   rgc check lock.rg lock.rgd lock.lrat
@@ -212,7 +212,7 @@ Examples:
 static PROVE: Help = Help {
     about: "Looks for proofs of all conditions of a derivation",
     more: "Prints proofs, which it has checked: a section of hint lines for each condition that needs one.
-Where a condition has none, it prints in their place which one, and the states at which it fails, or
+Where a condition has no proof, it prints instead which one, and the states at which it fails, or
 that the search gave up; the status is 1.
 
 Examples:
@@ -253,7 +253,7 @@ Examples:
         ),
         (
             "name",
-            "with --format c: how the names of the header begin; else program",
+            "with --format c: the prefix of the header's names; without it program",
         ),
         (
             "trace",
@@ -265,9 +265,9 @@ Examples:
 
 static ACCESSES: Help = Help {
     about: "Says how each step of an accepted program is done in C",
-    more: "Reads what emit reads. Prints each word, how it is kept and who reads and writes it; then each step
-by its line in the text: it is a load, a store, a compare-and-exchange, or a critical section, or it
-meets no other part; and last how many there are of each.
+    more: "Reads what emit reads. Prints each word, its kind and who reads and writes it; then each step by
+its line in the text, with --outline in the outline: it is a load, a store, a compare-and-exchange,
+or a critical section, or it meets no other part; and last how many there are of each.
 
 Example:
   rgc accesses --outline lock.rgo
@@ -279,10 +279,10 @@ static RUN: Help = Help {
     about: "Runs the parts of an accepted program side by side, and prints each step",
     more: "Reads the three files, which are checked first, or an outline, which is verified first. Each part is
 a thread of its own. A line has the number of a step, its part (env for a move), its line, the words
-that it changes, and after `in` the parts whose guarantee it is inside, as
+that it changes, and after `in` the parts whose guarantee it is inside:
   4 p_1 25 lock=0>1 owner=0>1 in p_1
 The last line is `ended` where all parts have ended, `limit`, or `stuck` where none can go on.
---outline goes without --erase, --derivation and --format json.
+--outline can't be combined with --erase, --derivation and --format json.
 
 Examples:
   rgc run --outline lock.rgo
@@ -313,8 +313,9 @@ Examples:
 
 static VALID: Help = Help {
     about: "Says whether hint lines prove a formula",
-    more: "Where they do, the formula holds for all values of its words. Else the first fault is on standard
-error, as `refused 45 proofs line 12`, and the status is 1. Any solver may have made the lines.
+    more: "Where they do, the formula holds for all values of its words. Otherwise the first fault is on
+standard error, such as `refused 45 proofs line 12`, and the status is 1. Any solver may have
+made the lines.
 
 Example:
   rgc valid sum.rg sum.lrat
@@ -376,9 +377,9 @@ Examples:
 
 static OUTLINE: Help = Help {
     about: "Prints the program that an outline stands for, and writes its derivation and proofs",
-    more: "Each option writes a file, and the text is printed where --text isn't given. Proofs are looked for
-only with --proofs; where a condition has none, that is reported as verify does it, no file is
-written, and the status is 1.
+    more: "--text, --derivation, --proofs and --map write a file each; without --text the text is printed.
+Proofs are looked for only with --proofs; where a condition has none, that is reported as verify
+does it, no file is written, and the status is 1.
 
 Examples:
   rgc outline lock.rgo
@@ -392,6 +393,11 @@ Examples:
              it (1048576 bytes)",
         ),
         (
+            "steps",
+            "the most decisions and the most conflicts of each search, 1000000 where\n\
+             it isn't given",
+        ),
+        (
             "map",
             "write to the file which place of the outline each line of the\n\
              derivation and each condition comes from",
@@ -402,8 +408,8 @@ Examples:
 static VERIFY: Help = Help {
     about: "Proves that an outline's program meets its specification, or says where it doesn't",
     more: "Checks every interleaving. Where something isn't so, it prints the place, what is false, and the
-values of the words; then a run that breaks the specification, where it finds one. What may not be
-meant is warned of on standard error. The status is 1 where an outline isn't verified, or with
+values of the words; then a run that breaks the specification, where it finds one. Warnings of what
+may not be meant go to standard error. The status is 1 where an outline isn't verified, or with
 --runs-only where a run breaks its specification.
 
 Examples:
@@ -449,7 +455,7 @@ static COMPLETE: Help = Help {
     about: "Finds assertions and loop invariants that an outline lacks, and prints it with them",
     more: "What is written stays as it stands. What is found is verified as any outline is, and the verdict is
 printed on standard error, or on standard output where the file is rewritten. Where nothing is found
-that makes all conditions hold, it is reported where, and the status is 1.
+that makes all conditions hold, the place is reported, and the status is 1.
 
 Example:
   rgc complete lock.rgo
