@@ -140,7 +140,7 @@ fn report_parts(
         moment,
     };
     let sentence = condition_sentence(expansion, Asked::Parts(asks))?;
-    falsity.report(reports, finding, "not so: $0", &[Text(&sentence)])
+    falsity.report(reports, finding, "this doesn't hold: $0", &[Text(&sentence)])
 }
 
 /// A place that stands for a number, where causes are kept apart by numbers.
@@ -239,7 +239,7 @@ impl<'e> FailureReports<'e> {
             }
             Failing::False => {
                 self.count = self.count.saturating_add(1);
-                return report_alone(&mut self.untrue, asked, number, "not so: $0");
+                return report_alone(&mut self.untrue, asked, number, "this doesn't hold: $0");
             }
             Failing::Unproved => "no proof found within the bounds of the search: $0",
             Failing::TooLarge => {

@@ -138,14 +138,14 @@ pub(crate) fn push_lost(
     let conjuncts = lost(alloc, erased, f)?;
     for conjunct in &conjuncts {
         let text = print(alloc, layout, conjunct)?;
-        lines.extend_from_slice(b"warning: of what is left the ")?;
+        lines.extend_from_slice(b"warning: without the erased words the ")?;
         lines.extend_from_slice(what.as_bytes())?;
-        lines.extend_from_slice(b" doesn't say ")?;
+        lines.extend_from_slice(b" no longer says ")?;
         lines.extend_from_slice(text.as_bytes())?;
         lines.extend_from_slice(b"\n")?;
     }
     if !conjuncts.is_empty() && is_true(left) {
-        lines.extend_from_slice(b"warning: nothing is left of the ")?;
+        lines.extend_from_slice(b"warning: without the erased words nothing is left of the ")?;
         lines.extend_from_slice(what.as_bytes())?;
         lines.extend_from_slice(b"\n")?;
     }
