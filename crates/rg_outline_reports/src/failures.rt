@@ -140,7 +140,12 @@ fn report_parts(
         moment,
     };
     let sentence = condition_sentence(expansion, Asked::Parts(asks))?;
-    falsity.report(reports, finding, "this doesn't hold: $0", &[Text(&sentence)])
+    falsity.report(
+        reports,
+        finding,
+        "this doesn't hold: $0",
+        &[Text(&sentence)],
+    )
 }
 
 /// A place that stands for a number, where causes are kept apart by numbers.
