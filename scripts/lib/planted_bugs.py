@@ -72,7 +72,7 @@ BUGS = [
     ("ring", "the consumer takes from the other slot", [("got := slot[k mod 2]", "got := slot[(k + 1) mod 2]")]),
     ("interrupt_ring", "an item is counted before it lies in its slot", BROKEN),
     ("interrupt_ring", "one item more than there are slots", [("if items < 16", "if items <= 16")]),
-    ("interrupt_ring", "an item goes into the slot behind its own", [("slot[head band 15] :=", "slot[(head + 1) band 15] :=")]),
+    ("interrupt_ring", "an item goes into the slot after its own", [("slot[head band 15] :=", "slot[(head + 1) band 15] :=")]),
     ("interrupt_ring", "an item is taken from an empty ring", [("if items > 0", "if items >= 0")]),
     ("interrupt_ring", "the mask of the reader is that of 8 slots", [("slot[tail band 15]", "slot[tail band 7]")]),
     ("interrupt_ring", "the device is read a second time", [("slot[head band 15] := value", "slot[head band 15] := device")]),

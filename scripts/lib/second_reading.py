@@ -53,7 +53,7 @@ def tokens_of(source):
         text, at = it[0].decode(), it.end()
         if it[1]:
             word = it[1].decode()
-            # (a keyword has no prime: the `'` behind it begins no token)
+            # (a keyword has no prime: the `'` after it begins no token)
             if it[2] and word in KEYWORDS:
                 raise Fault(1, line)
             kind = word if word in KEYWORDS else "primed" if it[2] else "name"

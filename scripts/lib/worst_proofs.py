@@ -1,4 +1,4 @@
-"""The proofs files that cost `valid` and `check` most. The lines below stand behind a proof, so that the file is accepted but in one case.
+"""The proofs files that cost `valid` and `check` most. The lines below stand after a proof, so that the file is accepted but in one case.
 
   one line      a line of n literals, and a line with 3n hints that name it
   in turn       r lines of r literals that share all but two, and a line that names each r times, in turn
